@@ -1,9 +1,10 @@
-"""What a node's record costs: processor time of a node over PostgreSQL, without and with a record, in turns.
+"""Measure what a record costs: processor time of a node over PostgreSQL, with and without one.
 
     PYTHONPATH=python/src python3 bench/record.py [--turns N] [--at 1,16,256] [--sagas N]
 
-One program has two stores open over one server, of which one has a record. It runs sagas of three steps, so many at once, in the one store and then in the
-other, and compares the processor time of each two turns, of the system too. In odd turns the store with the record is first.
+One program opens two stores over one server. One of them has a record. It runs sagas of three
+steps in one store and then in the other, N at once, and compares the processor time of the two
+turns, including system time. In odd turns the store with the record is first.
 """
 
 from __future__ import annotations
@@ -26,11 +27,11 @@ NAMES = ("no record", "a record")
 
 
 def three() -> sagas.Saga:
-    """Three steps in a row, each of which does nothing."""
+    """Make a saga of three steps in a row, which do nothing."""
     kind = sagas.Saga("three")
 
     async def work(task: sagas.Task[object]) -> None:
-        ...
+        pass
 
     first = kind.step(name="a")(work)
     second = kind.step(name="b", needs=[first])(work)
@@ -39,7 +40,7 @@ def three() -> sagas.Saga:
 
 
 async def some(store: sagas.Store, kind: sagas.Saga, name: str, at: int, count: int) -> float:
-    """Milliseconds of the processor a saga, of so many, so many at once."""
+    """Run `count` sagas, `at` at once; return milliseconds of the processor for each."""
 
     async def one(lane: int) -> None:
         for number in range(count // at):
@@ -56,7 +57,16 @@ async def turns(server: Server, at: int, count: int, number: int) -> dict[str, l
     with tempfile.TemporaryDirectory() as folder:
         files = {"no record": None, "a record": pathlib.Path(folder) / "record"}
         kinds = {name: three() for name in NAMES}
-        opened = {name: sagas.open(server.create(), [kinds[name]], concurrency=max(16, at), record=files[name], lease=600) for name in NAMES}
+        opened = {
+            name: sagas.open(
+                server.create(),
+                [kinds[name]],
+                concurrency=max(16, at),
+                record=files[name],
+                lease=600,
+            )
+            for name in NAMES
+        }
         async with opened["no record"], opened["a record"]:
             for turn in range(-1, number):
                 for name in NAMES if turn % 2 == 0 else NAMES[::-1]:
@@ -74,10 +84,14 @@ def row(what: str, values: list[float], unit: str) -> None:
 
 def main() -> None:
     """The command."""
-    parser = argparse.ArgumentParser(description=__doc__, formatter_class=argparse.RawDescriptionHelpFormatter)
+    parser = argparse.ArgumentParser(
+        description=__doc__, formatter_class=argparse.RawDescriptionHelpFormatter
+    )
     parser.add_argument("--turns", type=int, default=30)
     parser.add_argument("--at", default="1,16,256")
-    parser.add_argument("--sagas", type=int, default=256, help="of a turn; an eighth of that where one is open")
+    parser.add_argument(
+        "--sagas", type=int, default=256, help="of a turn; an eighth of that where one is open"
+    )
     words = parser.parse_args()
     with serving({"fsync": "off"}) as server:
         print("measurement,condition,median,low,high,unit")

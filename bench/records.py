@@ -1,8 +1,9 @@
 #!/usr/bin/env python3
 """How long `sagas audit --fleet` takes for records of many nodes, by the number of events.
 
-A record has sessions that take over from one another, each of which writes some chunks behind a synchronous standby. The
-time is the processor time of the program, of several runs. Prints a line for each size, as bench/results has them.
+In a record, sessions take over from one another. Each writes some chunks, with a synchronous
+standby. The time is the processor time of the program, over several runs. Prints a line for each
+size, as bench/results has them.
 """
 
 from __future__ import annotations
@@ -23,7 +24,7 @@ CHUNKS = 50
 
 
 def record(events: int) -> str:
-    """A record of at least so many events, all of them allowed."""
+    """Make a record of this number of events, all of them allowed."""
     lines: list[str] = []
     chunks = session = 0
     while len(lines) < events:

@@ -1,12 +1,17 @@
-"""What a definition of its own costs: sagas whose steps come from their input, each with another definition, beside fixed sagas of as many steps.
+"""Measure what a definition of its own costs: sagas whose steps come from their input, each with
+another definition, compared with fixed sagas of as many steps.
 
-    PYTHONPATH=python/src /usr/bin/python3 bench/shapes.py [--turns N] [--at 64] [--sagas N] [--definitions 64,128] [--store sqlite|postgresql]
+    PYTHONPATH=python/src /usr/bin/python3 bench/shapes.py [--turns N] [--at 64] [--sagas N]
+        [--definitions 64,128] [--store sqlite|postgresql]
 
-needs the package's program (`SAGAS_PROGRAM`, or dist/sagas); for PostgreSQL also psycopg and Debian's postgresql, of which it starts a server of its
-own. A saga has a first step, one to five items that need it, and a last step that needs all items; none does anything. The fixed ones are five
-sagas, one for each number of items. The others are one saga with `for_each=`, whose last step has a cost that comes from the input, which is
-another one for each. Each turn runs both, each over an empty store; in odd turns the fixed ones are second. `--definitions`: how many definitions a
-shard takes, instead of what it does.
+It needs the package's program (`SAGAS_PROGRAM`, or dist/sagas). For PostgreSQL it also needs
+psycopg and Debian's postgresql, and starts a server of its own.
+
+A saga has a first step, one to five items that need it, and a last step that needs all items. No
+step does anything. The fixed ones are five sagas, one for each number of items. The others are one
+saga with `for_each=`. The cost of its last step comes from the input and differs for each saga.
+Each turn runs both, each over an empty store. In odd turns the fixed ones are second.
+`--definitions` is the maximum number of definitions in a shard.
 """
 
 from __future__ import annotations
@@ -33,7 +38,7 @@ from sagas.runtime import shard_parts  # noqa: E402
 FIXED, OWN = "fixed", "a definition of its own"
 MOST_ITEMS = 5
 WARM = 10
-"""So many sagas run before those that are timed."""
+"""Sagas that run before those that are timed."""
 
 
 class Turn(NamedTuple):
@@ -68,16 +73,18 @@ async def nothing(task: sagas.Task[Any]) -> None:
 
 
 def fixed(items: int) -> sagas.Saga:
-    """A saga of so many items, each a step that is declared."""
+    """Make a saga with this number of items, each a declared step."""
     saga = sagas.Saga(f"fixed{items}")
     first = saga.step(name="first", undo=0)(nothing)
-    needs = [saga.step(name=f"item-{item}", needs=[first], undo=0)(nothing) for item in range(items)]
+    needs = [
+        saga.step(name=f"item-{item}", needs=[first], undo=0)(nothing) for item in range(items)
+    ]
     saga.step(name="last", needs=needs, undo=0)(nothing)
     return saga
 
 
 def own() -> sagas.Saga:
-    """The same, of which the input says how many items there are, and what the last step costs."""
+    """Make the same saga, whose input has the items and the cost of the last step."""
     saga = sagas.Saga("own")
     first = saga.step(name="first", undo=0)(nothing)
     item = saga.step(name="item", for_each="items", needs=[first], undo=0)(nothing)
@@ -91,7 +98,7 @@ def kinds(way: str) -> list[sagas.Saga]:
 
 
 async def turn(place: str, way: str, at: int, count: int) -> Turn:
-    """So many sagas from their start to their end, so many at once."""
+    """Run `count` sagas from start to end, `at` at once."""
     of = kinds(way)
     async with sagas.open(place, [*dict.fromkeys(of)], concurrency=max(16, at)) as store:
 
@@ -137,7 +144,12 @@ def measure(server: Server | None, words: argparse.Namespace) -> None:
         rates = [one.rate / other.rate for one, other in zip(found[OWN], found[FIXED])]
         row(f"own compared with fixed,{where}", rates, "times", 2)
         for way, turns in found.items():
-            row(f"processor time of Python: {way},{where}", [one.cpu for one in turns], "us a saga", 0)
+            row(
+                f"processor time of Python: {way},{where}",
+                [one.cpu for one in turns],
+                "us a saga",
+                0,
+            )
         for way, turns in found.items():
             row(f"engines: {way},{where}", [one.engines for one in turns], "a thousand sagas", 1)
 
@@ -150,7 +162,9 @@ def row(what: str, values: list[float], unit: str, digits: int) -> None:
 
 def main() -> None:
     """The command."""
-    parser = argparse.ArgumentParser(description=__doc__, formatter_class=argparse.RawDescriptionHelpFormatter)
+    parser = argparse.ArgumentParser(
+        description=__doc__, formatter_class=argparse.RawDescriptionHelpFormatter
+    )
     parser.add_argument("--turns", type=int, default=5)
     parser.add_argument("--at", type=int, default=64)
     parser.add_argument("--sagas", type=int, default=600, help="of a turn")

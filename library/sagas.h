@@ -61,11 +61,12 @@ enum sagas_status {
     SAGAS_BUFFER_TOO_SMALL = 5
 };
 
-/* The most bytes of each text, and the most definitions of an audit or a coordinator. */
+/* The most bytes of each text, and the most definitions of a coordinator and of an audit. */
 #define SAGAS_MAX_DEFINITION 1048576
 #define SAGAS_MAX_CERTIFICATE 67108864
-#define SAGAS_MAX_LOG 536870912
+#define SAGAS_MAX_LOG 671088640
 #define SAGAS_MAX_DEFINITIONS 64
+#define SAGAS_MAX_AUDIT_DEFINITIONS 1000
 #define SAGAS_MAX_REQUEST 65536
 
 /* Plans how a saga shall end that stands as the case says, as `sagas plan` does.
@@ -92,7 +93,7 @@ struct sagas_span {
 };
 
 /* The same for a log of several definitions, in the order in which the log counts them. They stand in one text, in any places.
- * More than SAGAS_MAX_DEFINITIONS spans are answered with SAGAS_INVALID. `spans` may be null where `span_count` is 0. */
+ * More than SAGAS_MAX_AUDIT_DEFINITIONS spans are answered with SAGAS_INVALID. `spans` may be null where `span_count` is 0. */
 uint32_t sagas_audit_all(const uint8_t *log, size_t log_size, const uint8_t *definitions, size_t definitions_size,
                          const struct sagas_span *spans, size_t span_count, uint8_t *buffer, size_t buffer_size, size_t *used);
 
@@ -109,7 +110,8 @@ uint32_t sagas_draw_answer(const uint8_t *definition, size_t definition_size, co
 
 /* A coordinator runs sagas of your definitions: it answers requests, a line of JSON each, as `sagas drive --lines` does. docs/FORMATS.md
  * ("drive") has the requests, the replies and the lines of the log. A coordinator writes no file. You keep the log: sagas_open is given
- * its text, and each answer gives the lines to append.
+ * its text, and each answer gives the lines to append. Its definitions are those that sagas_open was given: `define` is refused, with
+ * {"refused":"fixed-shelf"}. To add one, close the coordinator, and open it over more definitions from the log.
  *
  *     struct sagas_coordinator it = SAGAS_CLOSED;
  *     size_t used, log_used, lines_used;
@@ -130,7 +132,7 @@ struct sagas_coordinator {
 #define SAGAS_CLOSED { 0, 0, 0 }
 
 /* Opens a coordinator over definitions, from the text of a log, which is empty for a new one. The definitions stand in one text, each
- * in its span, in the order in which the log counts them. `spans` may be null where `span_count` is 0.
+ * in its span, in the order in which the log counts them: SAGAS_MAX_DEFINITIONS at most. `spans` may be null where `span_count` is 0.
  * SAGAS_OK: it is open. *log_used is how many bytes at the beginning of the log are gone on with; what stands behind them was cut off
  * when it was written, or begins plans that are made anew. The text is the lines to append there: the header of a new log, and those of
  * plans that were begun and are dropped. With any other status the coordinator is closed, and *log_used is 0.

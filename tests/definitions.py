@@ -101,20 +101,20 @@ def misplaced_crates():
 
 
 def other_examples():
-    """The crates whose head shows another example than the one that `saga_tests` runs: the body of its function of the crate's name."""
-    source = (ROOT / "crates" / "saga_tests" / "src" / "examples.rt").read_text(encoding="utf-8")
+    """The crates whose head shows another example than the one that `saga_trials` runs: the body of its function of the crate's name."""
+    source = (ROOT / "crates" / "saga_trials" / "src" / "tests" / "examples.rt").read_text(encoding="utf-8")
     for crate, body in re.findall(r"^fn of_(\w+)\b.*?\{\n(.*?)^\}", source, re.M | re.S):
         head = (ROOT / "crates" / crate / "src" / "lib.rt").read_text(encoding="utf-8")
         shown = re.search(r"^//! ```\n(.*?)^//! ```$", head, re.M | re.S)
         if shown is None or re.sub(r"^//! ?", "", shown[1], flags=re.M) != textwrap.dedent(body):
-            yield f"crates/{crate}/src/lib.rt shows another example than crates/saga_tests/src/examples.rt"
+            yield f"crates/{crate}/src/lib.rt shows another example than crates/saga_trials/src/tests/examples.rt"
 
 
 def main():
     listed = set(entries())
     known = {(crate, word) for crate, _, word in listed}
     crates = [crate for crate in sorted((ROOT / "crates").iterdir()) if crate.name not in SILENT]
-    promising = {crate.name for crate in crates} - {"saga_tests"}
+    promising = {crate.name for crate in crates}
     words = {found for crate in crates for found in cited(crate)}
     # What is a type or a constant of the code is read there.
     missing = sorted((file, word) for word, file in words if (file.split("/")[0], word) not in known and "/declared." not in file)

@@ -1,10 +1,11 @@
 """Drives `sagas drive`: conversations, random ones, lines on standard output, full logs, kills, power cuts, cut and changed logs, refused writes and
 memory, the lock, the examples.
 
-    tests/drive.py [--program P] [--libraries FOLDER] [--only SECTION] [--kills N] [--seed S]
+    tests/drive.py [--program P] [--fixed-shelf] [--libraries FOLDER] [--only SECTION] [--kills N] [--seed S]
 
 SECTION is `said`, `starts`, `random`, `lines`, `room`, `kills`, `power`, `cuts`, `writes`, `memory`, `lock` or `service`. FOLDER has the
-libraries of tests/unwritten.c, tests/power.c and tests/refusing.c, as tests/drive.sh builds them.
+libraries of tests/unwritten.c, tests/power.c and tests/refusing.c, as tests/drive.sh builds them. With `--fixed-shelf` the program adds no definitions
+while it runs, also where it shows its lines.
 """
 import argparse
 import concurrent.futures
@@ -55,6 +56,7 @@ class State:
 
     def __init__(self, words, folder):
         self.program, self.libraries, self.kills, self.seed = words.program, words.libraries, words.kills, words.seed
+        self.grows = not words.fixed_shelf
         self.folder = pathlib.Path(folder)
         self.wrong = []
         for name, text in DEFINITIONS.items():
@@ -212,6 +214,10 @@ def many(most):
 def named(name, saga):
     """An opening by name, as the saga of a number."""
     return {"do": "open", "name": name, "saga": saga}
+
+
+def defining(text):
+    return {"definition": text, "do": "define"}
 
 
 def event(word, saga, step=None, phase="going"):
@@ -458,7 +464,7 @@ def converse(state, name, definitions, pairs):
 
 # The keys of each request, those that it may have besides, and the bounds of numbers.
 KEYS = {"open": [], "next": [], "take": ["saga"], "report": ["outcome", "saga", "step"], "abort": ["saga"], "show": ["saga"], "busy": []}
-KEYS |= {"ready": [], "list": [], "status": []}
+KEYS |= {"ready": [], "list": [], "status": [], "define": ["definition"]}
 OPTIONAL = {"open": ["def", "name", "saga"], "next": ["most"], "take": ["step"], "report": ["attempt", "task"]}
 OPTIONAL |= {"ready": ["from"], "list": ["from", "phase"]}
 BOUNDS = {"def": 2**32, "saga": 2**32, "from": 2**32, "step": 65536, "attempt": 65536, "most": 1001}
@@ -469,7 +475,7 @@ def is_of_type(key, value):
     """Whether a request may have this value at a key."""
     if key in WORDS:
         return value in WORDS[key]
-    if key == "name":
+    if key in ("name", "definition"):
         return isinstance(value, str)
     return type(value) is int and (key == "most") <= value < BOUNDS[key]
 
@@ -495,14 +501,14 @@ def hostile(state):
     """Each prefix of each request, each request with one byte changed, and objects of random keys and values, in their usual spelling and in
     another one: the fault that has to come."""
     draw = random.Random(state.seed)
-    asked = [named("a", 0), many(64), report(0, 0, "ok", task("run", 0, 0, "a")), BUSY, {"do": "ready", "from": 0}, {"do": "list", "phase": "stuck"}, {"do": "status"}]
+    asked = [named("a", 0), many(64), report(0, 0, "ok", task("run", 0, 0, "a")), BUSY, {"do": "ready", "from": 0}, {"do": "list", "phase": "stuck"}, {"do": "status"}, defining("x")]
     shortest = [written(request).encode() for request in (opening(0), opening(0) | {"saga": 0}, NEXT, report(0, 0, "ok"), aborting(0), shown(0), *asked)]
     lines = [text[:place] for text in shortest for place in range(len(text))]
     lines += [text[:place] + byte + text[place + 1 :] for text in shortest for place in range(len(text)) for byte in (b"\0", b"\xff", b"}")]
     values = [0, 1, 3, 65535, 65536, 2**32 - 1, 2**32, -1, 1.5, "ok", "fail", "run", "going", "0", "", None, True, [], {}, {"do": "next"}]
     for _ in range(2000):
         word = draw.choice([*KEYS, *KEYS, "close", 7])
-        others = ["def", "name", "saga", "step", "outcome", "task", "attempt", "most", "from", "phase", "x"]
+        others = ["def", "definition", "name", "saga", "step", "outcome", "task", "attempt", "most", "from", "phase", "x"]
         keys = [*KEYS.get(word, []), *OPTIONAL.get(word, []), *draw.sample(others, draw.choice([0, 0, 0, 1]))]
         pairs = [("do", word)] + [(key, draw.choice(values)) for key in keys if draw.random() < 0.9]
         draw.shuffle(pairs)
@@ -724,6 +730,8 @@ def random_request(draw, book):
         return random_report(draw, book)
     if number < 0.93:
         return aborting(draw.randrange(sagas + 1))
+    if number < 0.95:
+        return defining(draw.choice(["x", "", 'format = 1\nname = "more"\nstep = [{ name = "x" }]\n']))
     return draw.choice([b"{\n", b'{"do":"close"}\n', b'{"do":"open","def":0,"x":1}\n', b'{"do":"next","most":0}\n'])
 
 
@@ -793,31 +801,55 @@ def ran_with_lines(state, definitions, text, begun=None):
     return run.returncode, lines, b"".join(line for line in printed if not line.startswith(b"+")), run.stderr
 
 
+def drawn_lines(draw, book, driven, added):
+    """Random requests as lines, each with its reply if it asks for a definition. Such a request puts the next of the added definitions on
+    the shelf, or has a fault if there is no next one; it is refused where the shelf is fixed. The drive has these definitions from the start,
+    and is asked the other requests."""
+    asked, coming = [], list(added)
+    while len(asked) < 100:
+        request = defining("") if draw.random() < 0.04 else random_request(draw, book)
+        if isinstance(request, bytes):
+            asked.append((request, None))
+        elif request["do"] == "define":
+            request = defining(coming.pop(0).read_text(encoding="utf-8") if coming else "x")
+            asked.append((line_of(request), book.replied(request, {})))
+        elif request.get("def", 0) < len(book.definitions):
+            book.replied(request, driven.ask(request))
+            asked.append((line_of(request), None))
+    return asked
+
+
+def with_places(asked, replies, more):
+    """The replies to all requests: those to the others, and those to requests for a definition, over a shelf with so many more."""
+    others = iter(replies.splitlines(True))
+    placed = [reply | {"def": reply["def"] + more} if reply and "def" in reply else reply for _, reply in asked]
+    return b"".join(next(others) if reply is None else line_of(reply) for reply in placed)
+
+
 def lines_of_a_conversation(state, seed):
     """Random requests: with lines they have the replies and the log that they have with a file, from nothing and from each of some
-    beginnings of the log."""
+    beginnings of the log. A definition that a request puts on the shelf serves as one that was there from the start."""
     draw = random.Random(seed)
     name, log = f"lines {seed}", state.folder / f"lines{seed}"
     definitions = state.defined(*draw.sample(["trip", "order", "server", "licence", "pair"], 2))
-    book, asked = follower.Book(definitions), []
-    driven = Driven(state, definitions, log)
-    for _ in range(100):
-        request = random_request(draw, book)
-        if not isinstance(request, bytes):
-            book.replied(request, driven.ask(request))
-        asked.append(line_of(request))
+    added = [random_definition(draw, state.folder / f"lines{seed}.{place}.toml") for place in range(3)]
+    longer = [*definitions, *added] if state.grows else definitions
+    driven = Driven(state, longer, log)
+    asked = drawn_lines(draw, follower.Book(definitions, grows=state.grows), driven, added)
     state.expect(f"{name}: the end", driven.end(), (0, ""))
-    text, whole = b"".join(asked), whole_lines(log)
+    text, whole = b"".join(line for line, _ in asked), whole_lines(log)
+    others = b"".join(line for line, reply in asked if reply is None)
     for count in [None, 0, 1, draw.randrange(1, len(whole)), len(whole)]:
         begun = None if count is None else b"".join(whole[:count])
+        shelf = longer if begun else definitions
         file = state.folder / f"lines{seed}.{count}"
         file.write_bytes(begun or b"")
-        status, replies, said = state.ran(definitions, file, text)
+        status, replies, said = state.ran(longer, file, others)
         left = begun or b""
         if said:  # a plan that its last line begins is made anew
             left = b"".join(whole[: count - 1])
-        wanted = (status, file.read_bytes().removeprefix(left), replies, said)
-        state.expect(f"{name}: from {count} lines", ran_with_lines(state, definitions, text, begun), wanted)
+        wanted = (status, file.read_bytes().removeprefix(left), with_places(asked, replies, len(shelf) - len(definitions)), said)
+        state.expect(f"{name}: from {count} lines", ran_with_lines(state, shelf, text, begun), wanted)
     return 5 * len(asked)
 
 
@@ -832,9 +864,9 @@ def lines(state):
 LOG_FULL = {"refused": "log-full"}
 OPENED = {"def": 0, "event": "open"}
 
-# Two definitions, by their steps and needs: three sagas of the first and one of the second have room in one log to the byte; or there is a byte too
+# Two definitions, by their steps and needs: four sagas of the first and one of the second have room in one log to the byte; or there is a byte too
 # little, and the last is refused.
-EDGES = [((1018, 8177), (700, 7193), True), ((1024, 8183), (777, 5777), False)]
+EDGES = [((1020, 8159), (662, 5735), True), ((1024, 8175), (802, 3750), False)]
 
 
 def large(state, name, steps, needs, first="", tries=""):
@@ -925,16 +957,16 @@ def shown_from(state, one, begun, before):
 
 
 def edges(state):
-    """The last byte of the room is used, and no more; a log has room for three sagas of the greatest definition that there is."""
+    """The last byte of the room is used, and no more; a log has room for four sagas of the greatest definition that there is."""
     for number, (first, second, fits) in enumerate(EDGES):
         one = Followed(state, f"edge{number}", [large(state, f"first{number}", *first), large(state, f"second{number}", *second)])
-        one.ask(opening(0), opening(0), opening(0))
+        one.ask(opening(0), opening(0), opening(0), opening(0))
         state.expect(f"room: the edge {number}", one.ask(opening(1)) != LOG_FULL, fits)
         one.end()
     greatest = Followed(state, "greatest", [large(state, "greatest", 1024, 8192, tries="tries = 9\nundo_tries = 9\n")])
-    state.expect("room: of the greatest definition", greatest.fill(0), 3)
+    state.expect("room: of the greatest definition", greatest.fill(0), 4)
     greatest.end()
-    return 4 * len(EDGES) + 4
+    return 5 * len(EDGES) + 5
 
 
 # A saga of a start, fifty items that need it, and a step that needs them all. While an item is left, it is cheaper to run it than to do without.
@@ -1822,6 +1854,7 @@ SECTIONS = {
 def main():
     parser = argparse.ArgumentParser(description=__doc__.splitlines()[0])
     parser.add_argument("--program", type=pathlib.Path, default=ROOT / "crates/saga_tool/out/saga_tool", help="the program `sagas`")
+    parser.add_argument("--fixed-shelf", action="store_true", help="the program adds no definitions while it runs")
     parser.add_argument("--libraries", type=pathlib.Path, help="the folder of the preloaded libraries; without it nothing is refused, and power stays on")
     parser.add_argument("--only", choices=SECTIONS, help="one section alone")
     parser.add_argument("--kills", type=int, default=50, help="how many kills")

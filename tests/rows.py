@@ -1,10 +1,11 @@
 #!/usr/bin/env python3
 """Runs the program `sagas` on rows of data: texts in; standard output, standard error and status out.
 
-    tests/rows.py [FOLDER[/FILE] ..]
+    tests/rows.py [--fixed-shelf] [FOLDER[/FILE] ..]
 
 A row is a table of a file `tests/rows/COMMAND/SUBJECT.toml`; docs/dev/changing/tests.md has its keys. Rows run side by side, as many as there are
-processors, over the program that the variable SAGAS names, or over the one that `./sagas` starts.
+processors, over the program that the variable SAGAS names, or over the one that `./sagas` starts. That program adds definitions while it runs, or, with
+`--fixed-shelf`, adds none: the rows that need the other kind are left out.
 """
 
 from __future__ import annotations
@@ -32,8 +33,11 @@ SECONDS = 60
 FILES = ("def", "case", "answer", "log", "script")
 KEYS = {
     *FILES, "name", "args", "options", "status", "stdin", "stdout", "out", "has", "err", "err_has", "writes", "absent", "checked", "audited",
-    "times", "beside", "defines",
+    "times", "beside", "defines", "needs",
 }  # fmt: skip
+
+# What a program does with definitions that it is asked to add while it runs; a row may need either.
+SHELVES = ("define", "fixed-shelf")
 
 
 class BadRow(Exception):
@@ -109,6 +113,8 @@ def rows_of(path: Path) -> Iterator[Row]:
         unknown = set(row) - KEYS
         if unknown or not row.get("name") or row["name"] in names:
             raise BadRow(f"{place}: {f'unknown keys {sorted(unknown)}' if unknown else 'it needs a name of its own'}")
+        if row.get("needs", SHELVES[0]) not in SHELVES:
+            raise BadRow(f"{place}: it needs one of {', '.join(SHELVES)}")
         names.add(row["name"])
         yield Row(command, place, row, texts)
 
@@ -277,8 +283,9 @@ def files_of(words: list[str]) -> list[Path]:
 
 def main(words: list[str]) -> int:
     """Runs the rows of the files that the words name; gives the status."""
+    shelf = "fixed-shelf" if words[:1] == ["--fixed-shelf"] else "define"
     try:
-        rows = [row for path in files_of(words) for row in rows_of(path)]
+        every = [row for path in files_of(words[shelf == "fixed-shelf" :]) for row in rows_of(path)]
     except (BadRow, OSError, tomllib.TOMLDecodeError) as error:
         print(f"rows: {error}")
         return 1
@@ -287,6 +294,7 @@ def main(words: list[str]) -> int:
     except subprocess.CalledProcessError:
         print("rows: there is no program")
         return 1
+    rows = [row for row in every if row.keys.get("needs", shelf) == shelf]
     with ThreadPoolExecutor(os.cpu_count()) as pool:
         found = [line for line in pool.map(wrong, rows) if line]
     print("".join(f"{line}\n" for line in found), end="")

@@ -8,7 +8,8 @@
  *
  * What it prints, and its status, are those of the program `sagas` for the same texts: 0 ok, 1 rejected, 3 a text is not of its form, 4 the system or
  * memory refused something, 2 it was called otherwise. It keeps no log: `drive --log`, `run` and a certificate on standard input are not there; and a
- * drive without --lines has the room of a log, too.
+ * drive without --lines has the room of a log, too. A drive has the definitions that it was started with, 64 at most: with --lines, too, `define` is
+ * refused as `fixed-shelf`.
  */
 #include <signal.h>
 #include <stdint.h>
@@ -305,7 +306,7 @@ struct asked {
     enum command command;
     struct text texts[3];
     int count;
-    struct sagas_span spans[SAGAS_MAX_DEFINITIONS + 1];
+    struct sagas_span spans[SAGAS_MAX_AUDIT_DEFINITIONS];
     size_t span_count;
 };
 
@@ -357,7 +358,7 @@ static int answered(int count, char **words) {
     if (asked.command == NONE) {
         return MISUSED;
     }
-    if (asked.command == AUDIT && count - 3 > SAGAS_MAX_DEFINITIONS) {
+    if (asked.command == AUDIT && count - 3 > SAGAS_MAX_AUDIT_DEFINITIONS) {
         fputs("sagas: too many definitions\n", stderr);
         return INVALID;
     }

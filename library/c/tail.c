@@ -168,7 +168,7 @@ uint32_t sagas_audit(const uint8_t *log, size_t log_size, const uint8_t *definit
 
 uint32_t sagas_audit_all(const uint8_t *log, size_t log_size, const uint8_t *definitions, size_t definitions_size,
                          const struct sagas_span *spans, size_t span_count, uint8_t *buffer, size_t buffer_size, size_t *used) {
-    size_t counted = span_count > SAGAS_MAX_DEFINITIONS ? SAGAS_MAX_DEFINITIONS + 1 : span_count;
+    size_t counted = span_count > SAGAS_MAX_AUDIT_DEFINITIONS ? SAGAS_MAX_AUDIT_DEFINITIONS + 1 : span_count;
     struct call call = {.name = AUDIT_ALL, .texts = {text_of(log, log_size), {definitions, definitions_size}}, .count = 2, .spans = spans, .span_count = counted,
                         .buffer = buffer, .buffer_size = buffer_size};
     return run(&call, used);

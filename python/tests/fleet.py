@@ -1,4 +1,4 @@
-"""Judges what nodes and clients recorded over a database: by the reference model, and by the program, which have to agree."""
+"""Judges records of nodes and clients by the reference model and the program; they must agree."""
 
 from __future__ import annotations
 
@@ -19,7 +19,9 @@ from sagas.cli.snapshot import Snapshot
 @functools.cache
 def has_program() -> bool:
     """Whether the program judges records; `test_fleet_records.py` asks that it does."""
-    done = subprocess.run([program.path(), "audit", "--help"], capture_output=True, text=True, check=False)
+    done = subprocess.run(
+        [program.path(), "audit", "--help"], capture_output=True, text=True, check=False
+    )
     return "--fleet" in done.stdout
 
 
@@ -29,24 +31,37 @@ def by_both(text: str) -> tuple[bool, str]:
     if has_program():
         good, answer = records.judged(text)
         begins = "yes sessions " if fault is None else f"no line {fault[0]} "
-        assert good == (fault is None) and answer.startswith(begins), f"{answer}, and the model says {fault}"
-    return fault is None, "" if fault is None else f"line {fault[0]}: {fault[1]}: {text.splitlines()[max(0, fault[0] - 8) : fault[0]]}"
+        assert good == (fault is None) and answer.startswith(
+            begins
+        ), f"{answer}, and the model says {fault}"
+    return (
+        fault is None,
+        ""
+        if fault is None
+        else f"line {fault[0]}: {fault[1]}: {text.splitlines()[max(0, fault[0] - 8) : fault[0]]}",
+    )
 
 
-def shards_of(url: str, files: Sequence[pathlib.Path], sync: bool, folder: str | None = None) -> list[Judged]:
+def shards_of(
+    url: str, files: Sequence[pathlib.Path], sync: bool, folder: str | None = None
+) -> list[Judged]:
     """The shards of a store with their records."""
     notes = records.read([str(file) for file in files if file.exists()])
     with Snapshot(url) as store:
         return records.Judge(store, notes, sync, folder, by_both).all()
 
 
-def judged(url: str, files: Sequence[pathlib.Path] = (), *, sync: bool = False) -> tuple[list[Judged], list[str]]:
+def judged(
+    url: str, files: Sequence[pathlib.Path] = (), *, sync: bool = False
+) -> tuple[list[Judged], list[str]]:
     """The shards; and what is not allowed in the record of each, or is lost."""
     found, faults = shards_of(url, files, sync), list[str]()
     for one in found:
         faults += [] if one.good else [f"record: shard {one.shard}, {one.answer}"]
         faults += [f"record: shard {one.shard}: lost {loss}" for loss in one.losses]
-        faults += [f"record: shard {one.shard}: the end of saga {id} is lost" for id in one.ends_lost]
+        faults += [
+            f"record: shard {one.shard}: the end of saga {id} is lost" for id in one.ends_lost
+        ]
     return found, faults
 
 

@@ -1,4 +1,7 @@
-"""A reference model of `sagas audit --fleet`, written from docs/dev/promises/saga_fleet.md alone: what a record of one shard may say next."""
+"""A reference model of `sagas audit --fleet`, written from docs/dev/promises/saga_fleet.md alone.
+
+It says which event may come next in the record of one shard.
+"""
 
 from __future__ import annotations
 

@@ -1,4 +1,4 @@
-"""Records of nodes, services and clients: what is in them, and how `sagas store URL record` judges them."""
+"""Records of nodes, services and clients, and how `sagas store URL record` judges them."""
 
 from __future__ import annotations
 
@@ -54,7 +54,9 @@ def store(url: str, tmp_path: pathlib.Path) -> str:
 
 
 @pytest.fixture
-def judge(store: str, tmp_path: pathlib.Path, capsys: pytest.CaptureFixture[str]) -> Callable[..., list[Json]]:
+def judge(
+    store: str, tmp_path: pathlib.Path, capsys: pytest.CaptureFixture[str]
+) -> Callable[..., list[Json]]:
     """The command over that store, with what it prints for programs."""
 
     def call(*words: str, status: int = 0) -> list[Json]:
@@ -71,15 +73,25 @@ def test_the_program_judges_records() -> None:
     assert fleet.has_program()
 
 
-def test_a_record_is_judged(store: str, judge: Callable[..., list[Json]], tmp_path: pathlib.Path) -> None:
+def test_a_record_is_judged(
+    store: str, judge: Callable[..., list[Json]], tmp_path: pathlib.Path
+) -> None:
     """With and without it; and it has no key, no input and no result."""
     path = tmp_path / "node"
     (one,) = judge(str(path), "--save", str(tmp_path / "saved"))
-    assert one["good"] and one["answer"].startswith("yes sessions ") and one["losses"] == one["ends_lost"] == []
+    assert (
+        one["good"]
+        and one["answer"].startswith("yes sessions ")
+        and one["losses"] == one["ends_lost"] == []
+    )
     assert "told" in (tmp_path / "saved" / "0.record").read_text()
     (alone,) = judge()
     assert alone["good"] and alone["events"] < one["events"]
-    assert told(path) == {"call", "wake"} and "secret" not in path.read_text() and "done" not in path.read_text()
+    assert (
+        told(path) == {"call", "wake"}
+        and "secret" not in path.read_text()
+        and "done" not in path.read_text()
+    )
 
 
 def change(url: str, text: str) -> None:
@@ -98,14 +110,21 @@ def change(url: str, text: str) -> None:
         "DELETE FROM event_log; DELETE FROM shards",
     ],
 )
-def test_a_database_that_differs(store: str, judge: Callable[..., list[Json]], tmp_path: pathlib.Path, text: str) -> None:
-    """From what its node heard: a commit is missing, or is another one, or of another epoch; or takeovers or the whole shard are missing."""
+def test_a_database_that_differs(
+    store: str, judge: Callable[..., list[Json]], tmp_path: pathlib.Path, text: str
+) -> None:
+    """A commit is missing, is another one, or has another epoch; or takeovers, or the shard."""
     change(store, text)
     (one,) = judge(str(tmp_path / "node"), status=1)
     assert not one["good"] and one["answer"].startswith("no line ")
 
 
-def test_an_end_that_was_told_and_is_not_there(store: str, judge: Callable[..., list[Json]], tmp_path: pathlib.Path, capsys: pytest.CaptureFixture[str]) -> None:
+def test_an_end_that_was_told_and_is_not_there(
+    store: str,
+    judge: Callable[..., list[Json]],
+    tmp_path: pathlib.Path,
+    capsys: pytest.CaptureFixture[str],
+) -> None:
     """A client was told it, whose record has the number of the saga."""
 
     async def main() -> None:
@@ -124,7 +143,12 @@ def test_an_end_that_was_told_and_is_not_there(store: str, judge: Callable[..., 
 
 def test_what_a_service_acknowledges(url: str, tmp_path: pathlib.Path, receiver: Receiver) -> None:
     """Starts by its replies, ends by its webhooks, and to those who wait."""
-    words = ["--webhooks", written(tmp_path, table(receiver.url)), "--record", str(tmp_path / "record")]
+    words = [
+        "--webhooks",
+        written(tmp_path, table(receiver.url)),
+        "--record",
+        str(tmp_path / "record"),
+    ]
     with served(tmp_path, DEFINITIONS, *words, store=url) as service, service.client() as client:
         assert start(client, "trip", "t").status_code == 201
         all_done(client, "trip/flight", "trip/car", "trip/tour")
@@ -163,7 +187,9 @@ def test_a_record_that_cannot_be_written(url: str, caplog: pytest.LogCaptureFixt
     assert sum("the record /dev/full ends here" in line.message for line in caplog.records) == 1
 
 
-def test_records_that_cannot_be(url: str, tmp_path: pathlib.Path, monkeypatch: pytest.MonkeyPatch) -> None:
+def test_records_that_cannot_be(
+    url: str, tmp_path: pathlib.Path, monkeypatch: pytest.MonkeyPatch
+) -> None:
     """Each is refused with what to do. The environment is for stores over PostgreSQL alone."""
     kind, file, missing = simple(done), tmp_path / "store.db", tmp_path / "missing" / "record"
 
@@ -194,7 +220,13 @@ def test_records_that_cannot_be(url: str, tmp_path: pathlib.Path, monkeypatch: p
         ("sagas-record 2 a\n", "line 1: its format is not 1"),
     ],
 )
-def test_files_that_are_none(store: str, tmp_path: pathlib.Path, capsys: pytest.CaptureFixture[str], text: str | None, told: str) -> None:
+def test_files_that_are_none(
+    store: str,
+    tmp_path: pathlib.Path,
+    capsys: pytest.CaptureFixture[str],
+    text: str | None,
+    told: str,
+) -> None:
     path = tmp_path / "other"
     if text is not None:
         path.write_text(text)
@@ -202,7 +234,9 @@ def test_files_that_are_none(store: str, tmp_path: pathlib.Path, capsys: pytest.
     assert told in capsys.readouterr().err
 
 
-def test_a_last_line_that_is_not_whole(judge: Callable[..., list[Json]], tmp_path: pathlib.Path) -> None:
+def test_a_last_line_that_is_not_whole(
+    judge: Callable[..., list[Json]], tmp_path: pathlib.Path
+) -> None:
     """Its program may be writing it."""
     with open(tmp_path / "node", "a", encoding="utf-8") as file:
         file.write("told 1f")
@@ -213,11 +247,18 @@ def test_a_file_has_no_record(tmp_path: pathlib.Path, capsys: pytest.CaptureFixt
     assert store_command.main([str(tmp_path / "store.db"), "record"]) == 2
     assert "needs a PostgreSQL store" in capsys.readouterr().err
     (tmp_path / "one.toml").write_text('format = 2\nname = "one"\n[[step]]\nname = "a"\n')
-    assert command.main([str(tmp_path / "store.db"), "--definitions", str(tmp_path), "--record", "record"]) == 2
+    assert (
+        command.main(
+            [str(tmp_path / "store.db"), "--definitions", str(tmp_path), "--record", "record"]
+        )
+        == 2
+    )
     assert "--record needs a postgresql:// URL" in capsys.readouterr().err
 
 
-def test_a_folder_that_cannot_be_written(store: str, tmp_path: pathlib.Path, capsys: pytest.CaptureFixture[str]) -> None:
+def test_a_folder_that_cannot_be_written(
+    store: str, tmp_path: pathlib.Path, capsys: pytest.CaptureFixture[str]
+) -> None:
     assert store_command.main([store, "record", "--save", str(tmp_path / "node" / "below")]) == 4
     assert "Not a directory. Name a folder by --save" in capsys.readouterr().err
 
@@ -246,8 +287,10 @@ def test_a_node_that_takes_up_what_another_left(url: str, tmp_path: pathlib.Path
 
 
 @pytest.mark.parametrize("ends", [False, True])
-def test_an_abort_is_answered_behind_what_it_rests_on(url: str, tmp_path: pathlib.Path, ends: bool) -> None:
-    """An abort that comes too late writes nothing; that another one came before, or the end, is told once it is in the store."""
+def test_an_abort_is_answered_behind_what_it_rests_on(
+    url: str, tmp_path: pathlib.Path, ends: bool
+) -> None:
+    """An abort that comes too late writes nothing. It is answered once the store has its reason."""
     gate, calls = asyncio.Event(), list[str]()
 
     async def waits(task: Task) -> None:
@@ -256,7 +299,12 @@ def test_an_abort_is_answered_behind_what_it_rests_on(url: str, tmp_path: pathli
 
     def stopped() -> bool:
         with psycopg.connect(url) as link:
-            return bool(link.execute("SELECT 1 FROM pg_stat_activity WHERE datname = current_database() AND wait_event_type = 'Lock'").fetchall())
+            return bool(
+                link.execute(
+                    "SELECT 1 FROM pg_stat_activity WHERE datname = current_database() "
+                    "AND wait_event_type = 'Lock'"
+                ).fetchall()
+            )
 
     async def main() -> None:
         kind = simple(waits)
@@ -296,5 +344,6 @@ def test_an_answer_of_an_older_epoch_that_comes_late(tmp_path: pathlib.Path) -> 
     record.close()
     found = [words for words in words_of(tmp_path / "record") if words[0] in ("took", "told")]
     assert [(words[0], words[3], words[4]) for words in found] == [
-        ("took", "9", line), ("took", "10", line), ("told", "9", line), ("told", "10", line), ("took", "10", "00000002"),
+        ("took", "9", line), ("took", "10", line), ("told", "9", line), ("told", "10", line),
+        ("took", "10", "00000002"),
     ]  # fmt: skip

@@ -43,13 +43,13 @@ def test_the_greatest_definition_runs(place: str) -> None:
 
 
 def test_a_log_that_fills_up_goes_on_in_another(place: str) -> None:
-    """Of a thousand steps with eight thousand needs one log takes three that are open; those of both logs end, and both are sound."""
+    """Of a thousand steps with eight thousand needs one log takes four that are open; those of both logs end, and both are sound."""
     wide = row("wide", 1024, 8)
 
     async def main() -> list[int]:
         gate = GATES["wide"] = asyncio.Event()
         async with sagas.open(place, [wide], concurrency=100) as store:
-            runs = await asyncio.gather(*(store.start(wide, f"k{number}", "wide") for number in range(5)))
+            runs = await asyncio.gather(*(store.start(wide, f"k{number}", "wide") for number in range(6)))
             opened = records.read(place)
             assert all(await asyncio.gather(*(run.abort() for run in runs)))
             gate.set()
@@ -57,4 +57,4 @@ def test_a_log_that_fills_up_goes_on_in_another(place: str) -> None:
             assert [verdict[:3] for verdict in (await store.audit()).values()] == ["yes", "yes"]
         return [sum(saga.log == log for saga in opened.sagas.values()) for log in sorted(opened.logs)]
 
-    assert run(main()) == [3, 2]
+    assert run(main()) == [4, 2]

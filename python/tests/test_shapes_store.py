@@ -9,6 +9,7 @@ import datetime
 import pathlib
 import random
 import time
+from collections.abc import Sequence
 from typing import Any
 
 import psycopg
@@ -19,6 +20,8 @@ from shaped import Hotel, Order, Package, Parcel, Trip, booking, order, parcels,
 
 import sagas
 from sagas.cli import store_command
+from sagas.definition.capacity import MOST_DEFINITIONS
+from sagas.runtime import shard_parts
 from sagas.storage import admin
 
 ALL = [order, plain, trip, booking, shaped.package, shaped.hire]
@@ -181,6 +184,41 @@ def test_each_its_own_definition(place: str) -> None:
 
     run(main())
     assert rows(place, "SELECT count(*) FROM definitions") == [(150,)]
+
+
+def test_definitions_start_no_further_engine(
+    place: str, monkeypatch: pytest.MonkeyPatch
+) -> None:
+    """Each saga has a definition of its own, and each shard still has one engine, its first."""
+    engines: list[str] = []
+
+    class Counted(shard_parts.EngineProcess):
+        def __init__(self, program: str, of: Sequence[str], text: str, listener: Any) -> None:
+            engines.append(listener.driver.name)
+            begun.append(len(of))
+            super().__init__(program, of, text, listener)
+
+    begun: list[int] = []
+    monkeypatch.setattr(shard_parts, "EngineProcess", Counted)
+
+    async def main() -> None:
+        async with sagas.open(place, [order]) as store:
+            numbers = iter(range(300))
+
+            async def lane() -> None:
+                for number in numbers:
+                    given = Order([Parcel("a")] * (number % 3), number=number)
+                    assert (await ended(store, order, f"k{number}", given)).ok
+
+            await asyncio.gather(*(lane() for _ in range(6)))
+            assert is_good(await store.audit())
+
+    run(main())
+    shards = -(-300 // MOST_DEFINITIONS)
+    assert rows(place, "SELECT count(*) FROM shards") == [(shards,)]
+    assert len(engines) == len({*engines}) == shards
+    assert sum(begun) < 300 // 4  # nearly all of them came later
+    assert rows(place, "SELECT count(*) FROM shard_definitions") == [(300,)]
 
 
 def test_what_is_wrong_begins_nothing(place: str) -> None:

@@ -66,8 +66,8 @@ platform.machine = lambda: "another"
 import wheels
 print(wheels.build_wheel(sys.argv[1]))
 END_OF_BUILD
-  # (it has no library to be loaded: the package starts the program)
-  tested compiled --deselect tests/test_library.py::test_any_buffer -k 'not [library'
+  # (it has no library to be loaded: the package starts the program; and that program adds no definitions, so that further engines are started)
+  tested compiled --deselect tests/test_library.py::test_any_buffer --deselect tests/test_shapes_store.py::test_definitions_start_no_further_engine -k 'not [library'
 }
 
 # Leaves out what takes a server, since there is none for ARM64; and a program without its loader, which qemu starts, and then ends.

@@ -125,7 +125,7 @@ static void faults(void) {
     uint8_t buffer[4096], *large = calloc(SAGAS_MAX_LOG + 1, 1);
     size_t used = 99;
     const size_t size = sizeof buffer;
-    struct sagas_span spans[SAGAS_MAX_DEFINITIONS + 1];
+    struct sagas_span spans[SAGAS_MAX_AUDIT_DEFINITIONS + 1];
     memset(spans, 0, sizeof spans);
     BAD("all null", "definition: bad-format", sagas_plan(NULL, 0, NULL, 0, buffer, size, &used));
     BAD("no case", "case: not-json", sagas_plan(OF(definition), NULL, 0, buffer, size, &used));
@@ -136,8 +136,8 @@ static void faults(void) {
     BAD("no UTF-8 in a definition", "definition: not-toml", sagas_draw((const uint8_t *)"#\xc3", 2, buffer, size, &used));
     BAD("a line of a log", "log: line 1: kind", sagas_audit((const uint8_t *)"[]\n", 3, OF(definition), buffer, size, &used));
     BAD("an empty span", "definition 1: bad-format", sagas_audit_all(NULL, 0, OF(definition), (spans[0].end = SIZE_MAX, spans), 2, buffer, size, &used));
-    BAD("the most definitions", "definition 1: bad-format", sagas_audit_all(NULL, 0, OF(definition), spans, SAGAS_MAX_DEFINITIONS, buffer, size, &used));
-    BAD("one definition more", "too many definitions", sagas_audit_all(NULL, 0, OF(definition), spans, SAGAS_MAX_DEFINITIONS + 1, buffer, size, &used));
+    BAD("the most definitions", "definition 1: bad-format", sagas_audit_all(NULL, 0, OF(definition), spans, SAGAS_MAX_AUDIT_DEFINITIONS, buffer, size, &used));
+    BAD("one definition more", "too many definitions", sagas_audit_all(NULL, 0, OF(definition), spans, SAGAS_MAX_AUDIT_DEFINITIONS + 1, buffer, size, &used));
     if (!large) {
         EXPECT("memory for the longest text", 0);
         return;

@@ -10,7 +10,7 @@
 
 #include "sagas.h"
 
-enum { MOST = 64, ANY = 1 << 20 };
+enum { ANY = 1 << 20 };
 
 #ifdef REFUSING
 void *__real_malloc(size_t size);
@@ -50,7 +50,7 @@ static const char MEMORY[] = "{\"fault\":\"out-of-memory\"}\n";
 
 struct text {
     uint8_t *bytes;
-    size_t size;
+    size_t size, held;
 };
 
 static void fail(const char *why) {
@@ -63,8 +63,11 @@ static void add(struct text *to, FILE *file) {
     size_t count;
     if (!file) fail("a file cannot be read");
     do {
-        to->bytes = realloc(to->bytes, to->size + 65536);
-        if (!to->bytes) fail("memory");
+        if (to->held - to->size < 65536) {
+            to->held = 2 * to->held + 65536;
+            to->bytes = realloc(to->bytes, to->held);
+            if (!to->bytes) fail("memory");
+        }
         count = fread(to->bytes + to->size, 1, 65536, file);
         to->size += count;
     } while (count > 0);
@@ -80,8 +83,8 @@ static void show_lines(const uint8_t *lines, size_t size) {
 
 int main(int count, char **words) {
     struct sagas_coordinator it = SAGAS_CLOSED, was;
-    struct sagas_span spans[MOST + 1];
-    struct text definitions = {NULL, 0}, log = {NULL, 0}, asked = {NULL, 0};
+    struct sagas_span spans[SAGAS_MAX_DEFINITIONS + 1];
+    struct text definitions = {NULL, 0, 0}, log = {NULL, 0, 0}, asked = {NULL, 0, 0};
     size_t size = count > 1 ? (size_t)atol(words[1]) : 0, used, log_used, lines, request_size;
     uint8_t *small = malloc(size ? size : 1), *whole = malloc(ANY);
     uint32_t status;
@@ -91,7 +94,7 @@ int main(int count, char **words) {
     if (getenv("REFUSED")) refused = atol(getenv("REFUSED"));
 #endif
     if (strcmp(words[2], "-") != 0) add(&log, fopen(words[2], "rb"));
-    for (int i = 3; i < count && number <= MOST; i++, number++) {
+    for (int i = 3; i < count && number <= SAGAS_MAX_DEFINITIONS; i++, number++) {
         spans[number].start = definitions.size;
         add(&definitions, fopen(words[i], "rb"));
         spans[number].end = definitions.size;

@@ -2,8 +2,9 @@
 """Whether the calls of a coordinator do what `sagas drive --lines` does: coordinated.py PROGRAM [COUNT [SEED]]
 
 PROGRAM is coordinate.c, compiled. It and the program `sagas` are given the conversations of tests/rows/drive, and COUNT random ones (300
-where it is not said), each with a buffer of some size; what they print has to be the same. With REFUSE set PROGRAM was compiled to
-refuse memory: each growth of some conversations is refused in turn, and what is printed does not change.
+where it is not said), each with a buffer of some size; what they print has to be the same. But the definitions of a coordinator are fixed, 64 at
+most: where the program adds one, or takes more, what is printed has to be what it answers without --lines. With REFUSE set PROGRAM was compiled
+to refuse memory: each growth of some conversations is refused in turn, and what is printed does not change.
 """
 
 from __future__ import annotations
@@ -31,6 +32,11 @@ REQUESTS = (
 )  # fmt: skip
 
 Talk = tuple[str, list[bytes], bytes, bytes]
+Done = subprocess.CompletedProcess[bytes]
+
+MOST_DEFINITIONS = 64
+DEFINE = '{"definition":"format = 1\\nname = \\"more\\"\\nstep = [{ name = \\"x\\" }]\\n","do":"define"}'
+FIXED = b'{"refused":"fixed-shelf"}\n'
 
 
 def of_rows() -> Iterator[Talk]:
@@ -42,7 +48,7 @@ def of_rows() -> Iterator[Talk]:
                 continue
             definitions = [row.text(text) for text in (said if isinstance(said, list) else [said])] * row.keys.get("times", 1)
             log = row.keys.get("log", "")
-            if 1 <= len(definitions) <= 65 and not isinstance(log, list):
+            if definitions and not isinstance(log, list):
                 yield row.place, definitions, row.text(log), row.text(row.keys.get("stdin", ""))
 
 
@@ -52,7 +58,8 @@ def at_random(count: int, chance: random.Random) -> Iterator[Talk]:
     # (where memory lacks for the second of several tasks, the first is told alone)
     requests_of = [request for request in REQUESTS if not (os.environ.get("REFUSE") and "most" in request)]
     for number in range(count):
-        asked = [chance.choice(requests_of).replace("SAGA", str(chance.randrange(3))).replace("STEP", str(chance.randrange(2))) for _ in range(40)]
+        known = [*requests_of, DEFINE, '{"def":1,"do":"open"}'] if number % 3 == 0 else requests_of
+        asked = [chance.choice(known).replace("SAGA", str(chance.randrange(3))).replace("STEP", str(chance.randrange(2))) for _ in range(40)]
         requests = "\n".join(asked).encode() + b"\n"
         yield f"random {number}", [PAIR], log, requests
         lines = ran([rows.program(), "drive", "--lines"], [PAIR], b"", requests).stdout
@@ -60,16 +67,43 @@ def at_random(count: int, chance: random.Random) -> Iterator[Talk]:
         log = whole[: chance.randrange(len(whole) + 1)] if number % 2 == 0 else b""
 
 
-def ran(words: list[str], definitions: list[bytes], log: bytes, requests: bytes, **more: str) -> subprocess.CompletedProcess[bytes]:
+def ran(words: list[str], definitions: list[bytes], log: bytes, requests: bytes, **more: str) -> Done:
     """Runs either program: its words, then the log where there is one, and the definitions."""
     with tempfile.TemporaryDirectory() as folder:
         paths = [Path(folder, str(place)) for place in range(len(definitions))]
         for path, text in zip(paths, definitions):
             path.write_bytes(text)
         (Path(folder) / "log").write_bytes(log)
-        given = ["--from", f"{folder}/log"] if words[1] == "drive" and log else []
+        given = ["--from", f"{folder}/log"] if words[1:] == ["drive", "--lines"] and log else []
         given = given if words[1] == "drive" else [f"{folder}/log" if log else "-"]
         return subprocess.run([*words, *given, *map(str, paths)], input=requests, capture_output=True, env={**os.environ, **more}, check=False)
+
+
+def wanted_of(definitions: list[bytes], log: bytes, requests: bytes) -> Done:
+    """What a coordinator has to print: what the program does with --lines, over a fixed shelf. Without --lines the program has one: so it says itself
+    which requests are refused for it. They change nothing, so the others are answered as they are without them."""
+    fixed, shown = [rows.program(), "drive"], [rows.program(), "drive", "--lines"]
+    if len(definitions) > MOST_DEFINITIONS:
+        return ran(fixed, definitions, b"", requests)
+    if b"define" not in requests:
+        return ran(shown, definitions, log, requests)
+    is_refused = [reply == FIXED for reply in ran(fixed, definitions, b"", requests).stdout.splitlines(True)]
+    others = b"".join(line + b"\n" for line, refused in zip(requests.split(b"\n"), is_refused) if not refused)
+    begun, done = ran(shown, definitions, log, b""), ran(shown, definitions, log, others)
+    if done.returncode == 0:
+        replies = iter(with_lines(done.stdout[len(begun.stdout) :]))
+        done.stdout = begun.stdout + b"".join(FIXED if refused else next(replies) for refused in is_refused)
+    return done
+
+
+def with_lines(printed: bytes) -> Iterator[bytes]:
+    """Each reply with the lines of the log before it."""
+    before = b""
+    for line in printed.splitlines(True):
+        before += line
+        if not line.startswith(b"+"):
+            yield before
+            before = b""
 
 
 def refusals(program: str, size: int, talk: Talk, wanted: bytes) -> Iterator[str]:
@@ -88,11 +122,11 @@ def main() -> int:
     wrong: list[str] = []
     known = list(of_rows())
     talks = (chance.sample(known, 12) if os.environ.get("REFUSE") else known) + list(at_random(int(count), chance))
-    looked = 0
+    looked = fixed = 0
     for talk in talks:
         name, definitions, log, requests = talk
         size = chance.choice(SIZES)
-        wanted = ran([rows.program(), "drive", "--lines"], definitions, log, requests)
+        wanted = wanted_of(definitions, log, requests)
         found = ran([program, str(size)], definitions, log, requests)
         if os.environ.get("REFUSE"):
             if wanted.returncode == 0 and len(requests) < 4096 and b"most" not in requests:
@@ -100,11 +134,12 @@ def main() -> int:
                 wrong += list(refusals(program, size, talk, wanted.stdout))
             continue
         looked += 1
+        fixed += FIXED in wanted.stdout or len(definitions) > MOST_DEFINITIONS
         if (found.returncode, found.stdout, found.stderr) != (wanted.returncode, wanted.stdout, wanted.stderr):
             wrong.append(f"{name}, {size}: {found.returncode} {found.stderr[-200:]!r}, wanted {wanted.returncode} {wanted.stderr[-200:]!r}")
     for line in wrong[:20]:
         print(f"wrong: {line}")
-    print(f"coordinated: {looked} conversations, {len(wrong)} wrong")
+    print(f"coordinated: {looked} conversations, {fixed} of them over a fixed shelf, {len(wrong)} wrong")
     return 1 if wrong or not looked else 0
 
 

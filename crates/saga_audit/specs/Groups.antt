@@ -69,13 +69,13 @@ abbrev pub is_yes : AuditAnswer → Bool
 is_yes (Yes sagas ended stuck count) = true
 is_yes (No place why) = false
 
--- ---- the sagas of a group, which a test on their numbers tells
+-- ---- the sagas of a group, which is defined by a test on their numbers
 
 -- each saga of the group is legal
 abbrev pub IsLegalIn : List Contents → (ℕ → Bool) → List Event → Type 0
 IsLegalIn shelf mine h = (i : ℕ) → mine i ≡ true → IsLegalSaga shelf (changes i h)
 
--- how many of the sagas of a group that a history opens pass a test
+-- the number of sagas of a group that a history opens and that pass a test
 abbrev pub count_in : (ℕ → Bool) → (ℕ → Bool) → List Event → ℕ
 count_in mine test events = count_by (λ i. mine i && test i) (opened_sagas events)
 

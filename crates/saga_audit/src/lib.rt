@@ -1,9 +1,9 @@
 //! The auditor. It decides whether a history obeys the rules, from only the history and the
 //! definitions.
 //!
-//! [`audit`] returns `Yes` if and only if a history is legal. The headline, which is the main
-//! theorem of `saga_history`, then holds of it. Otherwise it returns the first event that is not
-//! allowed, and why. [`audit_with`] returns the same with several threads.
+//! [`audit`] returns `Yes` if and only if a history is legal. The main theorem, which is `headline`
+//! of `saga_history`, then holds for it. Otherwise it returns the first event that is not allowed,
+//! and why. [`audit_with`] returns the same with several threads.
 //!
 //! The auditor follows one saga after the other, by links between the events of each saga. So it
 //! has the state tables of only one saga at a time.
@@ -13,7 +13,7 @@
 //! ```
 //! match audit(alloc, shelf, events)? {
 //!     AuditAnswer::Yes { .. } => Ok(None),
-//!     // The place of the first event that the rules do not allow after those before it.
+//!     // The index of the first event that the rules do not allow after the events before it.
 //!     AuditAnswer::No { position, .. } => Ok(Some(position)),
 //! }
 //! ```

@@ -2,7 +2,7 @@
 use Rattle.std.specs.Prelude.{ℕ, List, Bool, true, false, Option, ◌≡◌, ◌≤◌, ◌<◌, ◌++◌, length}
 use Rattle.std.specs.Io.KnownBytes.{Consumes, IsAtEnd}
 
--- bytes that the reader gave were added, at most so many; none only at the reader's end
+-- bytes from the reader are appended, at most `most`; none only at the end of the input
 pub record ReadsMore (before after : Option (List ℕ)) (old new : List ℕ) (most : ℕ) (more : Bool) : Type 0 where
   pub added : List ℕ
   pub is : new ≡ old ++ added

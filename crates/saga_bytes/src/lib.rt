@@ -1,5 +1,5 @@
-//! Bytes before anyone knows what they say: read up to a limit, and cut into lines. A line feed ends a line, the last line
-//! may lack it, and nothing is no line.
+//! Raw bytes: reading up to a limit, and splitting into lines. A line feed ends a line. The last line may lack it, and
+//! an empty text has no line.
 #![tactic(auto)]
 
 mod limits;

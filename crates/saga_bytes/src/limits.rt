@@ -1,4 +1,4 @@
-//! Reading up to one byte past a limit, and no further: enough to see that a text is too long.
+//! Reads up to one byte past a limit: enough to detect that a text is too long.
 ghost use Rattle.std.specs.Prelude.{◌<◌, ◌≤◌, ◌^◌, ◌+◌, ◌≡◌, IfOk, IfSome, length, take};
 ghost use Rattle.std.specs.Io.{ReadsAtMost};
 ghost use Rattle.std.specs.Io.KnownBytes.{Consumes, ReadConsumes};
@@ -7,10 +7,11 @@ ghost use Rattle.saga_bytes.specs.More.{ReadsMore};
 use std::alloc::Global;
 use std::io::{self, ErrorKind, Read};
 
-/// How many bytes are asked for at once.
+/// The maximum number of bytes of one read.
 const AT_ONCE: usize = 8_192;
 
-/// One read, which is tried again where a signal interrupts it: what has arrived, as far as the buffer goes.
+/// One read, which is repeated if a signal interrupts it. Returns the bytes that are available, up to the length of the
+/// buffer.
 pub fn read_once<R: Read>(reader: &mut R, buffer: &mut [u8]) -> io::Result<usize>
     ensures bound { ReadsAtMost result buffer.new }
     ensures bytes { ReadConsumes (R.remaining reader.old)
@@ -25,7 +26,7 @@ pub fn read_once<R: Read>(reader: &mut R, buffer: &mut [u8]) -> io::Result<usize
     Err(io::Error::from(ErrorKind::Interrupted))
 }
 
-/// Reads once, at most so many bytes, and adds them; false where the reader has no more.
+/// Reads once, at most `most` bytes, and appends them. Returns false at the end of the input.
 fn read_more<R: Read>(reader: &mut R, bytes: &mut Vec<u8>, most: usize) -> io::Result<bool>
     requires { 0 < most }
     ensures { IfOk result (ReadsMore (R.remaining reader.old) (R.remaining reader.new)
@@ -38,9 +39,9 @@ fn read_more<R: Read>(reader: &mut R, bytes: &mut Vec<u8>, most: usize) -> io::R
     Ok(count > 0)
 }
 
-/// What a reader has, up to one byte past a limit; the reader stands just behind what was taken. A reader that never ends
-/// gives `limit + 1` bytes. A read that a signal interrupts is tried again; any other error ends the reading, and what
-/// was read until then is lost.
+/// Reads up to one byte past a limit. The reader's position is then directly after the bytes that were read. A reader
+/// that never ends gives `limit + 1` bytes. A read that a signal interrupts is repeated. Any other error ends the
+/// reading, and the bytes that were read are lost.
 pub fn read_up_to<R: Read>(alloc: Global, reader: &mut R, limit: usize) -> io::Result<Vec<u8>>
     requires { limit < 2 ^ 63 }
     ensures bytes { IfOk result (λ bytes. IfSome (R.remaining reader.old)

@@ -1,4 +1,4 @@
--- What the calls of a coordinator do.
+-- The effects of the calls of a coordinator.
 use Rattle.std.specs.Prelude.{◌≡◌, ℕ, ◌⊎◌, List, [], Option, Some, None}
 use Rattle.std.specs.declared.alloc.Global.{Global}
 use Rattle.saga_texts.specs.Outputs.{IsOutputWith}
@@ -14,21 +14,21 @@ use Rattle.saga_c.specs.declared.filling.Told.{Told}
 use Rattle.saga_c.specs.declared.sessions.Ask.{Ask}
 use Rattle.saga_c.specs.declared.sessions.Session.{Session}
 
--- it is closed, and holds nothing
+-- the coordinator is closed, and has no session
 pub record IsClosed (it : Coordinator) : Type 0 where
   pub shut : it.state ≡ 0
   pub none : it.lease.held ≡ None
 
--- it is open, and holds that session
+-- the coordinator is open, and has that session
 pub record Holds (it : Coordinator) (session : Session) : Type 0 where
   pub is_open : it.state ≡ 1
   pub held_is : it.lease.held ≡ Some session
 
--- as the calls leave it
+-- the invariant of a coordinator between the calls
 abbrev pub IsSound : Coordinator → Type 0
 IsSound it = IsClosed it ⊎ ((session : Session) × Holds it session)
 
--- An open coordinator does with the session that it holds what is so, and holds a session then; a closed one does nothing.
+-- An open coordinator executes the call on its session, and has a session afterwards.
 pub record IsAsked (Does : Session → Session → Told → Type 0) (old new : Coordinator) (told : Told) : Type 0 where
   pub session : Session
   pub held : Holds old session
@@ -44,7 +44,7 @@ pub record IsTurnedAway (old new : Coordinator) (before after : List ℕ) (told 
 abbrev pub AsksIt : Coordinator → Coordinator → Ask → List ℕ → List ℕ → Told → Type 0
 AsksIt old new ask before after told = IsAsked (λ s t told'. Meets s t ask before after told') old new told ⊎ IsTurnedAway old new before after told
 
--- what is told of that, as C is given it
+-- the results as C gets them
 pub record IsTold (lines used status : ℕ) (told : Told) : Type 0 where
   pub lines_are : lines ≡ told.lines
   pub used_is : used ≡ told.used
@@ -60,7 +60,7 @@ pub record FetchesIt (old new : Coordinator) (before after : List ℕ) (lines us
   pub is : IsTold lines used status told
   pub does : IsAsked (λ s t told'. IsReplied s t before after told') old new told ⊎ IsTurnedAway old new before after told
 
--- the definitions are refused, or the log is too long, and why is told; it stays closed
+-- the definitions are refused, or the log is too long, and the output says why
 pub record SaysWhy (texts : List (List ℕ)) (log : List ℕ) (output : Output) : Type 0 where
   pub fault : Fault
   pub refused : IsShelfRefused texts log fault
@@ -71,12 +71,12 @@ pub record IsUnread (new : Coordinator) (texts : List (List ℕ)) (log before af
   pub none : log_used ≡ 0
   pub given : IsGiven (SaysWhy texts log) before after used status
 
--- It is open with the status 0 and closed with any other.
+-- The coordinator is open if the status is 0, and closed otherwise.
 abbrev pub IsLeft : Coordinator → Session → Told → ℕ → Type 0
 IsLeft new session told log_used =
     ((told.status ≡ 0) × Holds new session × (log_used ≡ told.log)) ⊎ (((told.status ≡ 0) → ⊥) × IsClosed new × (log_used ≡ 0))
 
--- a session over the definitions goes on from the log, or the log is refused
+-- a session over the definitions continues from the log, or the log is refused
 pub record IsRead (new : Coordinator) (alloc : Global) (texts : List (List ℕ)) (log before after : List ℕ) (log_used used status : ℕ) : Type 0 where
   pub held : Option Session
   pub prepared : IsPrepared alloc texts log held
@@ -89,7 +89,7 @@ pub record IsRead (new : Coordinator) (alloc : Global) (texts : List (List ℕ))
   pub used_is : used ≡ told.used
   pub says : status ≡ told.status
 
--- it was open already
+-- the coordinator was already open, and the call is rejected
 pub record IsOpenAlready (old new : Coordinator) (before after : List ℕ) (log_used used status : ℕ) : Type 0 where
   pub session : Session
   pub held : Holds old session

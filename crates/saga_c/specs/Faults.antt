@@ -1,4 +1,4 @@
--- Why a coordinator is not opened, and how that is told.
+-- Why a coordinator cannot be opened, and the message for it.
 use Rattle.std.specs.Prelude.{◌≡◌, ℕ, ◌<◌, ◌++◌, List, [], codes, decimal, length}
 use Rattle.saga_def.specs.Contents.{Contents}
 use Rattle.saga_text.specs.Faults.{word_of as text_word_of}
@@ -17,18 +17,18 @@ use Rattle.saga_texts.specs.declared.shelves.ShelfFault.TheVariants as shelf
 use Rattle.saga_c.specs.declared.faults.Fault.{Fault}
 use Rattle.saga_c.specs.declared.faults.Fault.TheVariants.{TooManyDefinitions, Definition, LogTooLong, NoHeader, Line, History, OutOfMemory}
 
--- a word for the event of a place
+-- a message with a word for the event at an index
 abbrev pub place_line : ℕ → List ℕ → List ℕ
 place_line place word = codes "sagas: log: no " ++ decimal place ++ codes " " ++ word ++ line_feed
 
--- why the events of a log are no history that can be gone on with; want of memory has no line
+-- why a book cannot continue from the events of a log; lack of memory has no message
 abbrev pub history_line : ReplayRefusal → List ℕ
 history_line (replay.NotLegal place why) = place_line place (reason_word_of why)
 history_line (replay.NotNumbered place) = place_line place (codes "not-numbered")
 history_line (replay.Full place) = place_line place (codes "full")
 history_line replay.OutOfMemory = []
 
--- the line of a fault, as `sagas drive` writes it
+-- the message for a fault, as `sagas drive` writes it
 abbrev pub fault_line : Fault → List ℕ
 fault_line TooManyDefinitions = codes "sagas: too many definitions" ++ line_feed
 fault_line (Definition place why) = codes "sagas: definition " ++ decimal place ++ codes ": " ++ text_word_of why ++ line_feed
@@ -48,7 +48,7 @@ fault_of_restart (restart.BadLine line why) = Line line why
 fault_of_restart (restart.History why) = History why
 fault_of_restart restart.OutOfMemory = OutOfMemory
 
--- why texts hold no definitions that a session can begin over, or the log is too long; memory may lack at any time
+-- why texts do not give the definitions of a session, or the log is too long; lack of memory is always possible
 abbrev pub IsShelfRefused : List (List ℕ) → List ℕ → Fault → Type 0
 IsShelfRefused texts log TooManyDefinitions = max_shelf < length texts
 IsShelfRefused texts log (Definition place why) = IsFirstFaulty texts place why
@@ -56,7 +56,7 @@ IsShelfRefused texts log LogTooLong = max_log < length log
 IsShelfRefused texts log OutOfMemory = Unit {0}
 IsShelfRefused texts log fault = ⊥
 
--- why a log leads to no book
+-- why a log does not give a book
 pub record IsLogRefused (shelf : List Contents) (log : List ℕ) (fault : Fault) : Type 0 where
   pub why : RestartRefusal
   pub refused : IsRestartRefused shelf log why

@@ -1,4 +1,4 @@
--- What a lease owns: a session, the definitions that it borrows, and the lifetime for which it does.
+-- The ownership of a lease: a session, the definitions that it borrows, and the lifetime of this borrow.
 use Rattle.std.specs.Prelude.{ℕ, [], ◌∷◌, Option, Some, None}
 use Rattle.std.specs.Box.Ownership.{box_owns}
 use Rattle.std.specs.contracts.alloc.Global as Global
@@ -19,7 +19,7 @@ use denote.RattleType.{RattleType}
 use denote.RawPtr.{Ptr, block_ptr, null_ptr}
 use denote.Ref.{NamedLft}
 
--- a lifetime, under the one name that a function's first has
+-- a lifetime, with the name of the first lifetime of a function
 abbrev pub life : Lft → NamedLft
 life κ = record { mir = named 0; lft = κ }
 
@@ -30,12 +30,12 @@ CellRow κ = OptionRow.the_row (SessionRow.the_row (life κ))
 abbrev pub ShelfRow : RattleType
 ShelfRow = Vec.the_row DefinitionRow.the_row Global.the_row ghosts
 
--- what gets the definitions back, once the lifetime has ended
+-- the right to get the definitions back after the lifetime has ended
 abbrev pub shelf_lent : Lft → Ptr → Fml
 shelf_lent κ (block_ptr b o) = fex GName (λ γ. flent κ (Body (mem ShelfRow) b o γ))
 shelf_lent κ null_ptr = ffalse
 
--- all of it while a session is held, and nothing else
+-- the ownership of all parts while there is a session
 abbrev pub lease_parts : Lft → Handle → Ptr → Ptr → Session → Fml
 lease_parts κ alloc session shelf it =
     fsep (flft κ full_share) (fsep (box_owns (ghosts.dealloc_token alloc) (CellRow κ) session (Some it))

@@ -1,4 +1,4 @@
--- What is asked of a session that is held, and what it does.
+-- The effects of a call on a session.
 use Rattle.std.specs.Prelude.{◌≡◌, ℕ, List, Option, Some, IsSome}
 use Rattle.saga_c.specs.Sessions.{IsAnswered, IsReplied}
 use Rattle.saga_c.specs.Starts.{IsStarted}
@@ -12,7 +12,7 @@ Meets old new (Start log) before after told = IsStarted old new log.now before a
 Meets old new (Answer request) before after told = IsAnswered old new request.now before after told
 Meets old new Fetch before after told = IsReplied old new before after told
 
--- the session that was held does it, and is held on
+-- the session executes the call, and the lease still has a session afterwards
 pub record IsMet (old new : Option Session) (ask : Ask) (before after : List ℕ) (told : Told) : Type 0 where
   pub some : IsSome new
   pub meets : (s t : Session) → old ≡ Some s → new ≡ Some t → Meets s t ask before after told

@@ -1,10 +1,10 @@
-//! A box as its pointer.
+//! A box as a raw pointer.
 ghost use Rattle.std.specs.Prelude.{◌≡◌};
 
 use std::alloc::Global;
 use std::marker::Model;
 
-/// The pointer of a box, and the right to all that the box owned.
+/// The pointer of a box, with the ownership of everything that the box owned.
 pub struct Block<T> {
     pub at: *mut T,
     pub ghost value: { T },
@@ -17,7 +17,7 @@ impl<T> Model for Block<T> {
 }
 
 impl<T> Block<T> {
-    /// Takes a box apart.
+    /// Converts a box to its pointer.
     pub fn of(value: Box<T>) -> Block<T>
     where
         T: Drop,
@@ -28,7 +28,7 @@ impl<T> Block<T> {
         }
     }
 
-    /// Makes it a box again.
+    /// Converts the pointer back to the box.
     pub fn into_box(self, alloc: Global) -> Box<T>
         ensures { result.value ≡ self.value }
     {

@@ -1,4 +1,4 @@
-//! The calls of a coordinator, which is kept between them.
+//! The calls of a coordinator. A coordinator keeps its state between the calls.
 ghost use Rattle.std.specs.Prelude.{◌≡◌, IfErr, IsSome, None, OnErr, OnOk, map};
 ghost use Rattle.saga_c.specs.Coordinators.{AnswersIt, AsksIt, FetchesIt, IsClosed, IsOpened, IsSound};
 ghost use Rattle.saga_c.specs.Faults.{IsShelfRefused};
@@ -14,15 +14,15 @@ use crate::sessions::{Ask, Call};
 use crate::starts::{begin, shelf_of};
 use std::alloc::Global;
 
-/// A coordinator, as C holds it: all zeros, or as the calls left it.
+/// A coordinator in the memory of the C program. It is either all zeros, or as the last call left it.
 #[repr(C)]
 pub struct Coordinator {
     lease: Lease,
-    /// 1 while it is open, and 0 else.
+    /// 1 if the coordinator is open, otherwise 0.
     state: u32,
 }
 
-/// Definitions are read, and a session begins over them.
+/// Reads definitions, and begins a session over them.
 fn prepare(
     alloc: Global,
     lease: &mut Lease,
@@ -42,7 +42,7 @@ fn prepare(
     Ok(())
 }
 
-/// Asks a session that is held.
+/// Executes a call on the session of a lease.
 fn ask(lease: &mut Lease, what: Ask<'_>, buffer: &mut [u8]) -> Told
     requires { IsSome lease.old.held }
     ensures { IsMet lease.old.held lease.new.held what.entry buffer.old buffer.new result }
@@ -63,8 +63,9 @@ fn ask(lease: &mut Lease, what: Ask<'_>, buffer: &mut [u8]) -> Told
     told
 }
 
-/// Opens a coordinator over definitions, which stand in one text, each in its span, from the text of a log. Any status but 0 leaves it
-/// closed, or as it was where it was open.
+/// Opens a coordinator over definitions and from the text of a log. `definitions` holds the texts of all definitions,
+/// and each span is the range of one of them. If the coordinator was closed and the status is not 0, it stays closed.
+/// If it was open, it is unchanged.
 #[unsafe(no_mangle)]
 pub extern "C" fn sagas_open(
     alloc: Global,
@@ -99,7 +100,7 @@ pub extern "C" fn sagas_open(
     told.status
 }
 
-/// Asks a coordinator, if it is open.
+/// Executes a call on a coordinator. Returns a rejection if the coordinator is closed.
 fn asked(coordinator: &mut Coordinator, what: Ask<'_>, buffer: &mut [u8]) -> Told
     requires { IsSound coordinator.old }
     ensures sound { IsSound coordinator.new }
@@ -111,7 +112,7 @@ fn asked(coordinator: &mut Coordinator, what: Ask<'_>, buffer: &mut [u8]) -> Tol
     ask(&mut coordinator.lease, what, buffer)
 }
 
-/// Answers a request: gives the lines of the log that it wrote, and behind them the reply.
+/// Executes a request. The buffer gets the log lines of the request, followed by the reply.
 #[unsafe(no_mangle)]
 pub extern "C" fn sagas_answer(
     coordinator: &mut Coordinator,
@@ -131,7 +132,7 @@ pub extern "C" fn sagas_answer(
     told.status
 }
 
-/// Gives the reply that was kept, since the buffer of the call was too small for it.
+/// Returns the stored reply of an earlier call whose buffer was too small.
 #[unsafe(no_mangle)]
 pub extern "C" fn sagas_reply(
     coordinator: &mut Coordinator,
@@ -150,7 +151,7 @@ pub extern "C" fn sagas_reply(
     told.status
 }
 
-/// Closes a coordinator, and gives back all its memory. It may be opened again.
+/// Closes a coordinator and frees all its memory. The coordinator may be opened again.
 #[unsafe(no_mangle)]
 pub extern "C" fn sagas_close(alloc: Global, coordinator: &mut Coordinator)
     requires { IsSound coordinator.old }

@@ -1,8 +1,9 @@
-//! The functions that C calls.
+//! The functions that C programs call.
 //!
-//! Each gives a status, and in `used` how many bytes the text of its output has; the text stands at the beginning of the buffer. 0, 1
-//! and 3 are the statuses of the program, and the text is what it prints there; a fault of a text is told as the program tells
-//! it on standard error. 4: memory was refused, and nothing was written. 5: the buffer is too small, and nothing was written.
+//! Each function returns a status. `used` gets the length of the output text, which the function writes to the start of
+//! the buffer. The statuses 0, 1 and 3 are the exit statuses of the program. The text is the standard output of the
+//! program, or for a fault of an input text the message that the program writes to standard error. Status 4 means that
+//! an allocation failed, and status 5 that the buffer is too small. In these two cases the buffer is unchanged.
 ghost use Rattle.std.specs.Prelude.{[], ◌∷◌, IfOk, map};
 ghost use Rattle.saga_texts.specs.Texts.{IsCheckOutput, IsDrawOutput, IsPlanOutput};
 ghost use Rattle.saga_texts.specs.Audits.{IsAuditOutput};
@@ -14,7 +15,7 @@ use crate::pieces::{Span, pieces_of};
 use saga_texts::{Output, Scene, audit_text_alone, check_text, draw_text, plan_text};
 use std::alloc::{AllocError, Global};
 
-/// Judges an answer to a case of a definition: 0 with `least N` or `blocked`, 1 with `no FAULT`.
+/// Verifies an answer to a case of a definition. Returns 0 with `least N` or `blocked`, or 1 with `no FAULT`.
 #[tactic(auto, using(crate::proofs::Giving::given))]
 #[unsafe(no_mangle)]
 pub extern "C" fn sagas_check(
@@ -31,7 +32,7 @@ pub extern "C" fn sagas_check(
     give(check_text(alloc, definition, case, answer), buffer, used)
 }
 
-/// Plans how a case of a definition shall end: 0 with a plan, 1 with a chain.
+/// Makes an answer to a case of a definition. Returns 0 with a plan, or 1 with a chain.
 #[tactic(auto, using(crate::proofs::Giving::given))]
 #[unsafe(no_mangle)]
 pub extern "C" fn sagas_plan(
@@ -46,7 +47,7 @@ pub extern "C" fn sagas_plan(
     give(plan_text(alloc, definition, case), buffer, used)
 }
 
-/// Audits the log of sagas of one definition: 0 with `yes` and numbers, 1 with `no P REASON`.
+/// Audits the log of sagas of one definition. Returns 0 with `yes` and counts, or 1 with `no P REASON`.
 #[tactic(auto, using(crate::proofs::Giving::given))]
 #[unsafe(no_mangle)]
 pub extern "C" fn sagas_audit(
@@ -61,7 +62,7 @@ pub extern "C" fn sagas_audit(
     give(audit_text_alone(alloc, log, &[definition]), buffer, used)
 }
 
-/// The audit of a log over the pieces of a text.
+/// Audits a log over the definitions at these ranges of a text.
 fn audited(
     alloc: Global,
     log: &[u8],
@@ -74,7 +75,8 @@ fn audited(
     audit_text_alone(alloc, log, &shelf)
 }
 
-/// Audits the log of sagas of several definitions, which stand in one text, each in its span: as [`sagas_audit`].
+/// Audits the log of sagas of several definitions, as [`sagas_audit`] does for one. One text holds all definitions, and
+/// each span is the range of one of them.
 #[tactic(auto, using(crate::proofs::Giving::given))]
 #[unsafe(no_mangle)]
 pub extern "C" fn sagas_audit_all(
@@ -91,7 +93,7 @@ pub extern "C" fn sagas_audit_all(
     give(audited(alloc, log, definitions, spans), buffer, used)
 }
 
-/// Draws a definition: 0 with the picture in Graphviz's language.
+/// Draws a definition. Returns 0 with the drawing in the DOT language of Graphviz.
 #[tactic(auto, using(crate::proofs::Giving::given))]
 #[unsafe(no_mangle)]
 pub extern "C" fn sagas_draw(
@@ -129,7 +131,7 @@ pub extern "C" fn sagas_draw_case(
     )
 }
 
-/// Draws a case with what an answer marks; 1 with `no FAULT` where the answer is not right.
+/// Draws a case with the marks of an answer. Returns 1 with `no FAULT` if the answer is not right.
 #[tactic(auto, using(crate::proofs::Giving::given))]
 #[unsafe(no_mangle)]
 pub extern "C" fn sagas_draw_answer(

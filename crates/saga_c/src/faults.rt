@@ -1,4 +1,4 @@
-//! Why definitions and a log begin no session, and how that is told: as `sagas drive` does.
+//! Why a session cannot begin from definitions and a log, and the message for it, which is that of `sagas drive`.
 ghost use Rattle.std.specs.Prelude.{◌≡◌, [], IfOk, string_bytes};
 ghost use Rattle.saga_c.specs.Faults as spec;
 ghost use Rattle.saga_texts.specs.Outputs.{IsOutputWith};
@@ -11,18 +11,18 @@ use saga_texts::{Output, ShelfFault, numbered_line};
 use std::alloc::{AllocError, AllocFailed, Global};
 use std::convert::From;
 
-/// Why a coordinator is not opened.
+/// Why a coordinator cannot be opened.
 #[derive(Debug, Drop)]
 pub enum Fault {
     TooManyDefinitions,
-    /// The first definition with a fault, from 0.
+    /// The index of the first definition with a fault, counted from 0.
     Definition { place: usize, why: TextFault },
     LogTooLong,
-    /// The log has lines, and does not begin with the header.
+    /// The log has lines and does not start with the header.
     NoHeader,
-    /// The first faulty line of the log, from 1.
+    /// The number of the first invalid line of the log, counted from 1.
     Line { line: usize, why: JsonFault },
-    /// The events of the log are no history that can be gone on with.
+    /// A book cannot continue from the events of the log.
     History(ReplayRefusal),
     OutOfMemory,
 }
@@ -49,7 +49,7 @@ impl From<AllocError> for Fault {
     }
 }
 
-/// Why texts hold no shelf.
+/// Returns the fault for texts that do not give a shelf.
 pub fn fault_of_shelf(why: ShelfFault) -> Fault
     ensures { result ≡ spec.fault_of_shelf why }
 {
@@ -59,7 +59,7 @@ pub fn fault_of_shelf(why: ShelfFault) -> Fault
     }
 }
 
-/// Why a log leads to no book.
+/// Returns the fault for a log that does not give a book.
 pub fn fault_of_restart(why: RestartRefusal) -> Fault
     ensures { result ≡ spec.fault_of_restart why }
 {
@@ -71,14 +71,14 @@ pub fn fault_of_restart(why: RestartRefusal) -> Fault
     }
 }
 
-/// A word for the event of a place.
+/// Returns a message with a word for the event at an index.
 fn place_line(alloc: Global, place: usize, word: &str) -> Result<String, AllocError>
     ensures { IfOk result (λ text. string_bytes text ≡ spec.place_line place word.now) }
 {
     numbered_line(alloc, "sagas: log: no ", place, " ", word)
 }
 
-/// Why the events of a log are no history that can be gone on with.
+/// Returns the message that says why a book cannot continue from the events of a log.
 fn history_line(alloc: Global, why: ReplayRefusal) -> Result<String, AllocError>
     ensures { IfOk result (λ text. string_bytes text ≡ spec.history_line why) }
 {
@@ -90,7 +90,7 @@ fn history_line(alloc: Global, why: ReplayRefusal) -> Result<String, AllocError>
     }
 }
 
-/// The line that tells a fault. Want of memory has none.
+/// Returns the message for a fault. It is empty for lack of memory.
 fn fault_line(alloc: Global, fault: &Fault) -> Result<String, AllocError>
     ensures { IfOk result (λ text. string_bytes text ≡ spec.fault_line fault.now) }
 {
@@ -109,7 +109,7 @@ fn fault_line(alloc: Global, fault: &Fault) -> Result<String, AllocError>
     }
 }
 
-/// The output that tells a fault.
+/// Returns the output for a fault.
 pub fn output_of_fault(alloc: Global, fault: &Fault) -> Result<Output, AllocError>
     ensures { IfOk result (IsOutputWith [] (spec.fault_line fault.now) 3) }
 {

@@ -1,4 +1,4 @@
-//! An output, put into a caller's buffer.
+//! The output of a call, in the buffer of the caller.
 ghost use Rattle.std.specs.Prelude.{◌≡◌, ◌++◌, ◌≤◌, drop, length};
 ghost use Rattle.saga_c.specs.Given.{GivesBy, Shows, text_of};
 ghost use Rattle.saga_c.specs.Sessions.{whole_of};
@@ -8,19 +8,19 @@ use saga_drive::Reply;
 use saga_texts::Output;
 use std::alloc::AllocError;
 
-/// The status where what was asked is done.
+/// The status of a call that succeeded.
 pub const OK: u32 = 0;
 
-/// The status where a call is not allowed as a coordinator stands.
+/// The status of a call that the state of the coordinator does not allow.
 pub const REJECTED: u32 = 1;
 
-/// The status where memory was refused.
+/// The status of a call whose allocation failed.
 const NO_MEMORY: u32 = 4;
 
-/// The status where the buffer is too small.
+/// The status of a call whose buffer is too small.
 pub const BUFFER_TOO_SMALL: u32 = 5;
 
-/// Puts a text at the beginning of a buffer.
+/// Writes a text to the start of a buffer.
 fn put(text: &[u8], buffer: &mut [u8])
     requires { length text.now ≤ length buffer.old }
     ensures { buffer.new ≡ text.now ++ drop (length text.now) buffer.old }
@@ -28,7 +28,7 @@ fn put(text: &[u8], buffer: &mut [u8])
     buffer[..text.len()].copy_from_slice(text);
 }
 
-/// The text of an output: what it prints, or the fault that it tells.
+/// Returns the text of an output: its standard output, or its message.
 fn text_of(output: &Output) -> &str
     ensures { result.now ≡ text_of output.now }
 {
@@ -39,7 +39,7 @@ fn text_of(output: &Output) -> &str
     }
 }
 
-/// Gives an output to the caller: how long its text is, and the text where it fits.
+/// Writes an output to the caller's buffer if it fits, and sets `used` to its length. Returns the status.
 pub fn give(output: Result<Output, AllocError>, buffer: &mut [u8], used: &mut usize) -> u32
     ensures { GivesBy output buffer.old buffer.new used.new result }
 {
@@ -56,8 +56,8 @@ pub fn give(output: Result<Output, AllocError>, buffer: &mut [u8], used: &mut us
     u32::from(output.status)
 }
 
-/// What a call tells beside its text: a status, how many bytes of a log are gone on with, and of the text how many bytes are lines of the
-/// log, and how many it has.
+/// The results of a call in addition to its text: the status, the number of bytes of the log from which the session
+/// continues, the number of bytes of log lines in the text, and the length of the text.
 #[derive(Clone, Copy)]
 pub struct Told {
     pub status: u32,
@@ -66,7 +66,7 @@ pub struct Told {
     pub used: usize,
 }
 
-/// Nothing happened.
+/// Returns the results of a call that did nothing.
 pub fn rejected() -> Told
     ensures { result ≡ record { status = 1; log = 0; lines = 0; used = 0 } }
 {
@@ -78,7 +78,7 @@ pub fn rejected() -> Told
     }
 }
 
-/// Puts two texts at the beginning of a buffer, one behind the other.
+/// Writes two texts to the start of a buffer, one after the other.
 fn put_both(first: &[u8], second: &[u8], buffer: &mut [u8])
     requires { length (first.now ++ second.now) ≤ length buffer.old }
     ensures { buffer.new
@@ -88,7 +88,8 @@ fn put_both(first: &[u8], second: &[u8], buffer: &mut [u8])
     put(second, &mut buffer[first.len()..]);
 }
 
-/// Gives a reply where it fits, with its lines before it, and tells so. Else nothing is written.
+/// Writes the log lines of a reply and then the reply to a buffer, and returns the results. If they do not fit, the
+/// buffer is unchanged.
 pub fn give_reply(reply: &Reply, buffer: &mut [u8]) -> Told
     ensures used { result.used ≡ length (whole_of reply.now) }
     ensures lines { result.lines ≡ length (lines_of reply.now) }

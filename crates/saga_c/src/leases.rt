@@ -1,4 +1,4 @@
-//! A session and the definitions that it borrows, behind pointers, as C can hold them.
+//! A session and the definitions that it borrows, behind pointers that a C program can hold.
 ghost use Rattle.std.specs.Prelude.{◌≡◌, IsSome, None, Option, Some};
 ghost use Rattle.saga_c.specs.Meetings.{IsMet};
 ghost use Rattle.saga_c.specs.Sessions.{settled};
@@ -10,8 +10,8 @@ use saga_def::Definition;
 use std::alloc::Global;
 use std::marker::Model;
 
-/// A session and the definitions that it borrows, each in a block of its own, or none. The session is held for a lifetime of its own,
-/// which ends with the lease.
+/// A session and the definitions that it borrows, each in its own block, or nothing. The session borrows for a lifetime
+/// that ends with the lease.
 #[repr(C)]
 pub struct Lease {
     session: *mut (),
@@ -28,7 +28,7 @@ impl Model for Lease {
 }
 
 impl Lease {
-    /// A session begins over definitions, in a block that was made for it.
+    /// Begins a session over definitions, in a block that was allocated for it.
     pub fn begin(
         &mut self,
         alloc: Global,
@@ -45,7 +45,7 @@ impl Lease {
         self.shelf = at as *mut ();
     }
 
-    /// Does what is asked of the session.
+    /// Executes a call on the session.
     pub fn meet(&mut self, call: &mut Call<'_, '_>)
         requires { IsSome self.old.held }
         ensures same { call.new.buffer.ghost_name ≡ call.old.buffer.ghost_name }
@@ -55,7 +55,7 @@ impl Lease {
         meet(unsafe { &mut *cell }, call);
     }
 
-    /// The session ends, and all its memory is given back.
+    /// Ends the session and frees all its memory.
     pub fn end(&mut self, alloc: Global)
         requires { IsSome self.old.held }
         ensures { self.new.held ≡ None }

@@ -1,7 +1,7 @@
-//! The calls for C: texts in, a text and a status out. `library/sagas.h` says how C calls them.
+//! The interface for C. A call takes texts, and returns a text and a status. `library/sagas.h` documents the calls.
 //!
-//! The calls of `exports` keep nothing and share nothing, so any number of threads may call them at once. Those of `coordinators`
-//! keep a coordinator between calls, each for one thread at a time.
+//! The calls of `exports` keep and share no state, so any number of threads may call them at the same time. A
+//! coordinator of `coordinators` keeps state between calls, and only one thread at a time may use it.
 #![tactic(auto)]
 
 mod blocks;

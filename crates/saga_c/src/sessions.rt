@@ -1,4 +1,5 @@
-//! A session: the book of a coordinator, the room of its log, and a reply for which its caller had too small a buffer.
+//! A session: the book of a coordinator, the free space of its log, and a reply that did not fit into the buffer of its
+//! call.
 ghost use Rattle.std.specs.Prelude.{◌≡◌, IsSome, None, Option, Some};
 ghost use Rattle.saga_c.specs.Meetings.{IsMet};
 ghost use Rattle.saga_c.specs.Sessions.{IsAnswered, IsPut, IsReplied, settled};
@@ -12,29 +13,29 @@ use saga_def::Definition;
 use saga_drive::{Reply, answer};
 use std::alloc::Global;
 
-/// The book of a coordinator, the room of its log, and the reply that is kept.
+/// The book of a coordinator, the free space of its log, and the stored reply.
 #[derive(Drop)]
 pub struct Session<'d> {
     pub alloc: Global,
     pub book: Book<'d>,
-    /// How many more bytes the log takes.
+    /// The free space of the log, in bytes.
     pub room: u64,
-    /// The last reply, where the buffer was too small for it.
+    /// The last reply, if the buffer of its call was too small.
     pub kept: Option<Reply>,
 }
 
-/// What is asked of a session.
+/// The operations of a session.
 #[derive(Clone, Copy)]
 pub enum Ask<'a> {
-    /// To go on from the text of a log.
+    /// Continues from the text of a log.
     Start(&'a [u8]),
-    /// To answer a request.
+    /// Executes a request.
     Answer(&'a [u8]),
-    /// To give the reply that is kept.
+    /// Returns the stored reply.
     Fetch,
 }
 
-/// A call: what is asked, where the text goes, and what is told.
+/// A call: the operation, the buffer for its text, and its results.
 #[derive(Drop)]
 pub struct Call<'a, 'b> {
     pub ask: Ask<'a>,
@@ -42,7 +43,7 @@ pub struct Call<'a, 'b> {
     pub told: Told,
 }
 
-/// A session over definitions, of which no log was read, in a block that was made for it.
+/// Makes a session over definitions that has not read a log, in a block that was allocated for it.
 pub fn settle<'d>(
     alloc: Global,
     cell: Block<Option<Session<'d>>>,
@@ -72,7 +73,7 @@ pub fn free_shelf(alloc: Global, shelf: Block<Vec<Definition>>) {
 }
 
 impl Session<'_> {
-    /// Gives a reply to the caller, or keeps it where the buffer is too small for it.
+    /// Returns a reply to the caller, or stores it if the buffer is too small.
     fn hand(&mut self, reply: Reply, buffer: &mut [u8]) -> Told
         ensures put { IsPut reply self.new.kept buffer.old buffer.new result }
         ensures book { self.new.book ≡ self.old.book }
@@ -83,7 +84,7 @@ impl Session<'_> {
         told
     }
 
-    /// Answers a request, unless a reply is kept.
+    /// Executes a request. Rejects the call while a reply is stored.
     fn answer(&mut self, request: &[u8], buffer: &mut [u8]) -> Told
         ensures { IsAnswered self.old self.new request.now buffer.old buffer.new result }
     {
@@ -95,7 +96,7 @@ impl Session<'_> {
         self.hand(reply, buffer)
     }
 
-    /// Gives the reply that is kept.
+    /// Returns the stored reply.
     fn fetch(&mut self, buffer: &mut [u8]) -> Told
         ensures { IsReplied self.old self.new buffer.old buffer.new result }
     {
@@ -106,7 +107,7 @@ impl Session<'_> {
     }
 }
 
-/// Does what is asked of a session, and tells what came of it.
+/// Executes a call on a session, and sets its results.
 pub fn meet(cell: &mut Option<Session<'_>>, call: &mut Call<'_, '_>)
     requires { IsSome cell.old }
     ensures same { call.new.buffer.ghost_name ≡ call.old.buffer.ghost_name }

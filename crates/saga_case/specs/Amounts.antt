@@ -1,4 +1,4 @@
--- The amounts of a flow as numbers, in whatever width they are kept.
+-- The amounts of a flow as numbers, for every stored width.
 use Rattle.std.specs.Prelude.{List, ℕ}
 use Rattle.saga_case.specs.declared.amounts.Widths.{Widths}
 use Rattle.saga_case.specs.declared.amounts.Widths.TheVariants.{Two, Four, Eight}

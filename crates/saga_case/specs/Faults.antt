@@ -8,7 +8,7 @@ use Rattle.saga_case.specs.declared.states.StepState.{StepState}
 use Rattle.saga_case.specs.declared.cases.CaseFault.{CaseFault}
 use Rattle.saga_case.specs.declared.cases.CaseFault.TheVariants.{WrongLength, Busy}
 
--- the very states are handed back; a wrong length comes before a busy step
+-- the same states are returned; a wrong length comes before a busy step
 abbrev pub IsFirstFault : Contents → Vec StepState Global → CaseFault → Type 0
 IsFirstFault definition states (WrongLength back) = (back ≡ states) × (length states.items ≢ length definition.steps)
 IsFirstFault definition states (Busy step back) =

@@ -1,4 +1,4 @@
--- Cases, prices, sets of steps, and right answers.
+-- Cases, costs, sets of steps, and right answers.
 pub mod States
 pub mod Amounts
 pub mod Limits

@@ -1,4 +1,4 @@
--- What it costs that a step stands at the end, and that it does not.
+-- The costs to keep and to drop a step.
 use Rattle.std.specs.Prelude.{Bool, true, false, ◌+◌, ◌≤◌}
 use Rattle.saga_def.specs.declared.steps.Price.{Price}
 use Rattle.saga_def.specs.declared.steps.Price.TheVariants.{Of, Never}
@@ -7,13 +7,13 @@ use Rattle.saga_case.specs.declared.states.StepState.{StepState}
 use Rattle.saga_case.specs.declared.states.StepState.TheVariants.{Waiting, Running, Committed, Failed, Undoing, Undone, Fixed}
 use Rattle.saga_case.specs.Limits.{max_step_price}
 
--- a sum that has a never is never
+-- the sum of two costs; it is never if one of them is
 abbrev pub plus : Price → Price → Price
 plus (Of a) (Of b) = Of (a + b)
 plus (Of a) Never = Never
 plus Never q = Never
 
--- the stand price of a step, by whether the saga was aborted and the step's state; a busy step has none
+-- the cost to keep a step, by whether the saga was aborted and the step's state; never for a busy step
 abbrev pub stand_of : Bool → StepState → Step → Price
 stand_of false Waiting step = plus step.run step.keep
 stand_of true Waiting step = Never
@@ -24,7 +24,7 @@ stand_of aborted Undoing step = Never
 stand_of aborted Undone step = Never
 stand_of aborted Fixed step = step.keep
 
--- the leave price of a step, by its state; a busy step has none
+-- the cost to drop a step, by its state; never for a busy step
 abbrev pub leave_of : StepState → Step → Price
 leave_of Waiting step = step.skip
 leave_of Running step = Never
@@ -34,7 +34,7 @@ leave_of Undoing step = Never
 leave_of Undone step = step.skip
 leave_of Fixed step = Never
 
--- a price that is a number is at most max_step_price
+-- a cost that is a number is at most max_step_price
 abbrev pub IsBounded : Price → Type 0
 IsBounded (Of amount) = amount ≤ max_step_price
 IsBounded Never = Unit {0}

@@ -18,7 +18,8 @@ pub record HasShape (t : Terms) (plan : Plan) : Type 0 where
   pub stand : length plan.stand ≡ t.count
   pub links : length plan.links ≡ length t.needs
 
--- the kept set is closed, the cost is its cost, and the flow is one of the case with that value
+-- the kept set is dependency-closed, the plan's cost is that of the set, and the flow is one of the case with that
+-- value
 pub record IsRightPlan (t : Terms) (plan : Plan) : Type 0 where
   pub shape : HasShape t plan
   pub closed : IsClosed t.needs (member plan.kept)
@@ -27,7 +28,7 @@ pub record IsRightPlan (t : Terms) (plan : Plan) : Type 0 where
   pub conserved : IsConserved t (flow_of plan)
   pub valued : value_of t (flow_of plan) ≡ plan.cost
 
--- not empty, and each number is a step's
+-- not empty, and each number is that of a step
 pub record IsListOfSteps (t : Terms) (chain : List ℕ) : Type 0 where
   pub some : 0 < length chain
   pub known : All (λ s. s < t.count) chain
@@ -36,15 +37,15 @@ pub record IsListOfSteps (t : Terms) (chain : List ℕ) : Type 0 where
 pub record IsLinked (t : Terms) (chain : List ℕ) : Type 0 where
   pub each : (k : ℕ) → k + 1 < length chain → NeedsDirectly t.needs (slice_index chain k) (slice_index chain (k + 1))
 
--- the first step cannot be left out
+-- the first step cannot be dropped
 abbrev pub IsForced : Terms → List ℕ → Type 0
 IsForced t chain = t.leave (slice_index chain 0) ≡ Never
 
--- the last step cannot stand
+-- the last step cannot be kept
 abbrev pub IsForbidden : Terms → List ℕ → Type 0
 IsForbidden t chain = t.stand (slice_index chain (length chain - 1)) ≡ Never
 
--- a chain from a step that cannot be left out to one that cannot stand
+-- a chain from a step that cannot be dropped to one that cannot be kept
 pub record IsRightChain (t : Terms) (chain : List ℕ) : Type 0 where
   pub steps : IsListOfSteps t chain
   pub forced : IsForced t chain
@@ -55,7 +56,7 @@ abbrev pub IsRight : Terms → Answer → Type 0
 IsRight t (answer.Plan plan) = IsRightPlan t plan
 IsRight t (answer.Blocked chain) = IsRightChain t chain
 
--- what a right answer settles: the kept set is least, or no set is allowed
+-- the consequence of a right answer: the kept set is a minimum-cost set, or no set is allowed
 abbrev pub Settles : Terms → Answer → Type 0
 Settles t (answer.Plan plan) = IsLeast t (member plan.kept)
 Settles t (answer.Blocked chain) = NoneIsAllowed t

@@ -1,4 +1,4 @@
--- What a case holds.
+-- The contents of a case.
 use Rattle.std.specs.Prelude.{ℕ, Bool, List, length, slice_index_or, All, ◌≡◌, ◌<◌}
 use Rattle.saga_def.specs.Contents.{Contents}
 use Rattle.saga_def.specs.Sound.{IsSound}
@@ -19,18 +19,18 @@ situation definition states aborted = record { definition = definition; states =
 abbrev pub AreDrained : List StepState → Type 0
 AreDrained states = All (λ (s : StepState). ¬ IsBusy s) states
 
--- the first busy step has that number
+-- the first busy step has this number
 pub record IsFirstBusy (states : List StepState) (step : ℕ) : Type 0 where
   pub within : step < length states
   pub busy : IsBusy (slice_index_or states step Waiting)
   pub first : (k : ℕ) → k < step → ¬ IsBusy (slice_index_or states k Waiting)
 
--- one state for each step, none of them busy
+-- one state for each step, none of which is busy
 pub record HasStates (definition : Contents) (states : List StepState) : Type 0 where
   pub paired : length states ≡ length definition.steps
   pub drained : AreDrained states
 
--- what holds of each case
+-- the properties of each case
 pub record IsAtRest (c : Situation) : Type 0 where
   pub sound : IsSound c.definition
   pub states : HasStates c.definition c.states

@@ -3,7 +3,7 @@ use Rattle.std.specs.Prelude.{ℕ, List, codes}
 use Rattle.saga_case.specs.declared.states.StepState.{StepState}
 use Rattle.saga_case.specs.declared.states.StepState.TheVariants.{Waiting, Running, Committed, Failed, Undoing, Undone, Fixed}
 
--- the action or the compensation is on its way
+-- the action or the compensation is in progress
 abbrev pub IsBusy : StepState → Type 0
 IsBusy Running = Unit {0}
 IsBusy Undoing = Unit {0}

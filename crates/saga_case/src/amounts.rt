@@ -1,10 +1,11 @@
-//! The amounts of a flow, which contracts see as a list of numbers.
+//! The amounts of a flow. Contracts see them as a list of numbers.
 ghost use Rattle.std.specs.Prelude.{◌≡◌, ◌<◌, ◌≤◌, ◌^◌, All, IfOk, length, slice_index};
 
 use std::alloc::{AllocError, Global};
 use std::marker::Model;
 
-/// Amounts of a flow in order, each in as few bytes as suffice for all of them: two, four or eight.
+/// Amounts of a flow in order. Each takes two, four or eight bytes, the smallest size that is sufficient for all of
+/// them.
 #[derive(Debug, Drop)]
 pub struct Amounts {
     amounts: Widths,
@@ -27,7 +28,7 @@ impl Model for Amounts {
     ghost view = { λ a. amounts_in a.amounts };
 }
 
-/// The bits that amounts have, taken together: no amount is greater.
+/// The bitwise or of all amounts. No amount is greater.
 fn bits_of(amounts: &[u64]) -> u64
     ensures { All (λ a. a ≤ result) amounts.now }
 {
@@ -78,7 +79,7 @@ impl Amounts {
         Ok(Amounts { amounts })
     }
 
-    /// How many there are.
+    /// The number of amounts.
     pub fn len(&self) -> usize
         ensures { result ≡ length self.now }
     {
@@ -89,7 +90,7 @@ impl Amounts {
         }
     }
 
-    /// The amount at a place, counted from 0.
+    /// The amount at an index, counted from 0.
     pub fn get(&self, place: usize) -> u64
         requires { place < length self.now }
         ensures { result ≡ slice_index self.now place }

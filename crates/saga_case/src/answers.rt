@@ -5,18 +5,18 @@ use crate::lists::{Chain, Marks};
 /// An answer to a case: a plan, or a chain that shows that no set of steps is allowed.
 #[derive(Debug, Drop)]
 pub enum Answer {
-    /// The steps that shall stand at the end, with the flow that shows that no allowed set costs less.
+    /// The steps to keep, with a flow that shows that no allowed set costs less.
     Plan(Plan),
-    /// Steps of which each needs the next directly: the first cannot be left out, and the last cannot stand.
+    /// Steps each of which needs the next directly: the first cannot be dropped, and the last cannot be kept.
     Blocked(Chain),
 }
 
-/// A plan: the set of steps that shall stand at the end, what it costs, and a flow of that value as its certificate.
+/// A plan: the set of steps to keep at the end, its cost, and as its certificate a flow of that value.
 ///
-/// The flow runs in Picard's network of the case: an arc from the source to each step, whose capacity is the step's
-/// leave price; an arc from each step to the sink, whose capacity is its stand price; and for each need an unbounded
-/// arc from the step to the one that it needs. `leave` and `stand` have one amount for each step, `links` one for each
-/// need in the definition's order.
+/// The flow is one in Picard's network of the case. The network has an arc from the source to each step, whose capacity
+/// is the cost to drop the step; an arc from each step to the sink, whose capacity is the cost to keep the step; and
+/// for each need an unbounded arc from the step to the step that it needs. `leave` and `stand` have one amount for each
+/// step, `links` has one for each need in the definition's order.
 #[derive(Debug, Drop)]
 pub struct Plan {
     pub kept: Marks,

@@ -1,4 +1,4 @@
-//! Cases.
+//! Cases: the input of the planner.
 ghost use Rattle.std.specs.Prelude.{◌≡◌, ◌<◌, ◌↔◌, if◌then◌else◌, IsTrue, IsOk, IfOk, IfErr, IfSome, IfNone, length, slice_get, true, false};
 ghost use Rattle.saga_case.specs.Situation.{AreDrained, IsFirstBusy, HasStates};
 ghost use Rattle.saga_def.specs.Order.{member};
@@ -8,7 +8,7 @@ use crate::states::StepState;
 use saga_def::{Definition, Price};
 use std::marker::Model;
 
-/// A definition with a state for each of its steps, none of them busy, and whether the saga was aborted.
+/// A definition with a state for each of its steps, none of which is busy, and whether the saga was aborted.
 #[derive(Debug, Drop)]
 pub struct Case<'d> {
     definition: &'d Definition,
@@ -26,12 +26,12 @@ impl<'d> Model for Case<'d> {
     ghost invariant = { λ c. IsAtRest (situation c.definition.now c.states.items c.aborted) };
 }
 
-/// Why states make no case. Both hand the states back.
+/// Why states do not form a case. Both variants return the states.
 #[derive(Debug, Drop)]
 pub enum CaseFault {
-    /// Another number of states than of steps.
+    /// The number of states is not the number of steps.
     WrongLength(Vec<StepState>),
-    /// The first step whose action or compensation is on its way.
+    /// The first step whose action or compensation is in progress.
     Busy(u16, Vec<StepState>),
 }
 
@@ -76,7 +76,7 @@ impl<'d> Case<'d> {
         })
     }
 
-    /// The case of a saga that was not aborted. Takes no memory; a fault hands the states back.
+    /// The case of a saga that was not aborted. Takes no memory. A fault returns the states.
     pub fn new(definition: &'d Definition, states: Vec<StepState>) -> Result<Case<'d>, CaseFault>
         ensures made { IfOk result (λ c. c ≡ situation definition.entry.now states.items false) }
         ensures exact { IsOk result ↔ HasStates definition.entry.now states.items }
@@ -85,7 +85,7 @@ impl<'d> Case<'d> {
         Case::make(definition, states, false)
     }
 
-    /// The case of an aborted saga, in which no waiting step can stand at the end. Otherwise as [`Case::new`].
+    /// The case of an aborted saga, in which no waiting step can be kept. Otherwise like [`Case::new`].
     pub fn aborted(
         definition: &'d Definition,
         states: Vec<StepState>,
@@ -104,7 +104,7 @@ impl<'d> Case<'d> {
         self.aborted
     }
 
-    /// The definition that the case was made of.
+    /// The definition of the case.
     pub fn definition(&self) -> &'d Definition
         ensures value { result.now ≡ self.now.definition }
         ensures at_rest { IsAtRest self.now }
@@ -128,7 +128,7 @@ impl<'d> Case<'d> {
         self.states[i as usize]
     }
 
-    /// What it costs that a step stands at the end.
+    /// The cost to keep a step: its effect is in place at the end.
     pub fn stand_price(&self, i: u16) -> Price
         requires { i < length self.now.definition.steps }
         ensures exact { result ≡ (terms_of self.now).stand i }
@@ -138,7 +138,7 @@ impl<'d> Case<'d> {
         stand_price_of(self.aborted, state, self.definition.step(i))
     }
 
-    /// What it costs that a step does not stand at the end.
+    /// The cost to drop a step: its effect is not in place at the end.
     pub fn leave_price(&self, i: u16) -> Price
         requires { i < length self.now.definition.steps }
         ensures exact { result ≡ (terms_of self.now).leave i }
@@ -160,7 +160,7 @@ impl<'d> Case<'d> {
         }
     }
 
-    /// What a set of steps costs: the stand prices of its members and the leave prices of the others.
+    /// The cost of a set of steps: the sum of the costs to keep its members and to drop the others.
     pub fn cost(&self, set: &[bool]) -> Price
         requires { length set.now ≡ length self.now.definition.steps }
         ensures { result ≡ cost_of (terms_of self.now) (member set.now) }
@@ -176,7 +176,7 @@ impl<'d> Case<'d> {
         Price::Of(total)
     }
 
-    /// Whether the case has that definition by content, those states, and that flag.
+    /// Whether the case has a definition with these contents, these states, and this flag.
     pub fn is_of(&self, definition: &Definition, states: &[StepState], aborted: bool) -> bool
         ensures { IsTrue result ↔ (self.now ≡ situation definition.now states.now aborted) }
     {

@@ -1,4 +1,5 @@
-//! Laws of least sets, of faults and of first busy steps, over the definitions alone; and the number that the limit is.
+//! Laws of minimum-cost sets, of faults and of first busy steps, about the definitions alone; and the value of the
+//! limit. In names, *least* means minimum-cost.
 ghost use Rattle.std.specs.Prelude.{◌≡◌, ◌<◌, ℕ, length, slice_get, slice_index_or, IfSome, IsTrue, false};
 ghost use Rattle.saga_def.specs.declared.steps.Price.TheVariants.{Never};
 ghost use Rattle.saga_def.specs.Contents.{Contents};
@@ -14,14 +15,14 @@ use crate::cases::Case;
 use crate::prices::MAX_STEP_PRICE;
 use crate::states::StepState;
 
-/// Backward recovery: where no price is above 0 or never and no compensation failed for good, the empty set is least.
+/// Backward recovery: if every cost is 0 and no compensation failed permanently, the empty set is a minimum-cost set.
 pub fn leaves_all_out_for_free(case: &Case)
     ensures { IsFree case.now → IsLeast (terms_of case.now) none }
 {
     let _ = case.states();
 }
 
-/// A committed step whose compensation has the price never is in each allowed set.
+/// A committed step whose compensation has the cost never is in each allowed set.
 pub fn keeps_what_cannot_be_undone(case: &Case, step: u16)
     requires { step < length case.now.definition.steps }
     ensures { slice_index_or case.now.states step Waiting ≡ Committed
@@ -31,8 +32,8 @@ pub fn keeps_what_cannot_be_undone(case: &Case, step: u16)
     let _ = case.states();
 }
 
-/// An allowed set keeps to the states: no step that failed or was undone is in it, and each whose compensation failed
-/// for good is.
+/// An allowed set respects the states: it has no step that failed or was undone, and it has each step whose
+/// compensation failed permanently.
 pub fn keeps_to_the_states(case: &Case)
     ensures failed { AllowedSets (terms_of case.now) (HasNone case.now.states Failed) }
     ensures undone { AllowedSets (terms_of case.now) (HasNone case.now.states Undone) }
@@ -41,7 +42,7 @@ pub fn keeps_to_the_states(case: &Case)
     let _ = case.states();
 }
 
-/// In an aborted case an allowed set has no waiting step: what has not begun is not begun any more.
+/// In an aborted case an allowed set has no waiting step, so no step that has not started is started.
 pub fn begins_nothing_once_aborted(case: &Case)
     ensures { IsTrue case.now.aborted
         → AllowedSets (terms_of case.now) (HasNone case.now.states Waiting) }
@@ -49,8 +50,9 @@ pub fn begins_nothing_once_aborted(case: &Case)
     let _ = case.states();
 }
 
-/// What is called the first is one: of states for a definition at most one fault is the first that applies, and none where
-/// they make a case; at most one busy step is the first, and none where no step is busy.
+/// The first fault and the first busy step are unique. At most one fault of states for a definition is the first that
+/// applies, and there is none if the states form a case. At most one busy step is the first, and there is none if no
+/// step is busy.
 #[tactic(auto, using(crate::proofs::LawLemmas::has_one_fault, crate::proofs::LawLemmas::has_no_fault, crate::proofs::LawLemmas::has_one_first_busy, crate::proofs::LawLemmas::has_no_busy))]
 pub fn fault_laws(states: &Vec<StepState>)
     ensures one { (d : Contents) → HasOneFault d states.now }
@@ -59,14 +61,14 @@ pub fn fault_laws(states: &Vec<StepState>)
     ensures drained { HasNoBusy states.now.items }
 {}
 
-/// All least sets cost the same, and where no set is allowed there is none.
+/// All minimum-cost sets have the same cost. If no set is allowed, there is no minimum-cost set.
 #[tactic(auto, using(crate::proofs::LawLemmas::has_one_least_cost, crate::proofs::LawLemmas::has_no_least))]
 pub fn least_laws()
     ensures cost { (t : Terms) → HasOneLeastCost t }
     ensures none { (t : Terms) → HasNoLeast t }
 {}
 
-/// The constant is the number that the bound on prices names.
+/// The constant equals the number in the bound on costs.
 pub fn limit_laws()
     ensures { MAX_STEP_PRICE ≡ max_step_price }
 {}

@@ -1,8 +1,8 @@
-//! A case is a saga at rest, for which a plan is wanted: its definition, the state of each step, and whether it was
-//! aborted. This crate says what each step costs, what a set of steps costs, which sets are allowed, and when an
-//! answer to a case is right.
+//! A case is the input of the planner: the definition of a saga in which no step is busy, the state of each step, and
+//! whether the saga was aborted. This crate defines the cost of each step and of a set of steps, which sets are
+//! allowed, and when an answer to a case is right.
 //!
-//! A trip of flight, hotel and tour, whose tour has failed:
+//! In this example, a trip has the steps flight, hotel and tour, and the tour has failed:
 //!
 //! ```
 //! let mut states = Vec::new(alloc);
@@ -16,7 +16,7 @@
 //! let case = Case::new(trip, states).ok()?;
 //! let none = vec![in alloc; false; trip.steps()].ok()?;
 //! let all = vec![in alloc; true; trip.steps()].ok()?;
-//! // Never, both of them: the flight cannot be undone, and the tour has failed.
+//! // Both are never: the flight cannot be undone, and the tour has failed.
 //! Some((case.cost(&none), case.cost(&all)))
 //! ```
 #![tactic(auto)]

@@ -1,9 +1,9 @@
-//! The lists of an answer, which contracts see as lists: two of the same items are equal.
+//! The lists of an answer. Contracts see them as lists, so two lists of the same items are equal.
 ghost use Rattle.std.specs.Prelude.{◌≡◌};
 
 use std::marker::Model;
 
-/// A set of steps: a mark for each step in order.
+/// A set of steps: a truth value for each step in order.
 #[derive(Debug, Drop)]
 pub struct Marks {
     marks: Vec<bool>,
@@ -18,14 +18,14 @@ impl Model for Marks {
 }
 
 impl Marks {
-    /// The marks of a list, whose memory it takes over.
+    /// The marks of a list. It takes over the list's memory.
     pub fn new(marks: Vec<bool>) -> Marks
         ensures { result ≡ marks.items }
     {
         Marks { marks }
     }
 
-    /// The marks, borrowed.
+    /// The marks as a slice.
     pub fn as_slice(&self) -> &[bool]
         ensures { result.now ≡ self.now }
     {
@@ -48,14 +48,14 @@ impl Model for Chain {
 }
 
 impl Chain {
-    /// The chain of a list, whose memory it takes over.
+    /// The chain of a list. It takes over the list's memory.
     pub fn new(steps: Vec<u16>) -> Chain
         ensures { result ≡ steps.items }
     {
         Chain { steps }
     }
 
-    /// The steps, borrowed.
+    /// The steps as a slice.
     pub fn as_slice(&self) -> &[u16]
         ensures { result.now ≡ self.now }
     {

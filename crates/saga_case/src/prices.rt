@@ -1,4 +1,4 @@
-//! What it costs that a step stands at the end, and that it does not.
+//! The costs to keep and to drop a step.
 ghost use Rattle.std.specs.Prelude.{◌≡◌};
 ghost use Rattle.saga_def.specs.Rules.{HasSmallPrices, IsSmall};
 ghost use Rattle.saga_case.specs.Prices.{plus, stand_of, leave_of, IsBounded};
@@ -6,7 +6,7 @@ ghost use Rattle.saga_case.specs.Prices.{plus, stand_of, leave_of, IsBounded};
 use crate::states::StepState;
 use saga_def::{MAX_PRICE, Price, Step};
 
-/// The greatest stand or leave price of a step that is a number.
+/// The maximum cost to keep or to drop a step, if it is a number.
 pub const MAX_STEP_PRICE: u64 = 2 * MAX_PRICE;
 
 fn sum(a: Price, b: Price) -> Price

@@ -2,26 +2,26 @@
 ghost use Rattle.std.specs.Prelude.{◌≡◌, ◌↔◌, IsTrue};
 ghost use Rattle.saga_case.specs.States.{word_of, IsBusy};
 
-/// Where a step of a saga stands.
+/// The state of a step of a saga.
 #[derive(Clone, Copy, Debug, PartialEq, Eq)]
 pub enum StepState {
-    /// Not begun, or missed and to be tried again.
+    /// Not started, or failed and to be retried.
     Waiting,
-    /// Its action is on its way.
+    /// Its action is in progress.
     Running,
     Committed,
-    /// Its action failed, and left nothing.
+    /// Its action failed, and left no effect.
     Failed,
-    /// Its compensation is on its way.
+    /// Its compensation is in progress.
     Undoing,
     /// Compensated.
     Undone,
-    /// Committed for good: its compensation failed.
+    /// Committed permanently: its compensation failed.
     Fixed,
 }
 
 impl StepState {
-    /// The state in one word, as `waiting`.
+    /// The state in one word, for example `waiting`.
     pub fn word(&self) -> &'static str
         ensures { result.now ≡ word_of self.now }
     {
@@ -36,7 +36,7 @@ impl StepState {
         }
     }
 
-    /// Whether its action or its compensation is on its way.
+    /// Whether its action or its compensation is in progress.
     pub fn is_busy(&self) -> bool
         ensures { IsTrue result ↔ IsBusy self.now }
     {

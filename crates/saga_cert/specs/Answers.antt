@@ -1,5 +1,5 @@
--- The answer that a JSON value holds, and the value that is written for an answer, as the tables of the format say,
--- a key a line.
+-- The answer in a JSON value, and the value that is written for an answer. Both follow the tables of the format, with
+-- one line for each key.
 use Rattle.std.specs.Prelude.{ℕ, List, [], ◌∷◌, length, Option, Some, None, Result, Ok, Err, codes, if◌then◌else◌, map, ◌≡◌}
 use Rattle.std.specs.Str.{bytes_eq}
 use Rattle.serde_json.specs.Data.{Data, number, string, array, object, unsigned, no_members, member}
@@ -52,7 +52,7 @@ answer_of_kind (Some kind) value =
     if bytes_eq kind (codes "plan") then (plan_of value >>= (λ plan. Ok (Plan plan)))
     else (if bytes_eq kind (codes "blocked") then (chain_of value >>= (λ chain. Ok (Blocked chain))) else Err Kind)
 
--- the answer that a value holds, or the first fault
+-- the answer in a value, or the first fault
 abbrev pub answer_of : Data → Result Answer JsonFault
 answer_of value = answer_of_kind (text_at (codes "kind") value) value
 
@@ -81,7 +81,7 @@ abbrev pub answer_form : Answer → Data
 answer_form (Plan plan) = plan_form plan
 answer_form (Blocked chain) = chain_form chain
 
--- a plan has as many marks as numbers of the flow to the sink
+-- a plan has as many truth values as amounts of the flow to the sink
 abbrev pub IsPaired : Answer → Type 0
 IsPaired (Plan plan) = length plan.kept ≡ length plan.stand
 IsPaired (Blocked chain) = Unit {0}

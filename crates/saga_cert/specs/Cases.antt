@@ -1,4 +1,4 @@
--- The states that a JSON value holds, and the value that is written for a case.
+-- The states in a JSON value, and the value that is written for a case.
 use Rattle.std.specs.Prelude.{ℕ, List, [], ◌∷◌, Bool, true, false, Option, Some, None, Result, Ok, Err, codes, if◌then◌else◌, map}
 use Rattle.std.specs.Str.{bytes_eq}
 use Rattle.serde_json.specs.Data.{Data, boolean, string, array, object, no_members, member, Members}
@@ -31,7 +31,7 @@ abbrev pub state_of : Data → Result StepState JsonFault
 state_of (string word) = state_named word
 state_of _ = Err BadType
 
--- a truth value; false where missing
+-- a truth value; false if missing
 abbrev pub flag_in : Option Data → Result Bool JsonFault
 flag_in None = Ok false
 flag_in (Some (boolean flag)) = Ok flag
@@ -49,7 +49,7 @@ case_parts_of value = do
   aborted ← flag_in (get (codes "aborted") value)
   Ok (record { states = states; aborted = aborted })
 
--- what a value holds, or the first fault
+-- the contents of a value, or the first fault
 abbrev pub written_of : Data → Result Written JsonFault
 written_of value = if is_object value then case_parts_of value else Err Kind
 
@@ -59,7 +59,7 @@ abbrev pub states_member : List StepState → Members
 states_member states =
     member (codes "states") (array (items_from (map (λ state. string (word_of state)) states))) no_members
 
--- the value of a case: `aborted` is written only where it is true
+-- the value of a case: `aborted` is written only if it is true
 abbrev pub case_form : Situation → Data
 case_form c =
     object (if c.aborted then member (codes "aborted") (boolean true) (states_member c.states) else states_member c.states)

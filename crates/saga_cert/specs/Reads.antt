@@ -1,4 +1,4 @@
--- What reading a text gives.
+-- The result of reading a text.
 use Rattle.std.specs.Prelude.{ℕ, List, length, Result, Ok, Err, ◌≡◌, ◌≢◌}
 use Rattle.serde_json.specs.Data.{Data}
 use Rattle.saga_def.specs.Contents.{Contents}
@@ -11,11 +11,11 @@ use Rattle.saga_json.specs.Texts.{IsTextOf}
 use Rattle.saga_cert.specs.Answers.{answer_of}
 use Rattle.saga_cert.specs.Cases.{Written, written_of}
 
--- the text is of a value that holds what this reading gives
+-- the text is that of a value with this reading
 abbrev pub HoldsAnswer : List ℕ → Result Answer JsonFault → Type 0
 HoldsAnswer text reading = (value : Data) × IsTextOf value text × (answer_of value ≡ reading)
 
--- the answer that the text holds, or else the first fault, want of memory apart
+-- the answer in the text, or otherwise the first fault, except for lack of memory
 abbrev pub ReadsAnswer : List ℕ → Result Answer JsonFault → Type 0
 ReadsAnswer text (Err NotJson) = (value : Data) → IsTextOf value text → ⊥
 ReadsAnswer text (Err OutOfMemory) = Unit {0}
@@ -26,7 +26,7 @@ ReadsAnswer text reading = HoldsAnswer text reading
 abbrev pub HoldsCase : List ℕ → Result Written JsonFault → Type 0
 HoldsCase text reading = (value : Data) × IsTextOf value text × (written_of value ≡ reading)
 
--- the case of that definition that the text holds, or else the first fault, want of memory apart
+-- the case of this definition in the text, or otherwise the first fault, except for lack of memory
 abbrev pub ReadsCase : Contents → List ℕ → Result Situation JsonFault → Type 0
 ReadsCase definition text (Ok c) =
     HoldsCase text (Ok (record { states = c.states; aborted = c.aborted }))
@@ -39,7 +39,7 @@ ReadsCase definition text (Err (Busy step)) =
 ReadsCase definition text (Err OutOfMemory) = Unit {0}
 ReadsCase definition text (Err fault) = HoldsCase text (Err fault)
 
--- why states make no case of the definition
+-- why states do not form a case of the definition
 abbrev pub IsCaseFault : Contents → List StepState → JsonFault → Type 0
 IsCaseFault definition states WrongLength = length states ≢ length definition.steps
 IsCaseFault definition states (Busy step) = (length states ≡ length definition.steps) × IsFirstBusy states step

@@ -1,4 +1,4 @@
--- What a text says of a case, as contracts see it.
+-- The contents of the text of a case, as contracts see them.
 use Rattle.saga_cert.specs.declared.states.Written.{Written as Parts}
 use Rattle.saga_cert.specs.Cases.{Written}
 

@@ -1,4 +1,4 @@
-//! Reading an answer from a JSON value.
+//! Reads an answer from a JSON value.
 ghost use Rattle.std.specs.Prelude.{◌≡◌};
 ghost use Rattle.serde_json.specs.View.{view};
 ghost use Rattle.saga_json.specs.Reads.{Gives};
@@ -50,7 +50,7 @@ fn chain_of(alloc: Global, value: &Value) -> Result<Chain, JsonFault>
     Ok(Chain::new(u16s_at(alloc, value, "chain")?))
 }
 
-/// The answer that a value holds.
+/// The answer in a value.
 pub fn answer_of_value(alloc: Global, value: &Value) -> Result<Answer, JsonFault>
     ensures { Gives (λ a. a) result (answer_of (view value.now)) }
 {

@@ -1,4 +1,4 @@
-//! The case of what a text says.
+//! The case in a text.
 ghost use Rattle.std.specs.Prelude.{◌≡◌, IfOk, IfErr};
 ghost use Rattle.saga_case.specs.Situation.{situation, HasStates};
 ghost use Rattle.saga_cert.specs.Reads.{IsCaseFault};
@@ -8,7 +8,7 @@ use saga_case::{Case, CaseFault};
 use saga_def::Definition;
 use saga_json::JsonFault;
 
-/// The case, which takes no memory.
+/// The case of these contents. Takes no memory.
 pub fn case_of<'d>(definition: &'d Definition, written: Written) -> Result<Case<'d>, JsonFault>
     ensures made { IfOk result
         (λ c. (c ≡ situation definition.entry.now written.states.items written.aborted)

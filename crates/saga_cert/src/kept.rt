@@ -1,4 +1,4 @@
-//! The list `kept` of a plan, and the marks that it stands for.
+//! The list `kept` of a plan, and the set of steps that it denotes.
 ghost use Rattle.std.specs.Prelude.{◌≡◌, ◌↔◌, nat_lt, IsTrue, IfOk};
 ghost use Rattle.std.specs.List.{list_all};
 ghost use Rattle.std.specs.List.Sorted.{IsStrictlyIncreasing};
@@ -27,7 +27,7 @@ fn is_kept(numbers: &[u64], count: usize) -> bool
     is_increasing(numbers) && numbers.iter().all(|number| *number < count as u64)
 }
 
-/// A mark for each number below the count, true where the list has it.
+/// A truth value for each number below the count: true if the number is in the list.
 fn marks_of(alloc: Global, numbers: &[u64], count: usize) -> Result<Vec<bool>, AllocError>
     requires { IsTrue (list_all (λ n. nat_lt n count) numbers.now) }
     ensures { IfOk result (λ marks. marks.items ≡ marks_of count numbers.now) }
@@ -39,7 +39,7 @@ fn marks_of(alloc: Global, numbers: &[u64], count: usize) -> Result<Vec<bool>, A
     Ok(marks)
 }
 
-/// The marks of a list whose numbers increase below the count.
+/// The truth values for a list whose numbers increase and are below the count.
 pub fn kept_of(alloc: Global, numbers: &[u64], count: usize) -> Result<Vec<bool>, JsonFault>
     ensures { Gives (λ marks. marks.items) result (kept_of count numbers.now) }
 {

@@ -1,10 +1,10 @@
-//! What holds of the reading of texts.
+//! Laws of the reading of texts.
 ghost use Rattle.std.specs.Prelude.{ℕ, List};
 ghost use Rattle.saga_def.specs.Contents.{Contents};
 ghost use Rattle.saga_cert.specs.Laws.{HasOneAnswer, HasOneCase};
 
-/// Does nothing: its contract is the law. Want of memory aside, a text read as a case of a definition gives one case or
-/// one fault, and read as an answer one answer or one fault.
+/// Has an empty body: its contract is the law. Except for lack of memory, reading a text as a case of a definition has
+/// one result, a case or a fault. Reading it as an answer has one result, an answer or a fault.
 #[tactic(auto, using(crate::proofs::LawLemmas::has_one_answer, crate::proofs::LawLemmas::has_one_case))]
 pub fn reading_laws()
     ensures cases { (definition : Contents) (text : List ℕ) → HasOneCase definition text }

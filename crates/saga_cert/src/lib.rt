@@ -1,8 +1,8 @@
 //! The JSON texts of cases and answers.
 //!
-//! `docs/FORMATS.md` of the repository has both forms. Reading takes any text that `serde_json` reads as a value of
-//! the form, whatever its order of keys and its white space; of two equal keys the last one counts. Writing gives the
-//! one compact text, with keys in ascending order and no line end.
+//! `docs/FORMATS.md` of the repository has both formats. Reading accepts every text that `serde_json` parses to a value
+//! of the format, with any order of keys and any white space. If a key occurs twice, the last one counts. Writing
+//! produces one compact text, with keys in ascending order and without a line feed.
 #![tactic(auto)]
 
 mod answers;

@@ -1,4 +1,4 @@
-//! Reading the states of a case from a JSON value.
+//! Reads the states of a case from a JSON value.
 ghost use Rattle.std.specs.Prelude.{◌≡◌, map, option_map};
 ghost use Rattle.serde_json.specs.View.{view};
 ghost use Rattle.saga_json.specs.Reads.{Gives, each};
@@ -9,7 +9,7 @@ use saga_json::{JsonFault, check_keys, items_at};
 use serde_json::Value;
 use std::alloc::Global;
 
-/// What a text says of a case.
+/// The contents of the text of a case.
 #[derive(Drop)]
 pub struct Written {
     pub states: Vec<StepState>,
@@ -54,7 +54,7 @@ fn states_of(alloc: Global, items: &[Value]) -> Result<Vec<StepState>, JsonFault
     Ok(states)
 }
 
-/// A truth value: false where there is none.
+/// A truth value. It is false if there is none.
 fn flag_in(value: Option<&Value>) -> Result<bool, JsonFault>
     ensures { result ≡ flag_in (option_map (λ v. view v.now) value.entry) }
 {
@@ -75,7 +75,7 @@ fn case_parts_of(alloc: Global, value: &Value) -> Result<Written, JsonFault>
     Ok(Written { states, aborted })
 }
 
-/// What a value says of a case.
+/// The contents of the value of a case.
 pub fn written_of(alloc: Global, value: &Value) -> Result<Written, JsonFault>
     ensures { Gives written result (written_of (view value.now)) }
 {

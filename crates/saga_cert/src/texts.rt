@@ -1,4 +1,4 @@
-//! Reading and writing the texts.
+//! Reads and writes the texts.
 ghost use Rattle.std.specs.Prelude.{◌≡◌, IfOk, Ok, string_bytes};
 ghost use Rattle.serde_json.specs.Written.{compact_text};
 ghost use Rattle.saga_cert.specs.Answers.{answer_form, IsPaired};
@@ -28,7 +28,7 @@ pub fn read_case<'d>(
     case_of(definition, written)
 }
 
-/// Reads an answer, in time linear in the text. Its lists may have any lengths.
+/// Reads an answer, in time linear in the text. Its lists may have any length.
 pub fn read_answer(alloc: Global, bytes: &[u8]) -> Result<Answer, JsonFault>
     ensures { ReadsAnswer bytes.now result }
 {

@@ -30,7 +30,7 @@ fn steps_value(alloc: Global, steps: &[u16]) -> Result<Value, AllocError>
     Ok(Value::Array(list))
 }
 
-/// The list of the numbers of the true marks.
+/// The list of the indices at which the truth value is true.
 fn numbers_value(alloc: Global, marks: &[bool]) -> Result<Value, AllocError>
     ensures { IfOk result (λ v. view v ≡ numbers (numbers_from 0 marks.now)) }
 {

@@ -1,4 +1,4 @@
--- What holds of the faults of answers, whatever the case and the answer.
+-- Laws of the faults of answers, for every case and answer.
 use Rattle.std.specs.Prelude.{◌≡◌}
 use Rattle.saga_case.specs.declared.answers.Answer.{Answer}
 use Rattle.saga_case.specs.Right.{IsRight}

@@ -9,7 +9,7 @@ use crate::flows::{sum_at, total};
 use saga_case::{Case, Plan};
 use saga_def::Price;
 
-/// Whether each list of the plan is as long as it has to be.
+/// Whether each list of the plan has the required length.
 pub fn has_shape(case: &Case, plan: &Plan) -> bool
     ensures { IsTrue result ↔ HasShape (terms_of case.now) plan.now }
 {
@@ -21,7 +21,7 @@ pub fn has_shape(case: &Case, plan: &Plan) -> bool
         && plan.links.len() == needs
 }
 
-/// Whether a set holds, with each step, all that it needs.
+/// Whether a set is dependency-closed.
 pub fn is_closed(case: &Case, kept: &[bool]) -> bool
     requires { length kept.now ≡ length case.now.definition.steps }
     ensures { IsTrue result ↔ IsClosed case.now.definition.needs (member kept.now) }
@@ -44,7 +44,7 @@ fn fits_in(amount: u64, price: Price) -> bool
     }
 }
 
-/// Whether no arc of the source or the sink carries more than the step's price.
+/// Whether no arc of the source or the sink exceeds its capacity.
 pub fn is_within(case: &Case, plan: &Plan) -> bool
     requires { HasShape (terms_of case.now) plan.now }
     ensures { IsTrue result ↔ IsWithin (terms_of case.now) (flow_of plan.now) }
@@ -61,7 +61,7 @@ pub fn is_within(case: &Case, plan: &Plan) -> bool
     true
 }
 
-/// Whether at a step as much flows in as out.
+/// Whether at a step the inflow equals the outflow.
 fn is_conserved_at(case: &Case, plan: &Plan, s: u16) -> bool
     requires shape { HasShape (terms_of case.now) plan.now }
     requires step { s < length case.now.definition.steps }
@@ -77,7 +77,7 @@ fn is_conserved_at(case: &Case, plan: &Plan, s: u16) -> bool
     leave + into == stand + out
 }
 
-/// Whether at each step as much flows in as out. Takes no memory, and time linear in the steps and needs.
+/// Whether at each step the inflow equals the outflow. Takes no memory, and time linear in the steps and needs.
 pub fn is_conserved(case: &Case, plan: &Plan) -> bool
     requires { HasShape (terms_of case.now) plan.now }
     ensures { IsTrue result ↔ IsConserved (terms_of case.now) (flow_of plan.now) }
@@ -91,7 +91,7 @@ pub fn is_conserved(case: &Case, plan: &Plan) -> bool
     true
 }
 
-/// Whether what leaves the source is the plan's cost.
+/// Whether the flow from the source equals the plan's cost.
 pub fn has_value(case: &Case, plan: &Plan) -> bool
     requires { HasShape (terms_of case.now) plan.now }
     ensures { IsTrue result ↔ (value_of (terms_of case.now) (flow_of plan.now) ≡ plan.now.cost) }

@@ -13,24 +13,24 @@ use Rattle.saga_flow.specs.Network.{Network}
 abbrev pub node_of : ℕ → ℕ
 node_of s = 2 + s
 
--- a price as a capacity: never bounds nothing
+-- a cost as a capacity: never is unbounded
 abbrev pub cap_of : Price → Cap
 cap_of (price.Of amount) = cap.Of amount
 cap_of price.Never = cap.Unbounded
 
--- from the source to a step, up to its leave price
+-- from the source to a step, with the cost to drop the step as capacity
 abbrev pub leave_arc : Terms → ℕ → Arc
 leave_arc t s = record { from = 0; to = node_of s; cap = cap_of (t.leave s) }
 
--- from a step to the sink, up to its stand price
+-- from a step to the sink, with the cost to keep the step as capacity
 abbrev pub stand_arc : Terms → ℕ → Arc
 stand_arc t s = record { from = node_of s; to = 1; cap = cap_of (t.stand s) }
 
--- from a step to one that it needs, without bound
+-- from a step to a step that it needs, unbounded
 abbrev pub link_arc : Need → Arc
 link_arc n = record { from = node_of n.step; to = node_of n.on; cap = cap.Unbounded }
 
--- an arc for each of the first so many numbers, in order
+-- an arc for each number below a limit, in order
 unfoldable pub arcs_below : ℕ → (ℕ → Arc) → List Arc
 arcs_below zero arc = []
 arcs_below (suc n) arc = arcs_below n arc ++ arc n ∷ []

@@ -9,15 +9,15 @@ use Rattle.saga_closure.specs.CaseNet.{network_of}
 use Rattle.saga_closure.specs.declared.searching.Found.{Found}
 use Rattle.saga_closure.specs.declared.searching.Goal.{Goal}
 
--- no level
+-- the value for no level
 abbrev pub none : ℕ
 none = 65535
 
--- whether a level is one
+-- whether a value is a level
 abbrev pub is_level : ℕ → Bool
 is_level level = nat_lt level none
 
--- the source can send more to a step; a step can send more to the sink; a step to a step
+-- a residual arc leads from the source to a step; from a step to the sink; from a step to a step
 abbrev pub GoesIn : Terms → List ℕ → ℕ → Type 0
 GoesIn t on v = IsResidual (network_of t).arcs on 0 (2 + v)
 
@@ -30,14 +30,15 @@ Goes t on v w = IsResidual (network_of t).arcs on (2 + v) (2 + w)
 abbrev pub no_step : ResidualArc
 no_step = record { arc = 0; forward = 0 == 1 }
 
--- how a step came by its level: from the source, or by a residual arc from one a level lower
+-- why a step has its level: a residual arc leads to it from the source, or from a step one level lower
 abbrev pub CameBy : Terms → List ℕ → List ℕ → ℕ → Type 0
 CameBy t on level v =
     ((slice_index level v ≡ 0) × GoesIn t on v)
     ⊎ ((u : ℕ) × (u < t.count) × Goes t on u v × (slice_index level v ≡ slice_index level u + 1))
 
--- a search on the way: the layers before `depth` are done, that of `depth` stands in `order` from `first` to `end`, and its
--- first ones, to `next`, are done; those found from them follow. No step of a level below `dried` sends more to the sink
+-- a search in progress: the layers before `depth` are complete; the layer of `depth` is in `order` from `first` to
+-- `end`, and its steps before `next` are processed; the steps found from these follow. No step with a level below
+-- `dried` has residual capacity to the sink
 pub record IsSearch (t : Terms) (on level labelled order : List ℕ) (first end next depth dried : ℕ) : Type 0 where
   pub sized : length level ≡ t.count
   pub wide : length labelled ≡ words_for t.count
@@ -59,18 +60,18 @@ pub record IsSearch (t : Terms) (on level labelled order : List ℕ) (first end 
   pub back : (v : ℕ) → v < t.count → slice_index level v < none → CameBy t on level v
   pub marked : (v : ℕ) → v < t.count → holds labelled v ≡ true → slice_index level v < none
 
--- one step more has a level
+-- one more step has a level
 pub record IsLabelled (old new : Found) (v depth : ℕ) : Type 0 where
   pub level : new.level.items ≡ slice_set old.level.items v depth
   pub labelled : IsPut old.labelled.items v true new.labelled.items
   pub order : new.order.items ≡ old.order.items ++ v ∷ []
 
--- the levels of nodes when the search ended at a layer with a goal
+-- the levels of nodes after the search ended at a layer with a goal
 abbrev pub node_level : ℕ → List ℕ → ℕ → ℕ
 node_level depth level node =
     if node == 0 then 0 else (if node == 1 then depth + 2 else min (slice_index level (node - 2)) (depth + 1) + 1)
 
--- the steps of which a test is positive, of the first so many, are labelled 0
+-- of the steps below `so_far`, exactly those with a positive residual capacity have level 0
 pub record IsStart (room : ℕ → ℕ) (count : ℕ) (level labelled order : List ℕ) (so_far : ℕ) : Type 0 where
   pub sized : length level ≡ count
   pub wide : length labelled ≡ words_for count
@@ -80,7 +81,7 @@ pub record IsStart (room : ℕ → ℕ) (count : ℕ) (level labelled order : Li
   pub later : (v : ℕ) → so_far ≤ v → v < count → slice_index level v ≡ none
   pub marked : (v : ℕ) → v < count → holds labelled v ≡ true → slice_index level v < none
 
--- steps of a set that had no level get one, one after another
+-- the steps of a set that had no level get one, one after another
 pub data AreLabelled (Set : ℕ → Type 0) (depth : ℕ) (old : Found) : Found → Type 0 where
   no_more : AreLabelled Set depth old old
   one_more : {mid : Found} (v : ℕ) (last : Found) → AreLabelled Set depth old mid → Set v → slice_index mid.level.items v ≡ none → IsLabelled mid last v depth → AreLabelled Set depth old last
@@ -92,7 +93,8 @@ pub record IsAtGoal (t : Terms) (on : List ℕ) (found : Found) (goal : Goal) : 
   pub level : slice_index found.level.items goal.step ≡ goal.depth
   pub goes : IsOpen (network_of t).arcs on (record { arc = t.count + goal.step; forward = 0 == 0 }) (2 + goal.step) 1
 
--- a search without a goal: the steps with a level are those that the source reaches, and none of them sends more to the sink
+-- a search without a goal: the steps with a level are those that the source reaches, and none of them has residual
+-- capacity to the sink
 pub record IsReach (t : Terms) (on : List ℕ) (found : Found) : Type 0 where
   pub depth : ℕ
   pub search : IsSearch t on found.level.items found.labelled.items found.order.items (length found.order.items) (length found.order.items) (length found.order.items) depth depth

@@ -1,4 +1,4 @@
--- The network of a case over its definition's lists, searches in it, and a greatest flow.
+-- The network of a case over its definition's lists, searches in it, and a maximum flow.
 pub mod CaseNet
 pub mod Capacities
 pub mod Bits

@@ -1,4 +1,4 @@
--- Which steps a need joins.
+-- The steps that a need joins.
 use Rattle.std.specs.Prelude.{ℕ, if◌then◌else◌, slice_index_or, ◌*◌, ◌-◌}
 use Rattle.saga_def.specs.declared.steps.Need.{Need}
 use Rattle.saga_case.specs.Terms.{Terms}
@@ -10,7 +10,7 @@ no_need = record { step = 0; on = 0 }
 abbrev pub need_at : Terms → ℕ → Need
 need_at t k = slice_index_or t.needs k no_need
 
--- which step the residual arc of a need leaves, and to which it leads
+-- the tail and the head of the residual arc of a need
 abbrev pub tail_of : Terms → ResidualArc → ℕ
 tail_of t s = if s.forward then (need_at t (s.arc - 2 * t.count)).step else (need_at t (s.arc - 2 * t.count)).on
 

@@ -1,4 +1,4 @@
-//! Sets of numbers, a bit each.
+//! Sets of numbers as bits.
 ghost use Rattle.std.specs.Prelude.{◌≡◌, ◌<◌, ◌≤◌, ◌*◌, false, length};
 ghost use Rattle.saga_closure.specs.Bits.{IsPutBit, IsWithout, IsPut, IsJoined, IsJoinedTwo};
 
@@ -15,14 +15,14 @@ pub fn put_bit(word: u64, b: usize, on: bool) -> u64
     }
 }
 
-/// The bits of a word that another has not.
+/// The bits of a word that are not in another word.
 pub fn without(word: u64, less: u64) -> u64
     ensures { IsWithout word less result }
 {
     word & !less
 }
 
-/// Puts a number in or takes it out.
+/// Adds or removes a number.
 pub fn put(words: &mut [u64], i: usize, on: bool)
     requires { i < 64 * length words.old }
     ensures { IsPut words.old i on words.new }
@@ -31,7 +31,7 @@ pub fn put(words: &mut [u64], i: usize, on: bool)
     words[i / 64] = word;
 }
 
-/// Puts in each number of another set, which has no more words.
+/// Adds all numbers of another set, which has at most as many words.
 pub fn add_all(words: &mut [u64], more: &[u64])
     requires { length more.now ≤ length words.old }
     ensures { IsJoined words.old more.now words.new }
@@ -41,7 +41,7 @@ pub fn add_all(words: &mut [u64], more: &[u64])
     }
 }
 
-/// Puts in each number of two other sets, which have as many words.
+/// Adds all numbers of two other sets, which have the same number of words.
 pub fn add_both(words: &mut [u64], one: &[u64], two: &[u64])
     requires one { length one.now ≡ length words.old }
     requires two { length two.now ≡ length words.old }

@@ -1,4 +1,4 @@
-//! Prices as capacities.
+//! Costs as capacities.
 ghost use Rattle.std.specs.Prelude.{◌≡◌, IfOk, map};
 ghost use Rattle.saga_case.specs.Terms.{terms_of};
 ghost use Rattle.saga_closure.specs.Capacities.{AreCapacities, amount_of, endless};
@@ -7,10 +7,10 @@ use saga_case::Case;
 use saga_def::Price;
 use std::alloc::{AllocError, Global};
 
-/// The capacity without a bound: more than any bounded one.
+/// The unbounded capacity: more than any bounded one.
 pub const ENDLESS: u64 = 1 << 63;
 
-/// A price as a capacity.
+/// A cost as a capacity.
 fn capacity(price: Price) -> u64
     ensures { result ≡ amount_of price }
 {
@@ -20,7 +20,7 @@ fn capacity(price: Price) -> u64
     }
 }
 
-/// The leave prices of a case's steps, then their stand prices.
+/// The costs to drop the steps of a case, then the costs to keep them.
 pub fn capacities(alloc: Global, case: &Case) -> Result<Vec<u64>, AllocError>
     ensures { IfOk result (λ caps. AreCapacities (terms_of case.now) caps.items) }
 {
@@ -35,7 +35,7 @@ pub fn capacities(alloc: Global, case: &Case) -> Result<Vec<u64>, AllocError>
     Ok(caps)
 }
 
-/// Those without a bound, and 0 in place of the others.
+/// The unbounded capacities, with 0 in place of each bounded one.
 pub fn endless_only(alloc: Global, caps: &[u64]) -> Result<Vec<u64>, AllocError>
     ensures { IfOk result (λ only. only.items ≡ map endless caps.now) }
 {

@@ -1,4 +1,4 @@
-//! Chains of needs from a step that cannot be left out to one that cannot stand.
+//! Chains of needs from a step that cannot be dropped to one that cannot be kept.
 ghost use Rattle.std.specs.Prelude.{◌≡◌, ◌≢◌, ◌<◌, ◌^◌, ℕ, IfOk, IfNone, IfSome, false, slice_index};
 ghost use Rattle.saga_case.specs.Right.{IsRightChain};
 ghost use Rattle.saga_flow.specs.Reached.{HasUnbounded, Reaches};
@@ -13,8 +13,8 @@ use crate::rows::rows_of;
 use crate::searching::{Found, Goal, search};
 use std::alloc::{AllocError, Global};
 
-/// A chain from a step whose leave price is never to one whose stand price is never; none where no path of unbounded
-/// arcs leads from the source to the sink.
+/// A chain from a step whose cost to drop is never to one whose cost to keep is never. Returns `None` if no path of
+/// unbounded arcs leads from the source to the sink.
 pub fn unbounded_chain(alloc: Global, net: &ClosureNet) -> Result<Option<Vec<u16>>, AllocError>
     ensures some { IfOk result
         (λ chain. IfSome chain (λ steps. IsRightChain (terms_in net.now) steps.items)) }
@@ -43,7 +43,7 @@ pub fn unbounded_chain(alloc: Global, net: &ClosureNet) -> Result<Option<Vec<u16
     }
 }
 
-/// Whether some step's leave price is never.
+/// Whether the cost to drop some step is never.
 fn has_forced(net: &ClosureNet) -> bool
     ensures { result ≡ false → (s : ℕ) → s < (terms_in net.now).count
         → slice_index net.now.caps.now s ≢ 2 ^ 63 }
@@ -56,7 +56,7 @@ fn has_forced(net: &ClosureNet) -> bool
     false
 }
 
-/// The steps by which a search of empty amounts came to its goal.
+/// The steps of the path by which a search with zero amounts reached its goal.
 fn chain_to(
     alloc: Global,
     residual: &Residual,

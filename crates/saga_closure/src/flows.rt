@@ -1,4 +1,4 @@
-//! A greatest flow over a definition's lists.
+//! A maximum flow over a definition's adjacency lists.
 ghost use Rattle.std.specs.Prelude.{◌≡◌, ◌<◌, ◌^◌, IfOk, map};
 ghost use Rattle.saga_flow.specs.Network.{IsNetwork};
 ghost use Rattle.saga_flow.specs.Reached.{HasUnbounded, Reaches};
@@ -16,23 +16,23 @@ use crate::searching::{Found, NONE, search, start};
 use saga_flow::Progress;
 use std::alloc::{AllocError, Global};
 
-/// A greatest flow of a case's network.
+/// A maximum flow of a case's network.
 #[derive(Debug, Drop)]
 pub struct ClosureFlow {
-    /// The units that leave the source.
+    /// The amount that leaves the source.
     pub value: u64,
-    /// The units on each arc: from the source to each step, from each step to the sink, and along each need.
+    /// The amount on each arc: from the source to each step, from each step to the sink, and along each need.
     pub on: Vec<u64>,
-    /// The rounds in which the flow is reached from the empty one.
+    /// The number of rounds that lead from the empty flow to this one.
     pub rounds: u64,
     /// Whether the source reaches each step in the flow's residual network.
     pub reached: Vec<bool>,
 }
 
-/// The flow, round by round: each along a path that has the fewest steps of all, by the greatest amount that it carries.
+/// Computes the flow, round by round. Each round augments along a shortest path by the maximum amount that it carries.
 ///
-/// (The flow is Ford and Fulkerson's, the bound on rounds that of Edmonds and Karp, 1972; paths are found in phases as
-/// Dinic found them, 1970.)
+/// (The method is that of Ford and Fulkerson, the bound on rounds is that of Edmonds and Karp, 1972. Paths are found in
+/// phases, as by Dinic, 1970.)
 pub fn largest(alloc: Global, net: &ClosureNet) -> Result<ClosureFlow, AllocError>
     requires network { IsNetwork (network_of (terms_in net.now)) }
     requires apart { Reaches (HasUnbounded (arcs_in net.now)) 0 1 → ⊥ }
@@ -58,7 +58,7 @@ pub fn largest(alloc: Global, net: &ClosureNet) -> Result<ClosureFlow, AllocErro
     run_phases(alloc, net, progress, &mut rows)
 }
 
-/// Goes on phase by phase, to the search that finds no goal.
+/// Runs phases until a search finds no goal.
 fn run_phases(
     alloc: Global,
     net: &ClosureNet,
@@ -86,7 +86,7 @@ fn run_phases(
     }
 }
 
-/// The flow of which a search found no goal.
+/// The flow for which a search found no goal.
 fn flow_of(
     alloc: Global,
     net: &ClosureNet,

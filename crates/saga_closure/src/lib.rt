@@ -1,8 +1,9 @@
-//! A greatest flow through the network of a case, over the lists of its definition: the network is not built.
+//! A maximum flow through the network of a case. It uses the adjacency lists of the definition and does not build the
+//! network.
 //!
-//! Paths are found in phases (E. A. Dinic, 1970): a search from the source, layer by layer, and then walks back from
-//! the steps of its last layer, a level lower at each step. A layer is found by joining rows of bits: for each step of the
-//! layer before those to which residual arcs over needs lead.
+//! Paths are found in phases (E. A. Dinic, 1970): a search from the source computes layers, and then walks back from
+//! the steps of the last layer decrease the level by one at each step. A layer is the union of bit rows: for each step
+//! of the layer before, the steps to which residual arcs over needs lead.
 #![tactic(auto)]
 
 mod bits;

@@ -1,4 +1,5 @@
-//! The residual arcs over the needs of a step, in either direction: along them, and back over those that carry something.
+//! The residual arcs over the needs of a step, in both directions: along the needs, and back over the needs with a
+//! positive amount.
 ghost use Rattle.std.specs.Prelude.{◌<◌, ◌↔◌, IsTrue, length};
 ghost use Rattle.saga_closure.specs.Links.{AreLinks, LetsThrough};
 
@@ -6,8 +7,8 @@ use crate::nets::Residual;
 use saga_def::Definition;
 use saga_flow::ResidualArc;
 
-/// The steps to which the residual arcs of a direction lead from a step, and beside each the place of the need:
-/// `forward` the steps that it needs, else those that need it.
+/// The steps to which the residual arcs of a direction lead from a step, and the index of the need of each. With
+/// `forward` these are the steps that it needs, and otherwise the steps that need it.
 pub fn links_from(definition: &Definition, v: u16, forward: bool) -> (&[u16], &[u16])
     requires { v < length definition.now.steps }
     ensures { AreLinks
@@ -20,7 +21,7 @@ pub fn links_from(definition: &Definition, v: u16, forward: bool) -> (&[u16], &[
     }
 }
 
-/// Whether something goes over the residual arc of a need.
+/// Whether the residual arc of a need has capacity left.
 pub fn lets_through(residual: &Residual, over: ResidualArc) -> bool
     requires { over.arc < length residual.now.on.now }
     ensures { IsTrue result ↔ LetsThrough residual.now.on.now over }

@@ -1,8 +1,8 @@
-//! The network of a case over its definition's lists: no arc is listed.
+//! The network of a case over its definition's adjacency lists. The arcs are not stored.
 //!
-//! The arc from the source to a step and that from a step to the sink have the step's number, the second after as many
-//! as there are steps; after them come the needs by their places. A step's needs, and the needs on it, are the
-//! definition's own lists.
+//! The arc from the source to a step has the step's number. The arc from a step to the sink has the step's number plus
+//! the number of steps. The needs follow, in the order of their indices. The needs of a step, and the needs on it, are
+//! the definition's own lists.
 ghost use Rattle.std.specs.Prelude.{◌≡◌, ◌≤◌, ◌+◌, ◌^◌, ℕ, length, slice_index};
 ghost use Rattle.saga_def.specs.Order.{IsAcyclic};
 ghost use Rattle.saga_def.specs.Rules.{AreKnown, AreSingle};
@@ -11,8 +11,8 @@ ghost use Rattle.saga_closure.specs.CaseNet.{network_of};
 
 use saga_def::Definition;
 
-/// The network over a definition with these capacities: for each step that of the arc from the source, then for each
-/// step that of the arc to the sink; 2^63 is without a bound.
+/// The network over a definition with these capacities. For each step there is the capacity of the arc from the source,
+/// and then for each step that of the arc to the sink. The value 2^63 means unbounded.
 #[derive(Clone, Copy)]
 pub struct ClosureNet<'a> {
     pub definition: &'a Definition,
@@ -25,7 +25,7 @@ pub struct ClosureNet<'a> {
     ghost small: { (k : ℕ) → slice_index caps.now k ≤ 2 ^ 63 },
 }
 
-/// The residual network of amounts, one for each arc.
+/// The residual network for these amounts, one for each arc.
 #[derive(Clone, Copy)]
 pub struct Residual<'a> {
     pub net: &'a ClosureNet<'a>,

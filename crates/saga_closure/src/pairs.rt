@@ -1,6 +1,6 @@
-//! Short paths: over one step, and then over a need and the two steps that it joins.
+//! Short paths: over one step; and then over a need and the two steps that it joins.
 //!
-//! They take no search: once nothing goes straight over a step any more, those over a need are the shortest.
+//! They need no search: when no path over one step carries anything, the paths over one need are the shortest.
 ghost use Rattle.std.specs.Prelude.{◌≡◌, ◌≢◌, ◌<◌, ◌+◌, ◌^◌, ℕ, length, min, slice_index, slice_get, slice_set, Some};
 ghost use Rattle.saga_def.specs.Neighbours.{a_need};
 ghost use Rattle.saga_flow.specs.Network.{IsNetwork};
@@ -16,7 +16,7 @@ use crate::nets::{ClosureNet, Residual};
 use crate::rooms::room_along;
 use saga_flow::Progress;
 
-/// How much more goes along both of two arcs of prices.
+/// The smaller of the residual capacities of two arcs, from the source and to the sink.
 fn least_room(net: &ClosureNet, on: &[u64], into: usize, out: usize) -> u64
     requires sized { length on.now ≡ length (arcs_in net.now) }
     requires into { into < length net.now.caps.now }
@@ -40,7 +40,7 @@ fn add(progress: &mut Progress, arc: usize, more: u64)
     progress.on[arc] += more;
 }
 
-/// Counts a round in which so much more leaves the source.
+/// Counts a round that increases the value by `more`.
 fn count_round(progress: &mut Progress, more: u64)
     requires value { progress.old.value + more < 2 ^ 64 }
     requires rounds { progress.old.rounds + 1 < 2 ^ 64 }
@@ -52,7 +52,7 @@ fn count_round(progress: &mut Progress, more: u64)
     progress.rounds += 1;
 }
 
-/// Sends from the source over a step to the sink what goes straight.
+/// Augments along the path from the source over a step to the sink.
 fn send_over(net: &ClosureNet, v: usize, progress: &mut Progress)
     requires network { IsNetwork (network_of (terms_in net.now)) }
     requires apart { Reaches (HasUnbounded (arcs_in net.now)) 0 1 → ⊥ }
@@ -74,7 +74,7 @@ fn send_over(net: &ClosureNet, v: usize, progress: &mut Progress)
     }
 }
 
-/// Sends over each step what goes straight to the sink.
+/// Augments along the path over each step.
 pub fn send_straight(net: &ClosureNet, progress: &mut Progress)
     requires network { IsNetwork (network_of (terms_in net.now)) }
     requires apart { Reaches (HasUnbounded (arcs_in net.now)) 0 1 → ⊥ }
@@ -90,7 +90,7 @@ pub fn send_straight(net: &ClosureNet, progress: &mut Progress)
     }
 }
 
-/// Sends from the source to a step, and on over its need at a place to the sink, what goes so.
+/// Augments along the path from the source to a step, over its need at an index, to the sink.
 fn send_by(net: &ClosureNet, v: u16, u: u16, place: u16, progress: &mut Progress)
     requires network { IsNetwork (network_of (terms_in net.now)) }
     requires apart { Reaches (HasUnbounded (arcs_in net.now)) 0 1 → ⊥ }
@@ -114,7 +114,7 @@ fn send_by(net: &ClosureNet, v: u16, u: u16, place: u16, progress: &mut Progress
     }
 }
 
-/// Sends from the source to a step, and on over each of its needs to the sink, what goes so.
+/// Augments along the paths from the source to a step, over each of its needs, to the sink.
 fn send_from(net: &ClosureNet, v: u16, progress: &mut Progress)
     requires network { IsNetwork (network_of (terms_in net.now)) }
     requires apart { Reaches (HasUnbounded (arcs_in net.now)) 0 1 → ⊥ }
@@ -139,7 +139,7 @@ fn send_from(net: &ClosureNet, v: u16, progress: &mut Progress)
     }
 }
 
-/// Sends over each need what goes so, where nothing goes straight over a step any more.
+/// Augments along the paths over each need, when no path over one step carries anything.
 pub fn send_over_needs(net: &ClosureNet, progress: &mut Progress)
     requires network { IsNetwork (network_of (terms_in net.now)) }
     requires apart { Reaches (HasUnbounded (arcs_in net.now)) 0 1 → ⊥ }

@@ -1,4 +1,4 @@
-//! The path that a search found.
+//! The path of a search.
 ghost use Rattle.std.specs.Prelude.{◌≡◌, ◌<◌, ◌≤◌, ◌+◌, ◌*◌, OnOk, length, slice_index};
 ghost use Rattle.saga_flow.specs.Residual.{IsOpen};
 ghost use Rattle.saga_closure.specs.Layers.{IsAtGoal};
@@ -12,7 +12,7 @@ use crate::walking::{ALL, Back, step_before};
 use saga_flow::ResidualArc;
 use std::alloc::AllocError;
 
-/// The saga's steps that the residual arc of a need joins: the one that it leaves, and the one to which it leads.
+/// The steps that the residual arc of a need joins: its tail and its head.
 pub fn ends(net: &ClosureNet, over: ResidualArc) -> (u16, u16)
     requires far { 2 * (terms_in net.now).count ≤ over.arc }
     requires inside { over.arc
@@ -27,7 +27,7 @@ pub fn ends(net: &ClosureNet, over: ResidualArc) -> (u16, u16)
     if over.forward { (step, on) } else { (on, step) }
 }
 
-/// The residual arc by which a search may have come to a step above the lowest level.
+/// A residual arc by which a search can reach a step above the lowest level.
 pub fn came_by(residual: &Residual, found: &Found, goal: Goal, v: u16) -> Back
     requires at { IsAtGoal (terms_in residual.now.net.now) residual.now.on.now found.now goal }
     requires inside { v < (terms_in residual.now.net.now).count }
@@ -45,7 +45,7 @@ pub fn came_by(residual: &Residual, found: &Found, goal: Goal, v: u16) -> Back
     }
 }
 
-/// The path by which a search came to its goal, and on to the sink.
+/// The path by which a search reached its goal, extended to the sink.
 pub fn path_to(
     residual: &Residual,
     found: &Found,

@@ -1,4 +1,4 @@
-//! Phases: a search, its path, and further paths of the same length.
+//! Phases: a search, its path, and more paths of the same length.
 ghost use Rattle.std.specs.Prelude.{◌≡◌, ◌<◌, ◌≤◌, ◌+◌, ◌^◌, ℕ, All, OnOk, length, vec_len, slice_index};
 ghost use Rattle.saga_flow.specs.Network.{IsNetwork};
 ghost use Rattle.saga_flow.specs.Reached.{HasUnbounded, Reaches};
@@ -22,7 +22,7 @@ use crate::walking::{ALL, put_back, walk_back};
 use saga_flow::{Progress, ResidualArc};
 use std::alloc::{AllocError, Global};
 
-/// One round along a path, after which the rows are right again.
+/// One round along a path. Updates the rows.
 fn send_along(net: &ClosureNet, path: &[ResidualArc], progress: &mut Progress, rows: &mut Rows)
     requires sized { length progress.old.on.items ≡ length (arcs_in net.now) }
     requires carries { All (Carries (arcs_in net.now) progress.old.on.items 1) path.now }
@@ -39,7 +39,7 @@ fn send_along(net: &ClosureNet, path: &[ResidualArc], progress: &mut Progress, r
     put_right(net, path, progress.on.as_slice(), rows);
 }
 
-/// Sends over a step to the sink, along each path that is found to rise a level at each step, what it carries.
+/// Augments along each path over a step to the sink that a walk finds, in which each arc increases the level by one.
 fn send_to(
     net: &ClosureNet,
     level: &[u16],
@@ -93,7 +93,7 @@ fn send_to(
     Ok(())
 }
 
-/// Sends along the search's path, and along each further path of the same length that is found, what it carries.
+/// Augments along the search's path, and along each further path of the same length that is found.
 pub fn run_phase(
     alloc: Global,
     net: &ClosureNet,

@@ -1,4 +1,4 @@
-//! The greatest amount that a path carries, what is left when it has gone over the path, and rounds.
+//! The bottleneck of a path, the amounts after an augmentation, and rounds.
 ghost use Rattle.std.specs.Prelude.{◌≡◌, ◌<◌, ◌≤◌, ◌+◌, ◌^◌, ℕ, All, length, slice_index};
 ghost use Rattle.saga_flow.specs.Residual.{Carries};
 ghost use Rattle.saga_flow.specs.Pushes.{IsPush, NoArcTwice};
@@ -10,7 +10,7 @@ use crate::nets::{ClosureNet, Residual};
 use crate::rooms::room;
 use saga_flow::{Progress, ResidualArc, push};
 
-/// One round: the greatest amount that a path carries goes along it.
+/// One round: augments along a path by the maximum amount that it carries.
 pub fn augment(net: &ClosureNet, path: &[ResidualArc], progress: &mut Progress)
     requires sized { length progress.old.on.items ≡ length (arcs_in net.now) }
     requires carries { All (Carries (arcs_in net.now) progress.old.on.items 1) path.now }
@@ -25,7 +25,7 @@ pub fn augment(net: &ClosureNet, path: &[ResidualArc], progress: &mut Progress)
     progress.rounds += 1;
 }
 
-/// Sends along a path the greatest amount that it carries, and answers it.
+/// Augments along a path by the maximum amount that it carries, and returns this amount.
 fn push_most(net: &ClosureNet, path: &[ResidualArc], on: &mut [u64]) -> u64
     requires sized { length on.old ≡ length (arcs_in net.now) }
     requires carries { All (Carries (arcs_in net.now) on.old 1) path.now }
@@ -39,7 +39,7 @@ fn push_most(net: &ClosureNet, path: &[ResidualArc], on: &mut [u64]) -> u64
     more
 }
 
-/// The greatest amount that a path carries, where that is below 2^63.
+/// The maximum amount that a path carries, which is below 2^63.
 fn most_along(residual: &Residual, path: &[ResidualArc]) -> u64
     requires carries { All (Carries (arcs_in residual.now.net.now) residual.now.on.now 1) path.now }
     ensures some { 0 < result }

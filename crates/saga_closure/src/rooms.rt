@@ -1,4 +1,4 @@
-//! How much more goes over an arc of a residual network.
+//! The residual capacities of arcs.
 ghost use Rattle.std.specs.Prelude.{◌≡◌, ◌<◌, ◌+◌, ◌^◌, length};
 ghost use Rattle.saga_flow.specs.Residual.{Carries};
 ghost use Rattle.saga_closure.specs.Capacities.{room_at};
@@ -8,7 +8,7 @@ use crate::capacities::ENDLESS;
 use crate::nets::Residual;
 use saga_flow::ResidualArc;
 
-/// How much more goes along an arc from the source or to the sink; 2^63 stands for any amount.
+/// The residual capacity of an arc from the source or to the sink. The value 2^63 means unbounded.
 pub fn room_along(residual: &Residual, arc: usize) -> u64
     requires { arc < length residual.now.net.now.caps.now }
     ensures { result ≡ room_at residual.now.net.now.caps.now residual.now.on.now arc }
@@ -21,7 +21,7 @@ pub fn room_along(residual: &Residual, arc: usize) -> u64
     }
 }
 
-/// How much a residual arc carries; 2^63 stands for any amount.
+/// The residual capacity of a residual arc. The value 2^63 means unbounded.
 pub fn room(residual: &Residual, over: ResidualArc) -> u64
     requires carries { Carries (arcs_in residual.now.net.now) residual.now.on.now 1 over }
     ensures some { 0 < result }

@@ -1,6 +1,6 @@
-//! For each step the steps to which residual arcs over needs lead from it, as a row of bits.
+//! For each step, a row of bits: the steps to which residual arcs over needs lead from it.
 //!
-//! A search finds a layer by joining the rows of the one before, 64 steps at a time.
+//! A search computes a layer as the union of the rows of the layer before, 64 steps at a time.
 ghost use Rattle.std.specs.Prelude.{◌≡◌, ◌<◌, ◌≤◌, ◌+◌, ◌*◌, ℕ, [], IfOk, length, slice_index, slice_index_or};
 ghost use Rattle.saga_closure.specs.Layers.{no_step};
 ghost use Rattle.saga_closure.specs.Nets.{terms_in, arcs_in};
@@ -12,14 +12,14 @@ use crate::nets::{ClosureNet, Residual};
 use saga_flow::ResidualArc;
 use std::alloc::{AllocError, Global};
 
-/// Rows of so many words each.
+/// Rows of `width` words each.
 #[derive(Drop)]
 pub struct Rows {
     pub width: usize,
     pub words: Vec<u64>,
 }
 
-/// Adds steps to the row that begins at a bit.
+/// Adds steps to the row that starts at a bit.
 fn add_steps(words: &mut [u64], at: usize, steps: &[u16])
     requires few { length words.old ≤ 16384 }
     requires within { (e : ℕ) → e < length steps.now
@@ -31,7 +31,7 @@ fn add_steps(words: &mut [u64], at: usize, steps: &[u16])
     }
 }
 
-/// The rows where no need carries anything.
+/// The rows for amounts that are all zero.
 fn empty_rows(alloc: Global, net: &ClosureNet) -> Result<Rows, AllocError>
     ensures { IfOk result (AreRows (terms_in net.now) []) }
 {
@@ -45,7 +45,7 @@ fn empty_rows(alloc: Global, net: &ClosureNet) -> Result<Rows, AllocError>
     Ok(Rows { width, words })
 }
 
-/// Puts in the bits of the needs that carry something.
+/// Adds the bits for the needs with a positive amount.
 fn add_carrying(residual: &Residual, rows: &mut Rows)
     requires { AreRows (terms_in residual.now.net.now) [] rows.old }
     ensures { AreRows (terms_in residual.now.net.now) residual.now.on.now rows.new }
@@ -80,8 +80,8 @@ fn row_of(rows: &Rows, v: u16) -> &[u64]
     &rows.words[first..first + rows.width]
 }
 
-/// The steps to which residual arcs lead from the listed ones between two places; two rows at a time;
-/// `set` is written over.
+/// The steps to which residual arcs lead from the steps of the list between two indices. Processes two rows at a time,
+/// and overwrites `set`.
 pub fn steps_after(rows: &Rows, order: &[u16], first: usize, end: usize, set: &mut [u64])
     requires first { first ≤ end }
     requires end { end ≤ length order.now }
@@ -107,7 +107,7 @@ pub fn steps_after(rows: &Rows, order: &[u16], first: usize, end: usize, set: &m
     }
 }
 
-/// Puts the bits right of the needs over which a path went.
+/// Updates the bits of the needs on an augmented path.
 pub fn put_right(net: &ClosureNet, path: &[ResidualArc], on: &[u64], rows: &mut Rows)
     requires sized { length on.now ≡ length (arcs_in net.now) }
     requires within { (j : ℕ) → j < length path.now

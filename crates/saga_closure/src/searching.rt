@@ -13,10 +13,10 @@ use crate::rooms::room_along;
 use crate::rows::{Rows, steps_after};
 use std::alloc::{AllocError, Global};
 
-/// The level of a step that is not reached.
+/// The value for a step that is not reached.
 pub const NONE: u16 = 65535;
 
-/// What a search found: for each step its level, the set of those that have one, and these in order.
+/// The result of a search: the level of each step, the set of the steps with a level, and these steps in order.
 #[derive(Drop)]
 pub struct Found {
     pub level: Vec<u16>,
@@ -24,7 +24,7 @@ pub struct Found {
     pub order: Vec<u16>,
 }
 
-/// Gives a step a level.
+/// Sets the level of a step.
 fn label(found: &mut Found, v: u16, level: u16) -> Result<(), AllocError>
     requires level { v < length found.old.level.items }
     requires labelled { v < 64 * length found.old.labelled.items }
@@ -36,7 +36,7 @@ fn label(found: &mut Found, v: u16, level: u16) -> Result<(), AllocError>
     Ok(())
 }
 
-/// The first of the steps that stand from `first` on that can send more to the sink.
+/// The first step of the order, from index `first` on, with residual capacity to the sink.
 fn find_goal(residual: &Residual, order: &[u16], first: usize) -> Option<u16>
     requires { (j : ℕ) → j < length order.now
         → slice_index order.now j < (terms_in residual.now.net.now).count }
@@ -53,7 +53,7 @@ fn find_goal(residual: &Residual, order: &[u16], first: usize) -> Option<u16>
     None
 }
 
-/// The steps to which the source can send more.
+/// The steps to which the source has residual capacity.
 pub fn start(alloc: Global, residual: &Residual) -> Result<Found, AllocError>
     ensures { IfOk result (IsStarted residual.now) }
 {
@@ -71,7 +71,7 @@ pub fn start(alloc: Global, residual: &Residual) -> Result<Found, AllocError>
     Ok(found)
 }
 
-/// Labels those steps of a word that have no level; its first bit stands for the step `at`.
+/// Sets the level of those steps of a word that have none. The first bit of the word is the step `at`.
 fn label_word(found: &mut Found, at: usize, word: u64, level: u16) -> Result<(), AllocError>
     requires low { level < 65535 }
     requires level { (b : ℕ) → b < 64 → holds_bit word b ≡ true
@@ -97,7 +97,7 @@ fn label_word(found: &mut Found, at: usize, word: u64, level: u16) -> Result<(),
     Ok(())
 }
 
-/// Labels those steps of a set that have no level.
+/// Sets the level of those steps of a set that have none.
 fn label_all(found: &mut Found, set: &[u64], level: u16) -> Result<(), AllocError>
     requires low { level < 65535 }
     requires level { (u : ℕ) → u < 64 * length set.now → holds set.now u ≡ true
@@ -122,7 +122,7 @@ fn label_all(found: &mut Found, set: &[u64], level: u16) -> Result<(), AllocErro
     Ok(())
 }
 
-/// How a search ended: at a layer of the order, with its level and the first step of it that can send more to the sink.
+/// The end of a search: a layer of the order, with its level and its first step that has residual capacity to the sink.
 #[derive(Clone, Copy)]
 pub struct Goal {
     pub first: usize,
@@ -130,7 +130,7 @@ pub struct Goal {
     pub step: u16,
 }
 
-/// Searches from the source, layer by layer, to the first layer from which more can go to the sink.
+/// Searches from the source, layer by layer, to the first layer with residual capacity to the sink.
 pub fn search(
     alloc: Global,
     residual: &Residual,

@@ -1,11 +1,11 @@
-//! What a case comes to.
+//! The solution of a case.
 use crate::flows::ClosureFlow;
 
-/// What [`solve`](crate::solve) finds.
+/// The result of [`solve`](crate::solve).
 #[derive(Debug, Drop)]
 pub enum Solution {
-    /// Steps of which each needs the next directly: the first cannot be left out, and the last cannot stand.
+    /// Steps each of which needs the next directly: the first cannot be dropped, and the last cannot be kept.
     Blocked(Vec<u16>),
-    /// A greatest flow.
+    /// A maximum flow.
     Flow(ClosureFlow),
 }

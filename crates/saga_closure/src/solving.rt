@@ -1,4 +1,4 @@
-//! A case's chain or greatest flow.
+//! The chain or the maximum flow of a case.
 ghost use Rattle.std.specs.Prelude.{IfOk};
 ghost use Rattle.saga_case.specs.Terms.{terms_of};
 ghost use Rattle.saga_closure.specs.Largest.{IsSolution};
@@ -11,13 +11,13 @@ use crate::solutions::Solution;
 use saga_case::Case;
 use std::alloc::{AllocError, Global};
 
-/// A greatest flow of a case's network, or a chain where a path of unbounded arcs leads from its source to its sink,
-/// so that no flow is greatest.
+/// Returns a maximum flow of a case's network. If a path of unbounded arcs leads from its source to its sink, no flow
+/// is maximum, and the result is a chain.
 ///
-/// The network has an arc from the source to each step, whose capacity is the step's leave price; one from each step to
-/// the sink, whose capacity is its stand price; and for each need one without a bound, from the step to the one that it
-/// needs. Which of several flows, and which of several chains, is left open. An error comes only where memory is
-/// refused.
+/// The network has an arc from the source to each step, whose capacity is the cost to drop the step; one from each step
+/// to the sink, whose capacity is the cost to keep the step; and for each need an unbounded arc from the step to the
+/// step that it needs. The contract does not say which of several flows or chains the result is. The only error is lack
+/// of memory.
 pub fn solve(alloc: Global, case: &Case) -> Result<Solution, AllocError>
     ensures { IfOk result (IsSolution (terms_of case.now)) }
 {

@@ -1,4 +1,4 @@
-//! Further paths of the same length: a walk back from a step, a level lower at each step.
+//! More paths of the same length: walks back from a step that decrease the level by one at each step.
 ghost use Rattle.std.specs.Prelude.{Bool, ◌≡◌, ◌<◌, ◌≤◌, ◌+◌, ◌-◌, ◌*◌, ◌^◌, ◌↔◌, All, IfOk, IfNone, IfSome, IsTrue, length, vec_len, slice_index, slice_set};
 ghost use Rattle.saga_flow.specs.Residual.{IsOpen};
 ghost use Rattle.saga_closure.specs.Found.{IsClimb};
@@ -13,10 +13,10 @@ use crate::searching::NONE;
 use saga_flow::ResidualArc;
 use std::alloc::AllocError;
 
-/// All neighbours of a step are left to be tried.
+/// The initial number of untried neighbors of a step.
 pub const ALL: usize = usize::MAX;
 
-/// A residual arc from a step a level lower, and how many entries are left to be tried.
+/// A residual arc from a step one level lower, and the number of entries that are not yet tried.
 #[derive(Clone, Copy)]
 pub struct Back {
     pub left: usize,
@@ -24,14 +24,14 @@ pub struct Back {
     pub by: ResidualArc,
 }
 
-/// Whether a level is one lower than another.
+/// Whether a level is one less than another.
 fn is_just_below(level: u16, far: u16) -> bool
     ensures { IsTrue result ↔ (far ≡ level + 1) }
 {
     level < far && far - level == 1
 }
 
-/// A step through which no walk comes any more has no level among those `alive`.
+/// Removes the level of a step in `alive`, because no walk can pass it any more.
 fn give_up(alive: &mut Vec<u16>, v: u16)
     requires { v < vec_len alive.old }
     ensures items { alive.new.items ≡ slice_set alive.old.items v 65535 }
@@ -40,8 +40,8 @@ fn give_up(alive: &mut Vec<u16>, v: u16)
     alive[v as usize] = NONE;
 }
 
-/// From one of the last `many` steps from which a residual arc of a direction may lead to `v`, of those a level below `far`:
-/// `forward` one that needs it, else one that it needs.
+/// Searches the last `many` of the steps from which a residual arc of a direction may lead to `v`, for one that is one
+/// level below `far`. With `forward` these steps need `v`, and otherwise `v` needs them.
 fn link_before(
     residual: &Residual,
     far: u16,
@@ -82,8 +82,8 @@ fn link_before(
     None
 }
 
-/// From one of the last `many` neighbours of `v`, of those a level below `far`: first those that need it, then those that
-/// it needs.
+/// Searches the last `many` neighbors of `v` for one that is one level below `far`. First come the steps that need `v`,
+/// then the steps that `v` needs.
 pub fn step_before(
     residual: &Residual,
     far: u16,
@@ -118,10 +118,11 @@ pub fn step_before(
     link_before(residual, far, alive, v, many, false)
 }
 
-/// Looks for a path of residual arcs from the source over `goal` to the sink that rises a level with each.
+/// Searches for a path of residual arcs from the source over `goal` to the sink in which each arc increases the level
+/// by one.
 ///
-/// `alive` has the levels of the steps through which walks may still come, `left` for each step how many of its neighbours are
-/// still to be tried, and `path` is written over.
+/// `alive` has the levels of the steps that walks may still pass, and `left` the number of untried neighbors of each
+/// step. `path` is overwritten.
 pub fn walk_back(
     residual: &Residual,
     level: &[u16],
@@ -189,7 +190,7 @@ pub fn walk_back(
     Ok(true)
 }
 
-/// After an augmentation the arcs of its path are tried again.
+/// After an augmentation, the arcs of its path become untried again.
 pub fn put_back(net: &ClosureNet, path: &[ResidualArc], left: &mut [usize])
     requires left { length left.old ≡ (terms_in net.now).count }
     requires steps { All (λ s. s.arc < length (arcs_in net.now)) path.now }

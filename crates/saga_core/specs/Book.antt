@@ -1,4 +1,4 @@
--- What a book is.
+-- The contents of a book.
 use Rattle.std.specs.Prelude.{◌≡◌, ℕ, ◌<◌, ◌≤◌, ◌+◌, ◌*◌, ◌++◌, ◌∷◌, [], All, List, None, Option, Some, length}
 use Rattle.std.specs.List.{count_by, sum_by}
 use Rattle.saga_def.specs.Contents.{Contents}
@@ -33,7 +33,7 @@ book_of shelf first stride journal = record { shelf = shelf; first = first; stri
 abbrev pub with_event : Book → Event → Book
 with_event b e = record b { history = b.history ++ e ∷ [] }
 
--- the history is legal; the headline (the main theorem) holds of it
+-- the history is legal; the main theorem (`Headline`) holds for it
 abbrev pub IsLegalBook : Book → Type 0
 IsLegalBook b = IsLegal b.shelf (past b.history)
 
@@ -55,11 +55,12 @@ definition_in b i = definition b.shelf (changes_in b i)
 abbrev pub number : ℕ → ℕ → ℕ → ℕ
 number first stride k = first + k * stride
 
--- how many sagas a history opens
+-- the number of sagas that a history opens
 abbrev pub sagas_in : List Event → ℕ
 sagas_in h = length (opened_sagas h)
 
--- how many ending events a row still needs: one for each busy step, and one for a plan in progress
+-- the number of ending events that a row still needs: one for each busy step, and one for a plan in
+-- progress
 abbrev pub busy_in : Row → ℕ
 busy_in row = count_by is_busy row.states
 

@@ -1,4 +1,4 @@
--- What the result of a call on a book means.
+-- The meaning of the result of a call on a book.
 use Rattle.std.specs.Prelude.{◌≡◌, ◌≢◌, ℕ, ◌<◌, ◌≤◌, List, None, IsSomeAnd, length}
 use Rattle.saga_def.specs.Contents.{Contents}
 use Rattle.saga_case.specs.declared.states.StepState.{StepState}
@@ -32,7 +32,7 @@ use Rattle.saga_core.specs.declared.refusals.TakeRefusal.TheVariants as take
 abbrev pub IsUnknown : Book → ℕ → Type 0
 IsUnknown b i = opened_with (changes_in b i) ≡ None
 
--- the saga was opened, and this holds of its definition and its changes
+-- the saga was opened, and `P` holds for its definition and its changes
 abbrev pub OfSaga : Book → ℕ → (Contents → List Change → Type 0) → Type 0
 OfSaga b i P = IsSomeAnd (definition_in b i) (λ d. P d (changes_in b i))
 

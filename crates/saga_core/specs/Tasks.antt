@@ -25,7 +25,7 @@ saga_of_task (Run i s) = i
 saga_of_task (Undo i s) = i
 saga_of_task (Plan i) = i
 
--- a plan counts as step 0
+-- a plan is ordered like step 0
 abbrev pub step_of_task : Task → ℕ
 step_of_task (Run i s) = s
 step_of_task (Undo i s) = s
@@ -47,7 +47,7 @@ pub record IsFirstTask (b : Book) (t : Task) : Type 0 where
 abbrev pub NoTaskIsAllowed : Book → Type 0
 NoTaskIsAllowed b = (t : Task) → MayStart b t → ⊥
 
--- the same of the sagas from a number on
+-- the same for the sagas from a number on
 pub record IsFirstTaskFrom (b : Book) (from : ℕ) (t : Task) : Type 0 where
   pub allowed : MayStart b t
   pub within : from ≤ saga_of_task t
@@ -95,7 +95,7 @@ HasNoStep b i s = IsUnknown b i ⊎ OfSaga b i (λ d l. length d.steps ≤ s)
 abbrev pub HasState : Book → ℕ → ℕ → StepState → Type 0
 HasState b i s x = OfSaga b i (λ d l. (s < length d.steps) × (x ≡ state l s))
 
--- how often its action was missed, and its compensation
+-- the number of misses of its action; the number of misses of its compensation
 abbrev pub HasMisses : Book → ℕ → ℕ → ℕ → Type 0
 HasMisses b i s count = OfSaga b i (λ d l. (s < length d.steps) × (count ≡ misses_of l s))
 

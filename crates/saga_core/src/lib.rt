@@ -1,8 +1,8 @@
 //! The book: the state machine of many sagas. It has the sagas by their numbers and a history with
 //! one event for each accepted call.
 //!
-//! After every sequence of calls on a [`Book`], its history is legal. So the headline, which is the
-//! main theorem of `saga_history`, holds of that history.
+//! After every sequence of calls on a [`Book`], its history is legal. So the main theorem, which is
+//! `headline` of `saga_history`, holds for that history.
 //!
 //! This example opens a saga and executes it to its end. The shelf is the list of definitions; here
 //! it has one definition, with three steps:
@@ -13,7 +13,7 @@
 //! for _ in 0..3 {
 //!     if let Some(Task::Run(saga, step)) = book.next() {
 //!         book.take_run(saga, step).ok()?;
-//!         // Here the program does what the step is for.
+//!         // Here the program runs the step's action.
 //!         book.report_run(saga, step, Outcome::Done).ok()?;
 //!     }
 //! }

@@ -1,4 +1,4 @@
--- What a definition is.
+-- The definition of a saga.
 pub mod Limits
 pub mod Contents
 pub mod Order

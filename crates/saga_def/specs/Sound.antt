@@ -1,4 +1,4 @@
--- What a definition promises of its contents.
+-- The properties of the contents of a definition.
 use Rattle.saga_def.specs.Contents.{Contents}
 use Rattle.std.specs.Prelude.{length}
 use Rattle.saga_def.specs.Adjacency.{ListsNeeds, ListsDependants}
@@ -6,7 +6,7 @@ use Rattle.saga_def.specs.declared.adjacency.Adjacency.{Adjacency}
 use Rattle.saga_def.specs.Order.{IsAcyclic}
 use Rattle.saga_def.specs.Rules.{HasSteps, HasFewSteps, HasFewNeeds, HasGoodNames, HasDistinctNames, HasKnownNeeds, HasSingleNeeds, AllPricesAreSmall, AllTriesAreInRange}
 
--- all the rules but that against cycles
+-- all rules except the one about cycles
 pub record KeepsRules (c : Contents) : Type 0 where
   pub some : HasSteps c
   pub few_steps : HasFewSteps c

@@ -1,8 +1,8 @@
-//! The search for steps that need each other in a ring (Kahn 1962).
+//! The search for a cycle of needs (Kahn 1962).
 //!
-//! For each step it is counted how many of its needs are on steps that are not marked. A step with none is marked, and the
-//! counts of those that need it are lowered. Where no step is left to mark, either all are marked, or each one left needs
-//! another one left, and a walk along these comes to a step for the second time.
+//! For each step it counts the needs on steps that are not marked. A step with count 0 is marked, and the counts of the
+//! steps that need it are decreased. When no step can be marked, either all steps are marked, or each unmarked step
+//! needs another unmarked step. In the second case, a walk along these needs visits some step twice.
 ghost use Rattle.std.specs.Prelude.{ℕ, slice_index, ◌≡◌, ◌≤◌, ◌<◌, All, length, IfOk, IfSome, IfNone, IsSome, drop, slice_index_or, None};
 ghost use Rattle.saga_def.specs.Order.{IsAcyclic, IsCycle};
 ghost use Rattle.saga_def.specs.Rules.{AreKnown};
@@ -14,7 +14,7 @@ use crate::limits::{MAX_NEEDS, MAX_STEPS};
 use crate::steps::Need;
 use std::alloc::{AllocError, Global};
 
-/// For each step one step that it needs and that is not marked, if there is one.
+/// For each step, an unmarked step that it needs, if there is one.
 fn blockers(alloc: Global, needs: &[Need], marks: &[bool]) -> Result<Vec<Option<u16>>, AllocError>
     requires known { AreKnown needs.now (length marks.now) }
     requires few { length marks.now ≤ 65536 }
@@ -29,7 +29,7 @@ fn blockers(alloc: Global, needs: &[Need], marks: &[bool]) -> Result<Vec<Option<
     Ok(blockers)
 }
 
-/// How many needs each step has.
+/// The number of needs of each step.
 fn demands(alloc: Global, needs: &[Need], count: usize) -> Result<Vec<u16>, AllocError>
     requires known { AreKnown needs.now count }
     requires few { length needs.now ≤ MAX_NEEDS }
@@ -58,7 +58,7 @@ fn free_steps(alloc: Global, unmet: &[u16]) -> Result<Vec<u16>, AllocError>
     Ok(todo)
 }
 
-/// Lowers the count of each of the steps by one, and adds those whose count comes to 0 to the steps to do.
+/// Decreases the count of each of the steps by one, and adds the steps whose count becomes 0 to the work list.
 fn lower(unmet: &mut [u16], users: &[u16], todo: &mut Vec<u16>) -> Result<(), AllocError>
     requires known { All (λ (s : ℕ). s < length unmet.old) users.now }
     requires enough { (s : ℕ) → s < length unmet.old
@@ -76,7 +76,7 @@ fn lower(unmet: &mut [u16], users: &[u16], todo: &mut Vec<u16>) -> Result<(), Al
     Ok(())
 }
 
-/// The blockers where no further step can be marked. Takes time linear in the steps and needs.
+/// The blockers when no further step can be marked. Takes time linear in the steps and needs.
 fn peel(
     alloc: Global,
     needs: &[Need],
@@ -111,7 +111,7 @@ fn tail_from(alloc: Global, path: &[u16], first: usize) -> Result<Vec<u16>, Allo
     Vec::from_slice(alloc, &path[first..])
 }
 
-/// Walks from a blocked step to its blocker, and on, until a step comes again; then the walk from that step on.
+/// Walks from a blocked step to its blocker, and so on, until a step repeats. Returns the walk from that step on.
 fn ring_from(alloc: Global, blockers: &[Option<u16>], start: u16) -> Result<Vec<u16>, AllocError>
     requires leads_on { LeadsOn blockers.now }
     requires blocked { IsSome (slice_index_or blockers.now start None) }
@@ -139,7 +139,7 @@ fn first_blocked(blockers: &[Option<u16>]) -> Option<usize>
     blockers.iter().position(|blocker| blocker.is_some())
 }
 
-/// Steps that need each other in a ring, or none where no step precedes itself.
+/// A cycle of steps, or none if no step precedes itself.
 pub fn find_cycle(
     alloc: Global,
     needs: &[Need],

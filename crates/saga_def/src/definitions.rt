@@ -1,4 +1,4 @@
-//! Definitions, which are always sound.
+//! Definitions. Each one is sound.
 ghost use Rattle.std.specs.Prelude.{◌≡◌, ◌<◌, ◌↔◌, IsTrue, IfOk, IfErr, OnOk, length, slice_get, Some};
 ghost use Rattle.saga_def.specs.Contents.{contents};
 ghost use Rattle.saga_def.specs.Faults.{IsFirstFault};
@@ -17,7 +17,7 @@ use crate::texts::Text;
 use std::alloc::Global;
 use std::marker::Model;
 
-/// A saga's definition: its name, its steps in order, and its needs in the order handed in.
+/// A saga's definition: its name, its steps in order, and its needs in the order of the input.
 #[derive(Debug, Drop)]
 pub struct Definition {
     name: Text,
@@ -38,7 +38,7 @@ impl Model for Definition {
         (contents d.name d.steps.items d.needs.items) d.adjacency };
 }
 
-/// Whether parts keep the rules before that against cycles, or the first rule that they break.
+/// Whether the parts keep all rules except the one about cycles, or the first rule that they break.
 fn keep_rules(alloc: Global, name: &str, steps: &[Step], needs: &[Need]) -> Result<(), DefFault>
     ensures kept { OnOk result (KeepsRules (contents name.now steps.now needs.now)) }
     ensures fault { IfErr result (IsFirstFault (contents name.now steps.now needs.now)) }
@@ -78,7 +78,7 @@ impl Definition {
     ghost use Rattle.saga_def.specs.Same.{same_contents};
     ghost use Rattle.saga_def.specs.Neighbours.{needs_of, needed_by, places_of, places_on, AreNeedsOf, AreNeededBy, ArePlacesOf, ArePlacesOn};
 
-    /// The definition of a name, steps and needs, whose order it keeps, or the first fault of
+    /// Returns the definition with this name and these steps and needs, in the same order, or the first fault of
     /// [`DefFault`]. Takes time linear in the steps and needs.
     pub fn build(
         alloc: Global,
@@ -119,7 +119,7 @@ impl Definition {
         self.name.as_str()
     }
 
-    /// How many steps there are: 1 to [`MAX_STEPS`].
+    /// The number of steps: 1 to [`MAX_STEPS`].
     pub fn steps(&self) -> usize
         ensures count { result ≡ length self.now.steps }
         ensures sound { IsSound self.now }
@@ -127,7 +127,7 @@ impl Definition {
         self.steps.len()
     }
 
-    /// How many needs there are: at most [`MAX_NEEDS`].
+    /// The number of needs: at most [`MAX_NEEDS`].
     pub fn needs(&self) -> usize
         ensures count { result ≡ length self.now.needs }
         ensures sound { IsSound self.now }
@@ -135,7 +135,7 @@ impl Definition {
         self.needs.len()
     }
 
-    /// The step of a number.
+    /// The step with this number.
     pub fn step(&self, i: u16) -> &Step
         requires { i < length self.now.steps }
         ensures { slice_get self.now.steps i ≡ Some result.now }
@@ -143,7 +143,7 @@ impl Definition {
         &self.steps[i as usize]
     }
 
-    /// The need at a place in the order handed in.
+    /// The need at an index, in the order of the input.
     pub fn need(&self, k: usize) -> Need
         requires { k < length self.now.needs }
         ensures { slice_get self.now.needs k ≡ Some result }
@@ -159,7 +159,7 @@ impl Definition {
         self.steps.as_slice()
     }
 
-    /// The needs in the order handed in.
+    /// The needs, in the order of the input.
     pub fn all_needs(&self) -> &[Need]
         ensures items { result.now ≡ self.now.needs }
         ensures sound { IsSound self.now }
@@ -167,7 +167,7 @@ impl Definition {
         self.needs.as_slice()
     }
 
-    /// The steps that a step needs directly, ascending, each once.
+    /// The steps that a step needs directly, in ascending order and each once.
     pub fn needs_of(&self, i: u16) -> &[u16]
         requires { i < length self.now.steps }
         ensures value { result.now ≡ needs_of self.now i }
@@ -178,8 +178,8 @@ impl Definition {
         entries_at(needs.starts.as_slice(), needs.steps.as_slice(), i as usize)
     }
 
-    /// The places of the needs of a step, in the order handed in: beside each step of [`needs_of`](Self::needs_of)
-    /// that of the need on it.
+    /// The indices of the needs of a step. The order is that of [`needs_of`](Self::needs_of): each index is that of the
+    /// need on the step there.
     pub fn places_of(&self, i: u16) -> &[u16]
         requires { i < length self.now.steps }
         ensures value { result.now ≡ places_of self.now i }
@@ -190,7 +190,7 @@ impl Definition {
         entries_at(needs.starts.as_slice(), needs.places.as_slice(), i as usize)
     }
 
-    /// The steps that need a step directly, ascending, each once.
+    /// The steps that need a step directly, in ascending order and each once.
     pub fn needed_by(&self, i: u16) -> &[u16]
         requires { i < length self.now.steps }
         ensures value { result.now ≡ needed_by self.now i }
@@ -205,8 +205,8 @@ impl Definition {
         )
     }
 
-    /// The places of the needs on a step, in the order handed in: beside each step of [`needed_by`](Self::needed_by)
-    /// that of its need.
+    /// The indices of the needs on a step. The order is that of [`needed_by`](Self::needed_by): each index is that of
+    /// the need of the step there.
     pub fn places_on(&self, i: u16) -> &[u16]
         requires { i < length self.now.steps }
         ensures value { result.now ≡ places_on self.now i }

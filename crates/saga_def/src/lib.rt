@@ -1,9 +1,10 @@
-//! What a saga is: its steps with their prices and tries, and which step needs which.
+//! The definition of a saga: its steps with their costs and numbers of tries, and which step needs which.
 //!
-//! A [`Definition`] is made by [`Definition::build`] alone. Each one is sound: within the limits, with good and
-//! distinct names, needs that are known and single, prices and tries in range, and no step that precedes itself.
+//! [`Definition::build`] is the only constructor of a [`Definition`]. Each definition is sound: it is within the
+//! limits, names are valid and distinct, needs are between known steps and distinct, costs and numbers of tries are in
+//! range, and no step precedes itself.
 //!
-//! A hotel that needs a flight:
+//! In this example, a hotel needs a flight:
 //!
 //! ```
 //! let mut steps = Vec::new(alloc);

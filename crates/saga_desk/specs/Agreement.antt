@@ -1,4 +1,4 @@
--- When the receipts of seats are the events of books.
+-- When the receipts of seats agree with the events of books.
 use Rattle.std.specs.Prelude.{ℕ, ◌+◌, List, [], ◌∷◌, map, flat_map}
 use Rattle.std.specs.List.Sorted.{IsPermutation}
 use Rattle.saga_history.specs.declared.events.Mark.{Mark}
@@ -8,12 +8,12 @@ use Rattle.saga_desk.specs.Merges.{HaveCommonMerge}
 use Rattle.saga_desk.specs.Seat.{Seat}
 use Rattle.saga_desk.specs.declared.receipts.Receipt.{Receipt}
 
--- the receipts of events with these marks, from a place on
+-- the receipts of events with these marks, from an index on
 abbrev pub numbered : ℕ → ℕ → List Mark → List Receipt
 numbered shard n [] = []
 numbered shard n (m ∷ ms) = record { shard = shard; mark = m; place = n } ∷ numbered shard (n + 1) ms
 
--- the receipts of each history, of shards from one on
+-- the receipts of each history, for shards from a number on
 abbrev pub numbered_from : ℕ → List (List Mark) → List (List Receipt)
 numbered_from shard [] = []
 numbered_from shard (h ∷ hs) = numbered shard 0 h ∷ numbered_from (shard + 1) hs
@@ -28,7 +28,7 @@ histories_of books = numbered_from 0 (marks_of books)
 abbrev pub receipts_of : List Seat → List (List Receipt)
 receipts_of seats = map (λ s. s.receipts) seats
 
--- some one merge of the histories, each event as its receipt, is a merge of the receipts of all seats
+-- some merge of the histories, each event as its receipt, is also a merge of the receipts of all seats
 abbrev pub Agree : List Book → List Seat → Type 0
 Agree books seats = HaveCommonMerge (histories_of books) (receipts_of seats)
 

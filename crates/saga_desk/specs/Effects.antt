@@ -1,4 +1,4 @@
--- What calls do to a book and to a seat.
+-- The effects of calls on a book and on a seat.
 use Rattle.std.specs.Prelude.{◌≡◌, ℕ, ◌+◌, ◌-◌, Bool, true, false, List, [], ◌∷◌, ◌++◌, length, slice_get, IsSomeAnd}
 use Rattle.saga_def.specs.Contents.{Contents}
 use Rattle.saga_def.specs.declared.steps.Step.{Step}
@@ -25,17 +25,18 @@ use Rattle.saga_desk.specs.declared.receipts.Receipt.{Receipt}
 abbrev pub receipt_of : Book → Event → Receipt
 receipt_of book e = record { shard = book.first; mark = mark_of e; place = length book.history }
 
--- the book has this one event more, and the seat its receipt; the seat has then so many claims outstanding
+-- the book has this event in addition, the seat has its receipt, and the seat then has this number of outstanding
+-- claims
 pub record Records (old new : Book) (before after : Seat) (e : Event) (claims : ℕ) : Type 0 where
   pub event : new ≡ with_event old e
   pub receipt : after ≡ record { number = before.number; receipts = before.receipts ++ receipt_of old e ∷ []; claims = claims }
 
--- book and seat are as they were
+-- book and seat are unchanged
 pub record StayAsTheyWere (old new : Book) (before after : Seat) : Type 0 where
   pub book : new ≡ old
   pub seat : after ≡ before
 
--- the transition with which an action, or a compensation, begins
+-- the transition that starts an action or a compensation
 abbrev pub start_of : Bool → Transition
 start_of false = transition.StartRun
 start_of true = transition.StartUndo
@@ -44,13 +45,13 @@ start_of true = transition.StartUndo
 abbrev pub IsNamed : Contents → ℕ → List ℕ → Type 0
 IsNamed d s name = IsSomeAnd (slice_get d.steps s) (λ (step : Step). step.name ≡ name)
 
--- of a saga with that definition and those changes the job is the next attempt at its step, counted from 1, and has the
--- step's name
+-- for a saga with this definition and these changes, the job is the next attempt of its step, counted from 1, and has
+-- the step's name
 pub record IsAttempt (d : Contents) (l : List Change) (job : Job) : Type 0 where
   pub name : IsNamed d job.step job.name
   pub attempt : job.attempt ≡ missed (kind_of job.is_undo) l job.step + 1
 
--- the same of the job's saga in a book
+-- the same for the job's saga in a book
 abbrev pub IsNextAttempt : Book → Job → Type 0
 IsNextAttempt b job = OfSaga b job.saga (λ d l. IsAttempt d l job)
 
@@ -62,7 +63,7 @@ pub record IsJob (b : Book) (k i s : ℕ) (undo : Bool) (job : Job) : Type 0 whe
   pub is_undo : job.is_undo ≡ undo
   pub next : IsNextAttempt b job
 
--- of the tasks of the book the first was claimed, and nothing else happened
+-- the first task of the book is claimed, and nothing else changes
 abbrev pub ClaimsFirst : Book → Book → Seat → Seat → Claim → Type 0
 ClaimsFirst old new before after (Run job) =
     IsFirstTask old (task.Run job.saga job.step)
@@ -80,8 +81,8 @@ ClaimsFirst old new before after (Plan job case) =
 ClaimsFirst old new before after Idle = ⊥
 ClaimsFirst old new before after Settled = ⊥
 
--- what a seat that asks for work is given: the first task of the book, claimed; or why there is none, and then nothing
--- happened: not every saga is ended or stuck, or each is
+-- the result for a seat that asks for work: the first task of the book, claimed; or that no task exists, without a
+-- change: not every saga is ended or stuck, or each is
 abbrev pub Serves : Book → Book → Seat → Seat → Claim → Type 0
 Serves old new before after (Run job) = ClaimsFirst old new before after (Run job)
 Serves old new before after (Undo job) = ClaimsFirst old new before after (Undo job)
@@ -94,7 +95,7 @@ Serves old new before after Settled = AllAreOver old × StayAsTheyWere old new b
 abbrev pub IsSettled : Claim → Type 0
 IsSettled claim = claim ≡ Settled
 
--- the job, which was the next attempt at its step, ended by its outcome, with a transition that was allowed
+-- the job, which was the next attempt of its step, ended with its outcome by a transition that was allowed
 pub record EndsBy (old new : Book) (before after : Seat) (job : Job) (outcome : Outcome) (t : Transition) : Type 0 where
   pub next : IsNextAttempt old job
   pub ends : IsEndOf (kind_of job.is_undo) outcome t
@@ -104,18 +105,18 @@ pub record EndsBy (old new : Book) (before after : Seat) (job : Job) (outcome : 
 abbrev pub Ends : Book → Book → Seat → Seat → Job → Outcome → Type 0
 Ends old new before after job outcome = (t : Transition) × EndsBy old new before after job outcome t
 
--- the seat has one receipt more, with this mark, and then so many claims outstanding
+-- the seat has one receipt more, with this mark, and then this number of outstanding claims
 abbrev pub Gains : Seat → Seat → Mark → ℕ → Type 0
 Gains before after m claims =
     (r : Receipt) × (r.mark ≡ m) × (after ≡ record { number = before.number; receipts = before.receipts ++ r ∷ []; claims = claims })
 
--- the same, of a receipt on this shard
+-- the same for a receipt on this shard
 abbrev pub GainsOn : ℕ → Seat → Seat → Mark → Type 0
 GainsOn shard before after m =
     (r : Receipt) × (r.shard ≡ shard) × (r.mark ≡ m)
     × (after ≡ record { number = before.number; receipts = before.receipts ++ r ∷ []; claims = before.claims })
 
--- what a claim does to the seat
+-- the effect of a claim on the seat
 abbrev pub Claims : Seat → Seat → Claim → Type 0
 Claims before after (Run job) =
     (job.seat ≡ before.number) × (job.is_undo ≡ false) × Gains before after (mark.StartRun job.saga job.step) (before.claims + 1)
@@ -126,7 +127,7 @@ Claims before after (Plan job case) =
 Claims before after Idle = after ≡ before
 Claims before after Settled = after ≡ before
 
--- the seat gained the receipt of an end of the job by its outcome
+-- the seat gained the receipt for the end of the job with its outcome
 abbrev pub GainsEnd : Seat → Seat → Job → Outcome → Type 0
 GainsEnd before after job outcome =
     (t : Transition) × IsEndOf (kind_of job.is_undo) outcome t × Gains before after (mark_of (step_event job.saga job.step t)) (before.claims - 1)

@@ -1,9 +1,9 @@
--- What a seat has claimed.
+-- What a seat claims: jobs and plans.
 use Rattle.std.specs.Prelude.{ℕ, Bool, true, false, List}
 use Rattle.saga_history.specs.declared.tasks.Kind.{Kind}
 use Rattle.saga_history.specs.declared.tasks.Kind.TheVariants.{Run, Undo}
 
--- the number of the seat, the saga, the step with its name, whether its compensation is meant, and the attempt
+-- the number of the seat, the saga, the step with its name, whether the job is its compensation, and the attempt
 pub record Job : Type 0 where
   pub seat : ℕ
   pub saga : ℕ

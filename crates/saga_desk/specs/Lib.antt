@@ -1,4 +1,4 @@
--- Desks: seats that work on shared books, and the receipts by which they answer for it.
+-- Desks: seats that work on shared books, and the receipts of their events.
 pub mod Seat
 pub mod Job
 pub mod Desk

@@ -16,44 +16,44 @@ use Rattle.saga_desk.specs.Seat.{Seat}
 use Rattle.saga_desk.specs.declared.refusals.EndRefusal.{EndRefusal}
 use Rattle.saga_desk.specs.declared.refusals.EndRefusal.TheVariants as end
 
--- the seat is the one of that number, and has a claim outstanding
+-- the seat has this number and an outstanding claim
 pub record HasClaimed (number : ℕ) (seat : Seat) : Type 0 where
   pub own : number ≡ seat.number
   pub some : 0 < seat.claims
 
--- the book has so many definitions, and numbers its sagas as the shard of that number does, of so many
+-- the book has `count` definitions, and numbers its sagas as the shard with this number, out of `shards`, does
 pub record IsOnShard (count shards shard : ℕ) (b : Book) : Type 0 where
   pub shelf : length b.shelf ≡ count
   pub first : b.first ≡ shard
   pub stride : b.stride ≡ shards
 
--- this holds of a book that the shard of that number had
+-- the property holds for a book that the shard with this number had
 abbrev pub OnShard : ℕ → ℕ → ℕ → (Book → Type 0) → Type 0
 OnShard shelf shards shard P = (b : Book) × IsOnShard shelf shards shard b × P b
 
--- this holds of a book that the shard had on which such a desk has a saga
+-- the property holds for a book that the shard of this saga had
 abbrev pub OnShardOf : Desk → ℕ → (Book → Type 0) → Type 0
 OnShardOf desk saga P = OnShard (length desk.shelf) desk.shards (saga % desk.shards) P
 
--- why a desk with so many definitions opens no saga on a shard: its definition is not on the shelf; or it is, and the shard is full,
--- or memory is wanting
+-- why a desk opens no saga on a shard: its definition is not on the shelf; or it is, and the shard is full or memory is
+-- lacking
 abbrev pub OpenIsRefused : ℕ → ℕ → ℕ → ℕ → OpenRefusal → Type 0
 OpenIsRefused shelf shards shard k opening.NoSuchDefinition = shelf ≤ k
 OpenIsRefused shelf shards shard k opening.Full = (k < shelf) × OnShard shelf shards shard (λ b. OpenRefused b k opening.Full)
 OpenIsRefused shelf shards shard k opening.OutOfMemory = (k < shelf) × OnShard shelf shards shard (λ b. OpenRefused b k opening.OutOfMemory)
 
--- there is such a step, and the job is not the next attempt at it, or has another name
+-- the step exists, and the job is not its next attempt or has another name
 abbrev pub IsOfAnother : Book → Job → Type 0
 IsOfAnother b job = OfSaga b job.saga (λ d l. (job.step < length d.steps) × (IsAttempt d l job → ⊥))
 
--- why the end of what a seat of that number claimed is not taken: another seat hands it in, it is of another attempt, or the book
--- refuses it
+-- why the end of a job or plan that a seat claimed is refused: another seat reports it, it is not the next attempt, or
+-- the book refuses it
 abbrev pub EndIsRefused : {W : Type 0} → ℕ → Seat → Type 0 → (W → Type 0) → EndRefusal W → Type 0
 EndIsRefused number seat other P end.OtherSeat = HasClaimed number seat → ⊥
 EndIsRefused number seat other P end.OtherAttempt = HasClaimed number seat × other
 EndIsRefused number seat other P (end.Book why) = HasClaimed number seat × P why
 
--- why a report, an adoption or a plan that is given back is not taken
+-- why a report, an adoption or the end of a planning is refused
 abbrev pub ReportIsRefused : Book → Seat → Job → EndRefusal ReportRefusal → Type 0
 ReportIsRefused book seat job why =
     EndIsRefused job.seat seat (IsOfAnother book job)

@@ -1,10 +1,10 @@
--- How far lists are used up.
+-- How many elements of lists are consumed.
 use Rattle.std.specs.Prelude.{◌≡◌, ℕ, List, [], ◌∷◌, slice_index_or, drop}
 use Rattle.saga_core.specs.Book.{Book}
 use Rattle.saga_desk.specs.Agreement.{histories_of, receipts_of}
 use Rattle.saga_desk.specs.Seat.{Seat}
 
--- what is left of each list after so many elements
+-- the rest of each list after this number of elements
 abbrev pub rests : {X : Type 0} → List (List X) → List ℕ → List (List X)
 rests [] cs = []
 rests (l ∷ ls) [] = l ∷ ls
@@ -18,11 +18,11 @@ IsNextOf {X} ls cs i x = (r : List X) × (slice_index_or (rests ls cs) i [] ≡ 
 abbrev pub IsNext : {X : Type 0} → List (List X) → List ℕ → List (List X) → List ℕ → ℕ → ℕ → Type 0
 IsNext {X} hs taken ss told i k = (x : X) × IsNextOf hs taken i x × IsNextOf ss told k x
 
--- none is next in those receipts and in a history
+-- no element is next both in these receipts and in a history
 abbrev pub NoneIsNext : {X : Type 0} → List (List X) → List ℕ → List (List X) → List ℕ → ℕ → Type 0
 NoneIsNext hs taken ss told k = (i : ℕ) → IsNext hs taken ss told i k → ⊥
 
--- the same of books and seats
+-- the same for books and seats
 abbrev pub IsNextIn : List Book → List ℕ → List Seat → List ℕ → ℕ → ℕ → Type 0
 IsNextIn books taken seats told i k = IsNext (histories_of books) taken (receipts_of seats) told i k
 

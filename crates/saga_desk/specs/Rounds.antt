@@ -8,7 +8,7 @@ use Rattle.saga_desk.specs.declared.rounds.Found.{Found}
 use Rattle.saga_desk.specs.declared.rounds.Found.TheVariants as found
 use Rattle.saga_desk.specs.declared.rounds.Round.{Round}
 
--- whether a shard was busy, where this is one more that was looked at; and whether each was over
+-- whether a shard was busy after one more visit; whether all were over after one more visit
 abbrev pub busy_after : Bool → Found → Bool
 busy_after b found.Busy = true
 busy_after b found.Idle = b
@@ -19,7 +19,7 @@ over_after b found.Busy = b
 over_after b found.Idle = false
 over_after b found.Over = b
 
--- the round after one more shard
+-- the round after the visit of one more shard
 abbrev pub after : Round → Found → Round
 after r f = record {
   shards = r.shards;
@@ -29,7 +29,7 @@ after r f = record {
   is_over = over_after r.is_over f;
 }
 
--- a round over so many shards that begins
+-- a round over this number of shards that starts
 pub record Begins (shards : ℕ) (r : Round) : Type 0 where
   pub all : r.shards ≡ shards
   pub next : r.next < shards
@@ -37,7 +37,7 @@ pub record Begins (shards : ℕ) (r : Round) : Type 0 where
   pub is_busy : r.is_busy ≡ false
   pub is_over : r.is_over ≡ true
 
--- one more shard was looked at; and none but one that was not busy
+-- one more shard was visited; one more shard was visited, and it was not busy
 abbrev pub WasLookedAt : Round → Round → Type 0
 WasLookedAt old new = (f : Found) × (new ≡ after old f)
 
@@ -47,20 +47,21 @@ IsFree f = (f ≡ found.Idle) ⊎ (f ≡ found.Over)
 abbrev pub WasFree : Round → Round → Type 0
 WasFree old new = (new ≡ after old found.Idle) ⊎ (new ≡ after old found.Over)
 
--- a shard with this book was looked at, and each of its sagas is ended or stuck just where it was found so
+-- a shard with this book was visited; the visit found that it is over if and only if each of its sagas is ended or
+-- stuck
 abbrev pub WasFoundAs : Book → Round → Round → Type 0
 WasFoundAs b old new =
     (AllAreOver b × (new ≡ after old found.Over)) ⊎ ((AllAreOver b → ⊥) × (new ≡ after old found.Idle))
 
--- a round that looked once at each of so many shards, and whether one was busy, and each over
+-- a round that visited each of the shards once; whether one was busy, and whether all were over
 pub record IsWhole (shards : ℕ) (r : Round) (busy over : Bool) : Type 0 where
   pub all : r.shards ≡ shards
   pub looked : r.looked ≡ shards
   pub is_busy : r.is_busy ≡ busy
   pub is_over : r.is_over ≡ over
 
--- what a round over so many shards answers: a task; else, where each shard was looked at and none was busy, that each was over, or
--- that one was not; and nothing where one was busy
+-- the result of a round over this number of shards: a task; or, if each shard was visited and none was busy, that all
+-- were over or that one was not; or nothing if one was busy
 abbrev pub IsFoundBy : ℕ → Round → Option Claim → Type 0
 IsFoundBy shards r (Some (Run job)) = Unit {0}
 IsFoundBy shards r (Some (Undo job)) = Unit {0}

@@ -1,4 +1,4 @@
--- What a book holds of what it was told.
+-- A book has only reports and aborts that are permitted.
 use Rattle.std.specs.Prelude.{◌≡◌, ℕ, List, [], ◌∷◌, IsSomeAnd}
 use Rattle.saga_def.specs.Contents.{Contents}
 use Rattle.saga_history.specs.declared.events.Event.{Event}
@@ -14,8 +14,8 @@ use Rattle.saga_core.specs.Book.{Book}
 use Rattle.saga_desk.specs.Effects.{IsAttempt}
 use Rattle.saga_desk.specs.Job.{Job, kind_of}
 
--- after these events, step s of saga i ends by this transition: that is an outcome that may be reported of the job at it, which is the
--- next attempt at the step and has its name
+-- after these events, step s of saga i ends by this transition, and the outcome may be reported for the job of the
+-- step; this job is the next attempt of the step and has its name
 pub record EndIsTold (may : Job → Outcome → Type 0) (shelf : List Contents) (h : List Event) (i s : ℕ) (t : Transition) : Type 0 where
   pub job : Job
   pub saga : job.saga ≡ i
@@ -25,7 +25,8 @@ pub record EndIsTold (may : Job → Outcome → Type 0) (shelf : List Contents) 
   pub ends : IsEndOf (kind_of job.is_undo) outcome t
   pub told : may job outcome
 
--- an event after these: the end of an action or a compensation may be reported, and an abort asked for
+-- an event after these events: if it ends an action or a compensation, that may be reported; if it is an abort, it may
+-- be requested
 abbrev pub IsTold : (Job → Outcome → Type 0) → (ℕ → Type 0) → List Contents → List Event → Mark → Type 0
 IsTold may may_abort shelf h (mark.Open i k) = Unit {0}
 IsTold may may_abort shelf h (mark.StartRun i s) = Unit {0}
@@ -41,7 +42,7 @@ IsTold may may_abort shelf h (mark.Missed i s) = EndIsTold may shelf h i s trans
 IsTold may may_abort shelf h (mark.UndoMissed i s) = EndIsTold may shelf h i s transition.UndoMissed
 IsTold may may_abort shelf h (mark.Abort i) = may_abort i
 
--- each event of a past, after those before it
+-- each event of a past, after the events before it
 abbrev pub AreTold : (Job → Outcome → Type 0) → (ℕ → Type 0) → List Contents → List Event → Type 0
 AreTold may may_abort shelf [] = Unit {0}
 AreTold may may_abort shelf (e ∷ h) = IsTold may may_abort shelf h (mark_of e) × AreTold may may_abort shelf h

@@ -8,11 +8,12 @@ use crate::shards::Seat;
 use saga_core::Book;
 use saga_history::Mark;
 
-/// Whether the receipts of all seats are the events of the books, each once, in some one order that is the order within
-/// each book and the order of each seat. `taken` and `told` are a zero for each book and for each seat.
+/// Returns whether the receipts of all seats are the events of the books, each exactly once, in one common order. This
+/// order extends the order of each book and the order of each seat. `taken` and `told` have a zero for each book and
+/// for each seat.
 ///
-/// Takes, again and again, any event that is next in its book and in its seat: about as much time as there are events, and
-/// at most that times the seats.
+/// Repeatedly takes an event that is next both in its book and in its seat. Takes time about linear in the number of
+/// events, and at most that number times the number of seats.
 pub(crate) fn agree(
     books: &[Book<'_>],
     seats: &[Seat],
@@ -32,8 +33,8 @@ pub(crate) fn agree(
     are_taken(books, taken) && are_told(seats, told)
 }
 
-/// A book and a seat of which the next event and the next receipt are one: of the seats from the first one on, and then of
-/// those before it.
+/// A book and a seat whose next event and next receipt are the same. Searches the seats from `first` on, and then the
+/// seats before it.
 fn next_from(
     books: &[Book<'_>],
     seats: &[Seat],
@@ -59,7 +60,7 @@ fn next_from(
     next_between(books, seats, taken, told, 0, first)
 }
 
-/// The same, of the seats between two numbers.
+/// The same, for the seats between two numbers.
 fn next_between(
     books: &[Book<'_>],
     seats: &[Seat],
@@ -89,7 +90,7 @@ fn next_between(
     None
 }
 
-/// The book of which the next event is the one of the seat's next receipt.
+/// The book whose next event is that of the seat's next receipt.
 fn next_of_seat(
     books: &[Book<'_>],
     seats: &[Seat],
@@ -116,7 +117,7 @@ fn next_of_seat(
     book_of(books, taken, receipts[number])
 }
 
-/// The book of which the next event is the one of this receipt.
+/// The book whose next event is that of this receipt.
 fn book_of(books: &[Book<'_>], taken: &[usize], receipt: Receipt) -> Option<usize>
     requires { length taken.now ≡ length books.now }
     ensures within { IfSome result (λ shard. shard < length books.now) }
@@ -150,7 +151,7 @@ fn is_same(a: &Mark, b: &Mark) -> bool
     a == b
 }
 
-/// Whether each history is used up.
+/// Whether all events of each history are consumed.
 fn are_taken(books: &[Book<'_>], taken: &[usize]) -> bool
     requires { length taken.now ≡ length books.now }
     ensures { IsTrue result
@@ -165,7 +166,7 @@ fn are_taken(books: &[Book<'_>], taken: &[usize]) -> bool
     true
 }
 
-/// Whether the receipts of each seat are used up.
+/// Whether all receipts of each seat are consumed.
 fn are_told(seats: &[Seat], told: &[usize]) -> bool
     requires { length told.now ≡ length seats.now }
     ensures { IsTrue result

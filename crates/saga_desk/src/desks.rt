@@ -1,4 +1,4 @@
-//! The desk: shards under locks of their own, which seats share.
+//! The desk: shards that the seats of several workers share, each protected by its own lock.
 ghost use Rattle.std.specs.Prelude.{◌≡◌, ◌↔◌, ◌<◌, ◌≤◌, ◌-◌, ◌%◌, IfOk, IfErr, IfSome, IfNone, IsTrue, OnOk, OnErr, length};
 ghost use Rattle.std.specs.Sync.Mutex.{mutex_guard_value};
 ghost use Rattle.saga_history.specs.declared.events.Mark.TheVariants as mark;
@@ -32,31 +32,32 @@ use std::sync::atomic::{AtomicU64, Ordering};
 use std::sync::{Mutex, MutexGuard, Wait};
 use std::thread::yield_now;
 
-/// For how many turns a claim looks whether another seat claims at a shard: some microseconds at most.
+/// How many spin-loop turns a claim waits to see whether another seat claims at a shard: at most some microseconds.
 const MOMENT: u32 = 64;
 
-/// How often a lock is tried before a thread sleeps until it is free, and the turns from one try to the next.
+/// How often a thread tries a lock before it sleeps until the lock is free. `SHORT` is the number of spin-loop turns
+/// between two tries.
 const TRIES: u32 = 64;
 
 const SHORT: u32 = 4;
 
-/// How often a claim looks for a shard at which no other seat is, before it waits for a lock: about a millisecond.
+/// How often a claim searches for a shard without contention before it waits for a lock: about a millisecond.
 const LOOKS: u32 = 16;
 
-/// The number of looks after which it lets other threads run, and waits no longer from one to the next.
+/// The number of searches after which a claim yields to other threads. It does not lengthen its waits after that.
 const SHORT_LOOKS: u32 = 4;
 
-/// Lets so many turns pass.
+/// Spins for this number of turns.
 fn pause(turns: u32) {
     for _ in 0..turns {
         spin_loop();
     }
 }
 
-/// A shard under its lock, with its number, and what a claim may look at without the lock.
+/// A shard with its lock and its number, and the fields that a claim may read without the lock.
 ///
-/// `claims` counts the claims. It and the sign are written under the lock alone. They lie apart from the lock and from the next slot,
-/// in cache lines of their own, so that those who look do not slow down those who write.
+/// `claims` counts the claims. It and the sign are written only by the holder of the lock. Padding separates them from
+/// the lock and from the next slot, so that they have their own cache lines and readers do not slow down the writers.
 #[derive(Drop)]
 struct Slot<'d, P: Policy> {
     number: u32,
@@ -81,7 +82,7 @@ impl<'d, P: Policy> Slot<'d, P> {
         }
     }
 
-    /// The shard under its lock.
+    /// Locks the shard.
     fn lock<R: Wait>(&self, rt: &R) -> MutexGuard<'_, Ruled<'d, P>> {
         for _ in 0..TRIES {
             if let Some(locked) = self.shard.try_lock() {
@@ -92,7 +93,7 @@ impl<'d, P: Policy> Slot<'d, P> {
         self.shard.lock(rt)
     }
 
-    /// How the shard was found, where its sign shows that it has no task.
+    /// The state of the shard, if its sign shows that it has no task.
     fn found(&self) -> Option<Found>
         ensures { IfSome result (λ found. IsFree found) }
     {
@@ -103,7 +104,8 @@ impl<'d, P: Policy> Slot<'d, P> {
         }
     }
 
-    /// What the shard has for the seat, under its lock; where it has nothing, the round is told how it was found.
+    /// Returns the task of the locked shard for the seat. If there is none, it records the state of the shard in the
+    /// round.
     fn serve(
         &self,
         ruled: &mut Ruled<'d, P>,
@@ -137,8 +139,8 @@ impl<'d, P: Policy> Slot<'d, P> {
         }
     }
 
-    /// Whether another seat claimed here last, and one claims again within a moment: then a seat more would only have them wait for
-    /// each other.
+    /// Whether there is contention at the shard: another seat made the last claim here, and one claims again within a
+    /// moment. One more seat would then only wait.
     fn is_busy(&self, seat: &Seat) -> bool {
         let claims = self.claims.load(Ordering::SeqCst);
         if !seat.is_careful() || seat.claimed_last(self.number, claims) {
@@ -148,8 +150,8 @@ impl<'d, P: Policy> Slot<'d, P> {
         self.claims.load(Ordering::SeqCst) != claims
     }
 
-    /// The task that this shard has for the seat; where it has none, the round is told how it was found. Where that is shown, the
-    /// lock is not taken.
+    /// Returns the task of this shard for the seat. If there is none, it records the state of the shard in the round.
+    /// If the sign shows that there is none, it does not lock the shard.
     fn claim<R: Wait>(
         &self,
         rt: &R,
@@ -174,7 +176,8 @@ impl<'d, P: Policy> Slot<'d, P> {
         self.serve(&mut *locked, seat, round)
     }
 
-    /// The same without waiting for the lock; where the shard may have a task, and other seats are at it, it was found busy.
+    /// The same without waiting for the lock. If the shard may have a task and other seats use it, the round records
+    /// that the shard is busy.
     fn try_claim(&self, seat: &mut Seat, round: &mut Round) -> Result<Option<Claim<'d>>, AllocError>
         requires next { self.now.number ≡ round.old.next }
         requires within { round.old.next < round.old.shards }
@@ -211,8 +214,8 @@ impl<'d, P: Policy> Slot<'d, P> {
     }
 }
 
-/// Waits for ever, with a shard that is not the one of its place. It is never called: nothing is known of what a lock holds but its
-/// type, but a shard keeps its number and its shelf.
+/// Waits forever, if a shard is not the one of its index. It is never called: a shard keeps its number and its shelf.
+/// But a contract knows only the type of a value that a lock protects, so this case needs code.
 fn wait_for_ever<'s, 'd, R: Wait, P: Policy>(
     rt: &R,
     locked: MutexGuard<'s, Ruled<'d, P>>,
@@ -228,7 +231,7 @@ fn wait_for_ever<'s, 'd, R: Wait, P: Policy>(
     unreachable!()
 }
 
-/// Whether this is the shard of that number, of so many, with so many definitions on its shelf.
+/// Whether this is the shard with this number, out of `shards`, with `shelf` definitions on its shelf.
 fn is_on_shard<P: Policy>(ruled: &Ruled<'_, P>, shelf: usize, shards: usize, shard: usize) -> bool
     ensures { IsTrue result ↔ IsOnShard shelf shards shard ruled.now }
 {
@@ -237,12 +240,12 @@ fn is_on_shard<P: Policy>(ruled: &Ruled<'_, P>, shelf: usize, shards: usize, sha
         && ruled.stride() as usize == shards
 }
 
-/// Shards that several seats share. Contracts see its shelf, and how many seats and shards it has.
+/// Shards that several seats share. Contracts see its shelf and the numbers of seats and shards.
 ///
-/// It takes no report and no abort that its policy does not let be told. By `Brand`, as of [`Desk::open`], that is anything.
+/// It accepts only the reports and aborts that its policy permits. With `Brand`, as in [`Desk::open`], it accepts all.
 ///
-/// Each call but `shards` and `finish` locks a shard and makes one call of [`Shard`] there, which says what happens; it
-/// may wait for the lock. What a call does to the seat is told here.
+/// Each call except `shards` and `finish` locks a shard, which may block, and calls one method of [`Shard`]. That
+/// method documents the effect on the book. The methods here document the effect on the seat.
 #[derive(Drop)]
 pub struct Desk<'d, P: Policy = Brand> {
     shelf: &'d [Definition],
@@ -266,8 +269,8 @@ impl<'d, P: Policy> Model for Desk<'d, P> {
 }
 
 impl<'d> Desk<'d> {
-    /// A desk that anything may be told, with so many shards, numbered from 0 on, and its seats, numbered likewise. Shard `s`
-    /// numbers its sagas `s`, `s + shards` and so on.
+    /// Returns a desk that accepts all reports and aborts, and its seats. Shards and seats are numbered from 0. Shard
+    /// `s` numbers its sagas `s`, `s + shards` and so on.
     pub fn open(
         alloc: Global,
         shelf: &'d [Definition],
@@ -286,7 +289,7 @@ impl<'d> Desk<'d> {
 }
 
 impl<'d, P: Policy> Desk<'d, P> {
-    /// A desk as of [`Desk::open`], that only what this policy lets may be told.
+    /// Returns a desk like [`Desk::open`], which accepts only the reports and aborts that this policy permits.
     pub fn open_with_policy(
         alloc: Global,
         shelf: &'d [Definition],
@@ -316,14 +319,14 @@ impl<'d, P: Policy> Desk<'d, P> {
         Ok((desk, all))
     }
 
-    /// How many shards there are. Takes no memory.
+    /// The number of shards. Takes no memory.
     pub fn shards(&self) -> u32
         ensures { result ≡ self.now.shards }
     {
         self.slots.len() as u32
     }
 
-    /// The shard of that number, under its lock.
+    /// Locks the shard with this number.
     fn lock<R: Wait>(&self, rt: &R, shard: usize) -> MutexGuard<'_, Ruled<'d, P>>
         requires { shard < self.now.shards }
         ensures { IsOnShard (length self.now.shelf) self.now.shards shard (mutex_guard_value result) }
@@ -337,8 +340,8 @@ impl<'d, P: Policy> Desk<'d, P> {
         wait_for_ever(rt, locked, shelf, shards, shard)
     }
 
-    /// Opens a saga on a shard by a definition on the shelf, and gives its number. NoSuchDefinition where the definition is not
-    /// on the shelf; what else refuses it is told by the shard.
+    /// Opens a saga on a shard by a definition on the shelf, and returns its number. The refusal is NoSuchDefinition if
+    /// the definition is not on the shelf. The shard documents the other refusals.
     pub fn open_saga<R: Wait>(
         &self,
         rt: &R,
@@ -360,9 +363,10 @@ impl<'d, P: Policy> Desk<'d, P> {
         ruled.open_saga(&self.slots[place].sign, seat, definition)
     }
 
-    /// Claims the first task of a shard that has one: of the one at which the seat claimed last, and else of the next, going round.
-    /// A shard at which other seats claim at once is passed over for about a millisecond. Settled: each shard was settled when it
-    /// was looked at. Idle: none had a task, and one at least was not settled. A claim also takes all memory that its end needs.
+    /// Claims the first task of a shard that has one. It starts at the shard of the seat's last claim and continues
+    /// with the next shards in a circle. For about a millisecond it skips shards at which other seats claim at the same
+    /// time. Settled: each shard was settled when it was visited. Idle: no shard had a task, and at least one was not
+    /// settled. A claim also allocates all memory that its end needs.
     pub fn claim<R: Wait>(&self, rt: &R, seat: &mut Seat) -> Result<Claim<'d>, AllocError>
         ensures ok { IfOk result (λ claim. Claims seat.old seat.new claim) }
         ensures err { OnErr result (seat.new ≡ seat.old) }
@@ -381,7 +385,7 @@ impl<'d, P: Policy> Desk<'d, P> {
         self.wait_and_claim(rt, seat, &mut round)
     }
 
-    /// A round that begins where the seat claimed last.
+    /// A round that starts at the shard of the seat's last claim.
     fn round(&self, seat: &Seat) -> Round
         ensures { Begins self.now.shards result }
     {
@@ -389,7 +393,7 @@ impl<'d, P: Policy> Desk<'d, P> {
         Round::new(count, seat.place() as usize % count)
     }
 
-    /// The same, without waiting for a lock: none where a shard may have a task, and other seats are at it.
+    /// The same, without waiting for a lock. Returns `None` if a shard may have a task and other seats use it.
     fn try_claim(&self, seat: &mut Seat, round: &mut Round) -> Result<Option<Claim<'d>>, AllocError>
         requires { Begins self.now.shards round.old }
         ensures some { IfOk result
@@ -408,7 +412,7 @@ impl<'d, P: Policy> Desk<'d, P> {
         Ok(round.end(seat))
     }
 
-    /// The same, waiting for the lock of each shard that may have a task.
+    /// The same, which waits for the lock of each shard that may have a task.
     fn wait_and_claim<R: Wait>(
         &self,
         rt: &R,
@@ -434,7 +438,7 @@ impl<'d, P: Policy> Desk<'d, P> {
         Ok(claim)
     }
 
-    /// Whether a claim would be answered by idle, as far as can be seen without a lock.
+    /// Whether a claim would return Idle, as far as the signs show without a lock.
     pub fn is_idle(&self) -> bool {
         let mut is_idle = false;
         for slot in &self.slots {
@@ -447,9 +451,10 @@ impl<'d, P: Policy> Desk<'d, P> {
         is_idle
     }
 
-    /// The action or the compensation of a job ended: done, or failed, to be tried again while the step has tries left.
-    /// Takes no memory. A refusal hands the job back: OtherSeat where another seat claimed it or this one has no claim
-    /// outstanding, OtherAttempt where it is no job at the next attempt at its step, and then what the saga's book answers.
+    /// Reports that the action or the compensation of a job ended: it succeeded, or failed and is retried while the
+    /// step has tries left. Takes no memory. A refusal returns the job. OtherSeat: another seat claimed it, or this
+    /// seat has no outstanding claim. OtherAttempt: the job is not the next attempt of its step. After these come the
+    /// refusals of the saga's book.
     pub fn report<R: Wait>(
         &self,
         rt: &R,
@@ -472,8 +477,8 @@ impl<'d, P: Policy> Desk<'d, P> {
         ruled.report(&self.slots[place].sign, seat, job, outcome)
     }
 
-    /// A planning ends by an answer: a verdict on the saga's present case is adopted. Takes no memory. A refusal hands job
-    /// and verdict back, with the cause as [`Desk::report`].
+    /// Ends a planning with an answer: adopts a verdict on the saga's present case. Takes no memory. A refusal returns
+    /// job and verdict, with the cause as in [`Desk::report`].
     pub fn adopt<R: Wait>(
         &self,
         rt: &R,
@@ -497,7 +502,7 @@ impl<'d, P: Policy> Desk<'d, P> {
         ruled.adopt(&self.slots[place].sign, seat, job, verdict)
     }
 
-    /// A planning ends without an answer. Takes no memory. A refusal hands the job back, with the cause as
+    /// Ends a planning without an answer. Takes no memory. A refusal returns the job, with the cause as in
     /// [`Desk::report`].
     pub fn give_back<R: Wait>(
         &self,
@@ -520,7 +525,7 @@ impl<'d, P: Policy> Desk<'d, P> {
         ruled.give_back(&self.slots[place].sign, seat, job)
     }
 
-    /// A saga is aborted.
+    /// Aborts a saga.
     pub fn abort<R: Wait>(&self, rt: &R, seat: &mut Seat, saga: u32) -> Result<(), SagaRefusal>
         requires { P.may_abort saga }
         ensures ok { OnOk result (Gains seat.old seat.new (mark.Abort saga) seat.old.claims) }
@@ -534,7 +539,7 @@ impl<'d, P: Policy> Desk<'d, P> {
         ruled.abort(&self.slots[place].sign, seat, saga)
     }
 
-    /// The place of the shard that has the sagas of such a number.
+    /// The index of the shard that has the saga with this number.
     fn place_of(&self, saga: u32) -> usize
         ensures which { result ≡ saga % self.now.shards }
         ensures within { result < self.now.shards }

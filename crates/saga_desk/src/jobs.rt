@@ -1,4 +1,4 @@
-//! What a seat has claimed.
+//! What a seat claims: jobs and plans.
 ghost use Rattle.std.specs.Prelude.{◌≡◌};
 ghost use Rattle.saga_desk.specs.Job.{kind_of};
 
@@ -6,7 +6,7 @@ use saga_case::Case;
 use saga_history::Kind;
 use std::marker::Model;
 
-/// A step's action, or its compensation, that a seat has claimed. A job that is dropped leaves its step busy.
+/// The action of a step, or its compensation, that a seat has claimed. If a job is dropped, its step stays busy.
 #[derive(Debug, Drop)]
 pub struct Job<'d> {
     pub(crate) seat: u32,
@@ -54,7 +54,7 @@ impl<'d> Job<'d> {
         self.name
     }
 
-    /// Whether the compensation is meant, and not the action.
+    /// Whether the job is the compensation of the step, and not its action.
     pub fn is_undo(&self) -> bool
         ensures { result ≡ self.now.is_undo }
     {
@@ -68,7 +68,7 @@ impl<'d> Job<'d> {
         if self.is_undo { Kind::Undo } else { Kind::Run }
     }
 
-    /// Which attempt at it this is, counted from 1 over the whole life of the saga.
+    /// The number of the attempt, from 1. It counts all attempts in the life of the saga.
     pub fn attempt(&self) -> u64
         ensures { result ≡ self.now.attempt }
     {
@@ -76,7 +76,7 @@ impl<'d> Job<'d> {
     }
 }
 
-/// The planning of a saga that a seat has claimed. One that is dropped leaves its saga planning.
+/// The planning of a saga that a seat has claimed. If it is dropped, the saga stays in planning.
 #[derive(Debug, Drop)]
 pub struct PlanJob {
     pub(crate) seat: u32,
@@ -100,16 +100,16 @@ impl PlanJob {
     }
 }
 
-/// What there is to do for a seat.
+/// The result of a claim.
 #[derive(Debug, Drop)]
 pub enum Claim<'d> {
-    /// To run a step's action.
+    /// Run a step's action.
     Run(Job<'d>),
-    /// To run a step's compensation.
+    /// Run a step's compensation.
     Undo(Job<'d>),
-    /// To plan a saga by its present case.
+    /// Plan a saga by its present case.
     Plan(PlanJob, Case<'d>),
-    /// Nothing may begin now, but not every saga is ended or stuck.
+    /// No task can start now, but not every saga is ended or stuck.
     Idle,
     /// Each saga is ended or stuck.
     Settled,

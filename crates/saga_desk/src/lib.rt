@@ -1,17 +1,17 @@
-//! A desk: seats that work side by side on the books of shards, each under a lock of its own, and receipts by which the
-//! seats answer for each event.
+//! A desk: several seats work concurrently on the books of shards, each protected by its own lock. Seats hold a receipt
+//! for each event that they add.
 //!
-//! What a call does under a lock is told by the methods of [`Shard`]. [`Desk::finish`] compares all receipts with all
-//! histories, so it is known of the books that it gives that they are just what the seats did, in one legal history.
+//! The methods of [`Shard`] document the effect of a call under a lock. [`Desk::finish`] compares all receipts with all
+//! histories. So the books that it returns record exactly what the seats did, in one legal history.
 //!
-//! One worker at one seat takes a task and reports it; each of its events has a receipt:
+//! One worker at one seat claims a task and reports it. Each of its events has a receipt:
 //!
 //! ```
 //! let (desk, mut seats) = Desk::open(alloc, shelf, 1, 1).ok()?;
 //! let seat = seats.first_mut()?;
 //! desk.open_saga(rt, seat, 0, 0).ok()?;
 //! if let Claim::Run(job) = desk.claim(rt, seat).ok()? {
-//!     // Here a worker does what the step is for, and holds no lock.
+//!     // Here a worker runs the step's action. It holds no lock.
 //!     desk.report(rt, seat, job, Outcome::Done).ok()?;
 //! }
 //! Some(seat.receipts().len())

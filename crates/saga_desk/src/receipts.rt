@@ -1,7 +1,7 @@
-//! Receipts.
+//! Receipts: the records of the events that a seat added.
 use saga_history::Mark;
 
-/// That an event was added: to which shard's history, the event's mark, and its place there, counted from 0.
+/// A record that an event was added: the shard, the event's mark, and its index, from 0, in the shard's history.
 #[derive(Clone, Copy, Debug, PartialEq, Eq)]
 pub struct Receipt {
     pub shard: u32,

@@ -1,27 +1,28 @@
-//! Why a call is refused, with what it was handed.
+//! Why a call is refused, with its arguments.
 use crate::jobs::{Job, PlanJob};
 use saga_check::Verdict;
 use saga_core::{AdoptRefusal, DropRefusal, ReportRefusal};
 
-/// Why the end of what a seat claimed is not taken.
+/// Why the end of a claimed job or plan is refused.
 #[derive(Clone, Copy, Debug, PartialEq, Eq)]
 pub enum EndRefusal<Why> {
-    /// It was claimed by a seat of another number, or the seat has no claim outstanding.
+    /// A seat with another number claimed it, or the seat has no outstanding claim.
     OtherSeat,
-    /// It is a job, and not the next attempt at its step, or the step has another name: a job of another desk, say.
+    /// The job is not the next attempt of its step, or the step has another name. For example, it is a job of another
+    /// desk.
     OtherAttempt,
-    /// The book refuses it.
+    /// The book refuses the end.
     Book(Why),
 }
 
-/// A report that is not taken.
+/// A refused report.
 #[derive(Debug, Drop)]
 pub struct ReportRefused<'d> {
     pub job: Job<'d>,
     pub why: EndRefusal<ReportRefusal>,
 }
 
-/// An adoption that is not taken.
+/// A refused adoption.
 #[derive(Debug, Drop)]
 pub struct AdoptionRefused<'d> {
     pub job: PlanJob,
@@ -29,7 +30,7 @@ pub struct AdoptionRefused<'d> {
     pub why: EndRefusal<AdoptRefusal>,
 }
 
-/// A plan that is not given back.
+/// A refused end of a planning.
 #[derive(Debug, Drop)]
 pub struct GiveBackRefused {
     pub job: PlanJob,

@@ -6,17 +6,17 @@ ghost use Rattle.saga_desk.specs.Rounds.{IsFoundBy, after};
 use crate::jobs::Claim;
 use crate::shards::Seat;
 
-/// How a shard was found that gave no task.
+/// The state of a shard that gave no task.
 #[derive(Clone, Copy)]
 pub(crate) enum Found {
-    /// It may have one, and others are at it.
+    /// The shard may have a task, and other seats use it.
     Busy,
     Idle,
     Over,
 }
 
-/// What was found at one shard after the other, going round: how many shards there are, which is next, at how many it was looked,
-/// and whether one was busy, and each over.
+/// The result of visiting shards one after the other in a circle: the number of shards, the next shard, the number of
+/// visited shards, whether one was busy, and whether all were over.
 #[derive(Clone, Copy)]
 pub(crate) struct Round {
     shards: usize,
@@ -27,7 +27,7 @@ pub(crate) struct Round {
 }
 
 impl Round {
-    /// A round that begins at such a shard.
+    /// A round that starts at this shard.
     pub(crate) fn new(shards: usize, first: usize) -> Round
         ensures { result ≡ record
             { shards = shards; next = first; looked = 0; is_busy = false; is_over = true } }
@@ -48,7 +48,7 @@ impl Round {
         self.next
     }
 
-    /// The next shard was found so.
+    /// Records the state of the next shard.
     pub(crate) fn note(&mut self, found: Found)
         requires next { self.old.next < self.old.shards }
         requires left { self.old.looked < self.old.shards }
@@ -63,7 +63,7 @@ impl Round {
         }
     }
 
-    /// The answer of a round that found no task for the seat, and none where a shard was busy.
+    /// The result of a round that found no task for the seat. It is `None` if a shard was busy.
     pub(crate) fn end<'d>(&self, seat: &Seat) -> Option<Claim<'d>>
         requires { self.now.looked ≡ self.now.shards }
         ensures found { IsFoundBy self.now.shards self.now result }

@@ -1,4 +1,4 @@
-//! Shards as they lie under locks.
+//! Shards with their policy and sign, as a lock protects them.
 ghost use Rattle.std.specs.Prelude.{◌≡◌, ◌<◌, ◌≤◌, ◌-◌, ◌%◌, [], IfOk, IfErr, OnOk, OnErr, length};
 ghost use Rattle.saga_history.specs.declared.events.Event.TheVariants as event;
 ghost use Rattle.saga_core.specs.Refusals.{OfSaga, OpenRefused, SagaRefused};
@@ -19,11 +19,11 @@ use saga_history::Outcome;
 use std::alloc::{AllocError, Global};
 use std::marker::{Model, PhantomData};
 
-/// A shard that holds nothing but what may be told, and what is shown of it by its sign.
+/// A shard that has only events that the policy permits, and the state that its sign shows.
 ///
-/// Its methods are those of [`Shard`], as far as a desk says what they do. Each that changes the shard is handed the shard's sign, and
-/// whatever it did, what is shown then holds of the shard: without that its lock cannot be left. A call for a saga is made on the
-/// shard that numbers its sagas so.
+/// Its methods are those of [`Shard`], as far as a desk documents them. Each method that changes the shard also takes
+/// its sign. When it returns, the sign is correct for the shard: that is an invariant of the lock. A call for a saga is
+/// made on the shard that has this number.
 #[derive(Drop)]
 pub(crate) struct Ruled<'d, P: Policy> {
     shard: Shard<'d>,
@@ -44,7 +44,7 @@ impl<'d, P: Policy> Model for Ruled<'d, P> {
 }
 
 impl<'d, P: Policy> Ruled<'d, P> {
-    /// A shard without sagas, whose sign is new.
+    /// A shard without sagas and with a new sign.
     pub(crate) fn new(
         alloc: Global,
         shelf: &'d [Definition],
@@ -197,7 +197,7 @@ impl<'d, P: Policy> Ruled<'d, P> {
         self.shard.definitions()
     }
 
-    /// The book alone.
+    /// The book of the shard.
     pub(crate) fn into_book(self) -> Book<'d>
         ensures value { result ≡ self.entry }
         ensures told { HoldsTold P.may P.may_abort result }

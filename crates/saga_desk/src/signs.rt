@@ -1,4 +1,4 @@
-//! What is shown of a shard to those who look without its lock.
+//! The sign of a shard: its state for readers without its lock.
 ghost use Rattle.std.specs.Prelude.{◌≡◌};
 ghost use Rattle.saga_desk.specs.Signs.{Shows, shown_by};
 
@@ -6,18 +6,18 @@ use crate::jobs::Claim;
 use crate::shards::Shard;
 use std::sync::atomic::{AtomicU64, Ordering};
 
-/// How a shard stands, as far as it is shown.
+/// The state of a shard, as its sign shows it.
 #[derive(Clone, Copy, PartialEq, Eq)]
 pub(crate) enum Shown {
-    /// It may have a task.
+    /// The shard may have a task.
     Open,
-    /// It has none, and not every saga of it is ended or stuck.
+    /// The shard has no task, and not every saga of it is ended or stuck.
     Idle,
-    /// Each saga of it is ended or stuck.
+    /// Each saga of the shard is ended or stuck.
     Over,
 }
 
-/// What is shown of a shard. It is written under the shard's lock alone, where the same is kept beside the shard.
+/// The sign of a shard. It is written only under the shard's lock. A copy of it is stored beside the shard.
 #[derive(Drop)]
 pub(crate) struct Sign {
     state: AtomicU64,
@@ -30,14 +30,14 @@ const IDLE: u64 = 1;
 const OVER: u64 = 2;
 
 impl Sign {
-    /// A sign that shows a shard without sagas.
+    /// The sign of a shard without sagas.
     pub(crate) fn new() -> Sign {
         Sign {
             state: AtomicU64::new(OVER),
         }
     }
 
-    /// What is shown.
+    /// The state that the sign shows.
     pub(crate) fn read(&self) -> Shown {
         match self.state.load(Ordering::SeqCst) {
             IDLE => Shown::Idle,
@@ -46,7 +46,7 @@ impl Sign {
         }
     }
 
-    /// Shows this in place of what was shown.
+    /// Replaces the state that the sign shows.
     pub(crate) fn show(&self, shown: &mut Shown, now: Shown)
         ensures { shown.new ≡ now }
     {
@@ -62,7 +62,7 @@ impl Sign {
     }
 }
 
-/// What is to be shown of a shard after a claim at it.
+/// The state to show after a claim at a shard.
 pub(crate) fn shown_by(claim: &Claim<'_>) -> Shown
     ensures { result ≡ shown_by claim.now }
 {
@@ -73,8 +73,7 @@ pub(crate) fn shown_by(claim: &Claim<'_>) -> Shown
     }
 }
 
-/// What is to be shown of a shard after an event, before which this was shown. Where it was shown that it may have a task, that may
-/// stay so until a claim finds none.
+/// The state to show after an event at a shard that showed `before`. `Open` may stay until a claim finds no task.
 pub(crate) fn shown_after(shard: &Shard<'_>, before: Shown) -> Shown
     ensures { Shows result shard.now }
 {

@@ -11,7 +11,7 @@ use Rattle.saga_draw.specs.declared.marks.Mark.{Mark}
 use Rattle.saga_draw.specs.Marks.{mark_of, need_mark_of}
 use Rattle.saga_draw.specs.Lines.{node_line, edge_line}
 
--- the state of a step, where states are given
+-- the state of a step, if states are given
 abbrev pub state_in : Option (List StepState) → ℕ → Option StepState
 state_in None s = None
 state_in (Some states) s = slice_get states s
@@ -20,7 +20,7 @@ abbrev pub name_of : Option Step → List ℕ
 name_of None = []
 name_of (Some step) = step.name
 
--- what an answer says
+-- the description of an answer
 abbrev pub cost_text : ℕ → List ℕ
 cost_text cost = concat (codes ": plan of cost " ∷ decimal cost ∷ codes "\\ndouble outline: kept" ∷ [])
 
@@ -37,7 +37,7 @@ head_text name answer =
     concat (codes "digraph \"" ∷ name ∷ codes "\" {\n  graph [rankdir=RL fontname=\"Helvetica\" label=\""
     ∷ title_text name answer ∷ codes "\"];\n  node [fontname=\"Helvetica\" fontsize=12];\n" ∷ [])
 
--- the line of the step of a number
+-- the line of the step with a number
 abbrev pub node_at : Option Step → Option StepState → Mark → List ℕ
 node_at None state mark = []
 node_at (Some step) state mark = node_line step state mark
@@ -55,7 +55,7 @@ edge_at steps mark n = edge_line (name_of (slice_get steps n.step)) (name_of (sl
 abbrev pub edge_lines : List Step → List Need → (Need → Mark) → List ℕ
 edge_lines steps needs mark = flat_map (edge_at steps mark) needs
 
--- the text of a definition, the states of a case where they are given, and an answer where it is given
+-- the text for a definition, the states of a case if they are given, and an answer if it is given
 abbrev pub drawing : Contents → Option (List StepState) → Option Answer → List ℕ
 drawing d states answer =
     head_text d.name answer ++ (node_lines d.steps states (mark_of answer) ++ (edge_lines d.steps d.needs (need_mark_of answer) ++ codes "}\n"))
@@ -63,7 +63,7 @@ drawing d states answer =
 abbrev pub IsDrawing : Contents → Option (List StepState) → Option Answer → List ℕ → Type 0
 IsDrawing d states answer text = text ≡ drawing d states answer
 
--- between quotes it stands as it is: no byte of it is a quote or a backslash
+-- the text is unchanged between quotes: no byte of it is a quote or a backslash
 abbrev pub NeedsNoEscape : List ℕ → Type 0
 NeedsNoEscape text = All (λ byte. (byte ≢ 34) × (byte ≢ 92)) text
 

@@ -10,7 +10,7 @@ use Rattle.saga_case.specs.States.{word_of}
 use Rattle.saga_draw.specs.declared.marks.Mark.{Mark}
 use Rattle.saga_draw.specs.declared.marks.Mark.TheVariants.{Plain, Kept, Chained}
 
--- how a step of that state looks
+-- the shape, outline and color of a step with this state
 abbrev pub look_of : Option StepState → List ℕ
 look_of None = codes "shape=box"
 look_of (Some state.Waiting) = codes "shape=box style=dashed"
@@ -27,7 +27,7 @@ mark_text kept chained Plain = []
 mark_text kept chained Kept = kept
 mark_text kept chained Chained = chained
 
--- a kept step has a double outline, one of the chain a thick one
+-- a kept step has a double outline, a step of the chain a thick one
 abbrev pub outline_of : Mark → List ℕ
 outline_of = mark_text (codes " peripheries=2") (codes " penwidth=4")
 
@@ -42,13 +42,13 @@ abbrev pub state_text : Option StepState → List ℕ
 state_text None = []
 state_text (Some state) = concat (codes "\\n" ∷ word_of state ∷ [])
 
--- a price that is not 0
+-- a cost that is not 0
 abbrev pub price_text : List ℕ → Price → List ℕ
 price_text word (Of amount) =
     if nat_lt 0 amount then concat (codes "\\n" ∷ word ∷ codes " " ∷ decimal amount ∷ []) else []
 price_text word Never = concat (codes "\\n" ∷ word ∷ codes " never" ∷ [])
 
--- the name, the state, the mark, and the prices
+-- the name, the state, the mark, and the costs
 abbrev pub label_text : Step → Option StepState → Mark → List ℕ
 label_text step state mark =
     concat (step.name ∷ state_text state ∷ mark_word mark ∷ price_text (codes "run") step.run ∷ price_text (codes "undo") step.undo
@@ -59,7 +59,7 @@ node_line step state mark =
     concat (codes "  \"" ∷ step.name ∷ codes "\" [" ∷ look_of state ∷ outline_of mark ∷ codes " label=\"" ∷ label_text step state mark
     ∷ codes "\"];\n" ∷ [])
 
--- from a step to the one that it needs
+-- from a step to the step that it needs
 abbrev pub edge_line : List ℕ → List ℕ → Mark → List ℕ
 edge_line step on mark =
     concat (codes "  \"" ∷ step ∷ codes "\" -> \"" ∷ on ∷ codes "\"" ∷ stroke_of mark ∷ codes ";\n" ∷ [])

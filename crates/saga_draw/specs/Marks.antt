@@ -1,4 +1,4 @@
--- What an answer marks.
+-- The marks of an answer.
 use Rattle.std.specs.Prelude.{ℕ, Bool, List, Option, Some, None, length, slice_index, nat_eq, if◌then◌else◌, ◌≡◌, ◌==◌, ◌&&◌, ◌+◌, ◌-◌}
 use Rattle.std.specs.HashSet.{contains}
 use Rattle.std.specs.List.{list_any, range_with_len}
@@ -14,7 +14,7 @@ use Rattle.saga_draw.specs.declared.marks.Marks.TheVariants as marks
 abbrev pub mark_if : Mark → Bool → Mark
 mark_if mark marked = if marked then mark else Plain
 
--- the one step stands in the chain, and the other just behind it
+-- the two steps are consecutive in the chain
 abbrev pub along : List ℕ → ℕ → ℕ → Bool
 along chain s o =
     list_any (λ k. slice_index chain k == s && slice_index chain (k + 1) == o) (range_with_len 0 (length chain - 1))
@@ -31,7 +31,7 @@ need_mark_of None n = Plain
 need_mark_of (Some (answer.Plan plan)) n = mark_if Kept (member plan.kept n.step && member plan.kept n.on)
 need_mark_of (Some (answer.Blocked chain)) n = mark_if Chained (along chain n.step n.on)
 
--- what is marked by the tables
+-- the marks that the tables have
 abbrev pub mark_in : Marks → ℕ → Mark
 mark_in marks.Nothing s = Plain
 mark_in (marks.Kept kept) s = mark_if Kept (member kept.now s)

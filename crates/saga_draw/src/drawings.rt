@@ -11,7 +11,7 @@ use saga_case::{Answer, StepState};
 use saga_def::{Definition, Need, Step};
 use std::alloc::{AllocError, Global};
 
-/// The state of a step, where states are given.
+/// The state of a step, if states are given.
 fn state_of(states: Option<&[StepState]>, step: u16) -> Option<StepState>
     ensures { result ≡ spec.state_in (option_map (λ s. s.now) states.entry) step }
 {
@@ -21,7 +21,7 @@ fn state_of(states: Option<&[StepState]>, step: u16) -> Option<StepState>
     }
 }
 
-/// The name of a step, which is empty where there is none.
+/// The name of a step. It is empty if there is no such step.
 fn name_of<'a>(steps: &'a [Step], step: u32) -> &'a str
     ensures { result.now ≡ spec.name_of (slice_get steps.entry.now step) }
 {
@@ -31,7 +31,7 @@ fn name_of<'a>(steps: &'a [Step], step: u32) -> &'a str
     }
 }
 
-/// Adds what a plan costs.
+/// Appends the cost of a plan.
 fn push_cost(text: &mut String, cost: u64) -> Result<(), AllocError>
     ensures { OnOk result (string_bytes text.new ≡ string_bytes text.old ++ spec.cost_text cost) }
 {
@@ -40,7 +40,7 @@ fn push_cost(text: &mut String, cost: u64) -> Result<(), AllocError>
     push_all(text, &[": plan of cost ", cost, "\\ndouble outline: kept"])
 }
 
-/// Adds what an answer says.
+/// Appends the description of an answer.
 fn push_answer(text: &mut String, answer: &Answer) -> Result<(), AllocError>
     ensures { OnOk result
         (string_bytes text.new ≡ string_bytes text.old ++ spec.answer_text answer.now) }
@@ -51,7 +51,7 @@ fn push_answer(text: &mut String, answer: &Answer) -> Result<(), AllocError>
     }
 }
 
-/// Adds what stands below the picture: the name, and what an answer says.
+/// Appends the caption below the picture: the name, and the description of an answer.
 fn push_title(text: &mut String, name: &str, answer: Option<&Answer>) -> Result<(), AllocError>
     ensures { OnOk result (string_bytes text.new ≡ string_bytes text.old
         ++ spec.title_text name.now (option_map (λ a. a.now) answer.entry)) }
@@ -63,7 +63,7 @@ fn push_title(text: &mut String, name: &str, answer: Option<&Answer>) -> Result<
     }
 }
 
-/// Adds what stands before the steps.
+/// Appends the text before the steps.
 fn push_head(text: &mut String, name: &str, answer: Option<&Answer>) -> Result<(), AllocError>
     ensures { OnOk result (string_bytes text.new ≡ string_bytes text.old
         ++ spec.head_text name.now (option_map (λ a. a.now) answer.entry)) }
@@ -75,7 +75,7 @@ fn push_head(text: &mut String, name: &str, answer: Option<&Answer>) -> Result<(
     text.push_str("\"];\n  node [fontname=\"Helvetica\" fontsize=12];\n")
 }
 
-/// Adds a line for each step.
+/// Appends a line for each step.
 fn push_nodes(
     text: &mut String,
     definition: &Definition,
@@ -101,7 +101,7 @@ fn push_nodes(
     Ok(())
 }
 
-/// Adds a line for each need.
+/// Appends a line for each need.
 fn push_edges(
     text: &mut String,
     steps: &[Step],
@@ -119,10 +119,10 @@ fn push_edges(
     Ok(())
 }
 
-/// The drawing of a definition, in Graphviz's language: a node for each step, in order, and an arrow for each need, in
-/// order, from the step to the one that it needs. A node has the step's name, its state where states are given, and those
-/// of its prices that are not 0. What an answer says is marked, whether it is right or not: the kept steps and the needs
-/// between them, or the steps of the chain and the needs along it.
+/// The drawing of a definition in Graphviz's language. It has a node for each step, in order, and an arrow for each
+/// need, in order, from the step to the step that it needs. A node has the step's name, its state if states are given,
+/// and those of its costs that are not 0. The drawing marks the answer, whether it is right or not: the kept steps and
+/// the needs between them, or the steps of the chain and the needs along it.
 pub fn draw(
     alloc: Global,
     definition: &Definition,

@@ -1,7 +1,7 @@
-//! The drawing of a definition, as text of Graphviz's language: its steps with their prices, its needs, and, where they
-//! are given, the states of a case and what an answer marks.
+//! The drawing of a definition, as text of Graphviz's language: its steps with their costs, its needs, and optionally
+//! the states of a case and the marks of an answer.
 //!
-//! `docs/FORMATS.md` of the repository has the form.
+//! `docs/FORMATS.md` of the repository has the format.
 #![tactic(auto)]
 
 mod drawings;

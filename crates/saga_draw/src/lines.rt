@@ -8,7 +8,7 @@ use saga_case::StepState;
 use saga_def::{Price, Step};
 use std::alloc::AllocError;
 
-/// Adds pieces of text, one after another.
+/// Appends pieces of text, one after another.
 pub fn push_all(text: &mut String, pieces: &[&str]) -> Result<(), AllocError>
     ensures { OnOk result (string_bytes text.new ≡ string_bytes text.old
         ++ flat_map (λ piece. piece.now) pieces.now) }
@@ -19,7 +19,7 @@ pub fn push_all(text: &mut String, pieces: &[&str]) -> Result<(), AllocError>
     Ok(())
 }
 
-/// How a step of that state looks: its shape, outline and colour, each state another shape or outline.
+/// The shape, outline and color of a step with this state. Each state has another shape or outline.
 fn look_of(state: Option<StepState>) -> &'static str
     ensures { result.now ≡ spec.look_of state }
 {
@@ -35,7 +35,7 @@ fn look_of(state: Option<StepState>) -> &'static str
     }
 }
 
-/// A text for what is kept, and one for what is on the chain.
+/// The first text for a kept element, and the second for an element of the chain.
 fn mark_text(mark: Mark, kept: &'static str, chained: &'static str) -> &'static str
     ensures { result.now ≡ spec.mark_text kept.now chained.now mark }
 {
@@ -75,7 +75,7 @@ fn push_state(text: &mut String, state: Option<StepState>) -> Result<(), AllocEr
     }
 }
 
-/// Adds a price, where it is not 0.
+/// Appends a cost, if it is not 0.
 fn push_price(text: &mut String, word: &str, price: Price) -> Result<(), AllocError>
     ensures { OnOk result
         (string_bytes text.new ≡ string_bytes text.old ++ spec.price_text word.now price) }
@@ -91,7 +91,7 @@ fn push_price(text: &mut String, word: &str, price: Price) -> Result<(), AllocEr
     }
 }
 
-/// Adds what stands in the node of a step.
+/// Appends the label of a step.
 fn push_label(
     text: &mut String,
     step: &Step,
@@ -110,7 +110,7 @@ fn push_label(
     push_price(text, "keep", step.keep)
 }
 
-/// Adds the line of a step.
+/// Appends the line of a step.
 pub fn push_node(
     text: &mut String,
     step: &Step,
@@ -130,7 +130,8 @@ pub fn push_node(
     text.push_str("\"];\n")
 }
 
-/// Adds the line of a need: an arrow from the step of one name to that of the other, which it needs.
+/// Appends the line of a need: an arrow from the step with the first name to the step with the second name, which it
+/// needs.
 pub fn push_edge(text: &mut String, step: &str, on: &str, mark: Mark) -> Result<(), AllocError>
     ensures { OnOk result
         (string_bytes text.new ≡ string_bytes text.old ++ spec.edge_line step.now on.now mark) }

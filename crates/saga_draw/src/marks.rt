@@ -1,4 +1,4 @@
-//! What an answer marks: the steps that a plan keeps and the needs between them, or a chain and the needs along it.
+//! The marks of an answer: the steps that a plan keeps and the needs between them, or a chain and the needs along it.
 ghost use Rattle.std.specs.Prelude.{ℕ, ◌≡◌, ◌==◌, ◌&&◌, IfOk, nat_eq, option_map};
 ghost use Rattle.std.specs.HashSet.{contains};
 ghost use Rattle.std.specs.List.{list_any};
@@ -10,23 +10,23 @@ use saga_def::Need;
 use std::alloc::{AllocError, Global};
 use std::collections::HashSet;
 
-/// How a step or a need is marked.
+/// The mark of a step or a need.
 #[derive(Clone, Copy, Debug, PartialEq, Eq)]
 pub enum Mark {
     Plain,
     /// A plan keeps it.
     Kept,
-    /// It is on the chain that shows that nothing is allowed.
+    /// It is on the chain that shows that no set is allowed.
     Chained,
 }
 
-/// What is marked.
+/// All marks of a drawing.
 #[derive(Drop)]
 pub enum Marks<'a> {
     Nothing,
-    /// A mark for each step.
+    /// A truth value for each step.
     Kept(&'a [bool]),
-    /// The steps of a chain, and each with the one after it.
+    /// The steps of a chain, and each pair of consecutive ones.
     Chain {
         steps: HashSet<u32>,
         links: HashSet<(u32, u32)>,
@@ -39,7 +39,7 @@ fn mark_if(mark: Mark, marked: bool) -> Mark
     if marked { mark } else { Mark::Plain }
 }
 
-/// Whether a step has a mark that is true.
+/// Whether the truth value of a step is true.
 fn is_in(marks: &[bool], step: u32) -> bool
     ensures { result ≡ member marks.now step }
 {
@@ -58,7 +58,7 @@ fn steps_of(alloc: Global, chain: &[u16]) -> Result<HashSet<u32>, AllocError>
     Ok(steps)
 }
 
-/// Each step of a chain with the one after it.
+/// The pairs of consecutive steps of a chain.
 fn links_of(alloc: Global, chain: &[u16]) -> Result<HashSet<(u32, u32)>, AllocError>
     ensures { IfOk result
         (λ links. (s o : ℕ)
@@ -71,7 +71,7 @@ fn links_of(alloc: Global, chain: &[u16]) -> Result<HashSet<(u32, u32)>, AllocEr
     Ok(links)
 }
 
-/// Whether a step stands in a chain with another just behind it, by those links.
+/// Whether the links have this pair of consecutive steps.
 fn is_linked(links: &HashSet<(u32, u32)>, step: u32, on: u32) -> bool
     ensures { result ≡ contains (λ x y. x.0 == y.0 && x.1 == y.1) links.now (step, on) }
 {
@@ -80,7 +80,7 @@ fn is_linked(links: &HashSet<(u32, u32)>, step: u32, on: u32) -> bool
 }
 
 impl<'a> Marks<'a> {
-    /// What an answer marks.
+    /// The marks of an answer.
     pub fn of(alloc: Global, answer: Option<&'a Answer>) -> Result<Marks<'a>, AllocError>
         ensures { IfOk result (AreMarksOf (option_map (λ a. a.now) answer.entry)) }
     {

@@ -93,6 +93,7 @@ meets_legal book request.Busy gained text legal said = none_legal book gained le
 meets_legal book (request.Ready from) gained text legal tells = none_legal book gained legal tells.none
 meets_legal book (request.Sagas from phase) gained text legal tells = none_legal book gained legal tells.none
 meets_legal book request.Status gained text legal tells = none_legal book gained legal tells.none
+meets_legal book (request.Define definition) gained text legal refused = none_legal book gained legal refused.none
 
 gains_legal : (old new : Book) (reply : Reply) (gained : List Event) → Gains old new reply gained → StaysLegal old gained → IsLegalBook new
 gains_legal old new reply gained gains legal = subst IsLegalBook (sym gains.grows) legal

@@ -19,3 +19,4 @@ pub mod RoomLemmas
 pub mod RoomLawLemmas
 pub mod ReadyLawLemmas
 pub mod QuietLemmas
+pub mod ResponseLemmas

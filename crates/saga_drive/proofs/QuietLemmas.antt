@@ -50,7 +50,7 @@ use Rattle.saga_drive.specs.declared.verbs.Verb.TheVariants as verb
 use Rattle.saga_drive.specs.Answers.{IsAnswer, IsDone, IsIdle, IsMet, IsReplied, IsSaid, LacksRoom, Meets, NeitherMay}
 use Rattle.saga_drive.specs.Attempts.{IsNotTaken, IsOtherAttempt}
 use Rattle.saga_drive.specs.Starts.{Starts, after, task_of}
-use Rattle.saga_drive.specs.Fields.{attempt_of, count_of, max_most, most_of, u32_if, wanted_of}
+use Rattle.saga_drive.specs.Fields.{attempt_of, bytes_of, count_of, max_most, most_of, u32_if, wanted_of}
 use Rattle.saga_drive.specs.Laws.{HasOneText}
 use Rattle.saga_drive.specs.Many.{AreTheFirst, AreTheLast, StartInTurn, TakesMany}
 use Rattle.saga_drive.specs.Openings.{IsNext, IsNotNext, IsWanted, NoneIsWanted}
@@ -356,6 +356,7 @@ module _ (book : Book) where
   meets_one (request.Ready from) text other asked few a b = ready_one book from text other a.told b.told
   meets_one (request.Sagas from phase) text other asked few a b = list_one from phase text other a.told b.told
   meets_one request.Status text other asked few a b = status_one text other a.told b.told
+  meets_one (request.Define definition) text other asked few a b = same_said _ text other a b
 
 -- ---- what is read of a line
 
@@ -428,6 +429,7 @@ module _ (most : ℕ) where
   of_fields verb.Ready value is = bound Q q (from_of value) _ (λ from _ is. not_that (request.Ready from) (λ e. absurd cc) is) is
   of_fields verb.Sagas value is = bound Q q (from_of value) _ (λ from _ is. of_sagas from value is) is
   of_fields verb.Status value is = not_that request.Status (λ e. absurd cc) is
+  of_fields verb.Define value is = bound Q q (at_key bytes_of (codes "definition") value) _ (λ text _ is. not_that (request.Define text) (λ e. absurd cc) is) is
 
   by_verb : (v : Option Verb) (value : Data) → request_by v value ≡ Ok q → Q
   unfolding request_of_verb
@@ -451,6 +453,7 @@ read_asked book line request.Busy is = tt
 read_asked book line (request.Ready from) is = tt
 read_asked book line (request.Sagas from phase) is = tt
 read_asked book line request.Status is = tt
+read_asked book line (request.Define definition) is = tt
 
 -- ---- the answer
 

@@ -1,4 +1,4 @@
--- What is replied to a request, and which events it adds to the book's history.
+-- The reply to a request, and the events that it adds to the history of the book.
 use Rattle.std.specs.Prelude.{◌≡◌, ℕ, ◌<◌, ◌≤◌, ◌⊎◌, ◌↔◌, ◌∷◌, ◌++◌, [], List, Bool, IsTrue, Option, Result, Ok, Err, codes, flat_map, length}
 use Rattle.saga_def.specs.Contents.{Contents}
 use Rattle.saga_history.specs.declared.events.Event.{Event}
@@ -20,6 +20,7 @@ use Rattle.saga_core.specs.Tasks.{AllAreOver, IsFirstTask, MayStart, NoTaskIsAll
 use Rattle.saga_core.specs.declared.refusals.OpenRefusal.TheVariants as opening
 use Rattle.saga_core.specs.declared.refusals.SagaRefusal.TheVariants as saga
 use Rattle.saga_log.specs.Logs.{event_line}
+use Rattle.saga_logged.specs.BookLog.{IsBookLog}
 use Rattle.saga_drive.specs.declared.attempts.Attempt.{Attempt}
 use Rattle.saga_drive.specs.declared.openings.Wanted.{Wanted}
 use Rattle.saga_views.specs.Busy.{busy_text}
@@ -31,6 +32,8 @@ use Rattle.saga_drive.specs.declared.replies.Reply.{Reply}
 use Rattle.saga_drive.specs.declared.requests.Request.{Request}
 use Rattle.saga_drive.specs.declared.requests.Request.TheVariants as request
 use Rattle.saga_drive.specs.declared.requests.RequestFault.{RequestFault}
+use Rattle.saga_drive.specs.declared.responses.Response.{Response}
+use Rattle.saga_drive.specs.declared.responses.Response.TheVariants as response
 use Rattle.saga_drive.specs.Attempts.{IsMeant, IsNotTaken, IsOtherAttempt, number_of}
 use Rattle.saga_drive.specs.Starts.{AreReadBack, Starts, after, task_of}
 use Rattle.saga_drive.specs.Many.{TakesMany}
@@ -39,7 +42,7 @@ use Rattle.saga_drive.specs.Replies.{text_of, lines_of, fault_text, refusal_text
 use Rattle.saga_drive.specs.Requests.{ReadsRequest}
 use Rattle.saga_drive.specs.Room.{Fits, IsTooMuch}
 
--- nothing happened, and this is said
+-- no event was added, and the reply is this text
 pub record IsSaid (said : List ℕ) (gained : List Event) (text : List ℕ) : Type 0 where
   pub none : gained ≡ []
   pub text_is : text ≡ said
@@ -47,12 +50,12 @@ pub record IsSaid (said : List ℕ) (gained : List Event) (text : List ℕ) : Ty
 abbrev pub IsRefusal : List ℕ → List Event → List ℕ → Type 0
 IsRefusal word gained text = IsSaid (refusal_text word) gained text
 
--- nothing happened, and the text tells that
+-- no event was added, and the property holds of the reply
 pub record Tells (P : List ℕ → Type 0) (gained : List Event) (text : List ℕ) : Type 0 where
   pub none : gained ≡ []
   pub told : P text
 
--- this event happened, which the rules allow, and it is told, with where its saga stands after it
+-- the only added event is this one, which the rules allow; the reply has the event and the phase of its saga after it
 pub record TellsEvent (book : Book) (e : Event) (gained : List Event) (text : List ℕ) : Type 0 where
   pub allowed : Allows book e
   pub only : gained ≡ e ∷ []
@@ -62,7 +65,7 @@ pub record TellsEvent (book : Book) (e : Event) (gained : List Event) (text : Li
 
 -- ---- each request
 
--- the saga has the next number; or the first reason why none is opened
+-- opens a saga whose number is the next one; or refuses with the first reason that applies
 abbrev pub Opens : Book → Wanted → Option ℕ → List Event → List ℕ → Type 0
 Opens book wanted saga gained text =
     ((k : ℕ) × IsWanted book.shelf wanted k × IsNext saga book × TellsEvent book (event.Open (next_number book) k) gained text)
@@ -71,11 +74,11 @@ Opens book wanted saga gained text =
     ⊎ (((k : ℕ) × IsWanted book.shelf wanted k × OpenRefused book k opening.Full) × IsNext saga book
     × IsRefusal (codes "full") gained text)
 
--- a task begins, and the line tells it
+-- a task starts, and the reply has its text
 abbrev pub StartsAlone : Book → Task → List Event → List ℕ → Type 0
 StartsAlone book t gained text = (told : List ℕ) × Starts book t gained told × (text ≡ told ++ codes "\n")
 
--- the task of a step, whichever of the two may begin; or why none
+-- the task of a step starts, which is its action or its compensation; or a refusal
 abbrev pub NeitherMay : Contents → List Change → ℕ → Type 0
 NeitherMay d l s = (s < length d.steps) × (StepMay d l s StartRun → ⊥) × (StepMay d l s StartUndo → ⊥)
 
@@ -86,26 +89,26 @@ TakesStep book i s gained text =
     ⊎ (OfSaga book i (λ d l. length d.steps ≤ s) × IsRefusal (codes "no-such-step") gained text)
     ⊎ (OfSaga book i (λ d l. NeitherMay d l s) × IsRefusal (codes "not-now") gained text)
 
--- the plan of a saga; or why none
+-- the plan of a saga starts and ends; or a refusal
 abbrev pub TakesPlan : Book → ℕ → List Event → List ℕ → Type 0
 TakesPlan book i gained text =
     (Allows book (event.StartPlan i) × StartsAlone book (Plan i) gained text)
     ⊎ (SagaRefused book i starts_plan saga.NoSuchSaga × IsRefusal (codes "no-such-saga") gained text)
     ⊎ (SagaRefused book i starts_plan saga.NotNow × IsRefusal (codes "not-now") gained text)
 
--- nothing may begin, and it is told whether each saga is ended or stuck
+-- no task may start, and the reply says whether each saga is ended or stuck
 pub record IsIdle (book : Book) (gained : List Event) (text : List ℕ) : Type 0 where
   pub none : NoTaskIsAllowed book
   pub settled : Bool
   pub settled_is : IsTrue settled ↔ AllAreOver book
   pub said : IsSaid (idle_text settled) gained text
 
--- the first task, by saga and then by step
+-- the first task in the order of sagas and then of steps
 abbrev pub TakesNext : Book → List Event → List ℕ → Type 0
 TakesNext book gained text =
     ((t : Task) × IsFirstTask book t × StartsAlone book t gained text) ⊎ IsIdle book gained text
 
--- the action or the compensation of the step ends by this transition, and it is the attempt that is meant
+-- the action or the compensation of the step ends by this transition, and the report refers to this attempt
 abbrev pub IsEnd : Option Attempt → Outcome → ℕ → Transition → Contents → List Change → Type 0
 IsEnd meant outcome s t d l = (kind : Kind) × IsEndOf kind outcome t × IsMeant meant kind (number_of kind l s)
 
@@ -124,7 +127,7 @@ Aborts book i gained text =
     ⊎ (SagaRefused book i aborts saga.NoSuchSaga × IsRefusal (codes "no-such-saga") gained text)
     ⊎ (SagaRefused book i aborts saga.NotNow × IsRefusal (codes "not-now") gained text)
 
--- how the saga stands
+-- the state of the saga
 abbrev pub Shows : Book → ℕ → List Event → List ℕ → Type 0
 Shows book i gained text =
     Tells (TellsSaga book i) gained text
@@ -143,14 +146,15 @@ Meets book request.Busy = IsSaid (busy_text book)
 Meets book (request.Ready from) = Tells (TellsReady book from)
 Meets book (request.Sagas from phase) = Tells (TellsList book from phase)
 Meets book request.Status = Tells (TellsStatus book)
+Meets book (request.Define text) = IsRefusal (codes "fixed-shelf")
 
--- ---- the room of the log
+-- ---- the free space of the log
 
--- what is opened has it
+-- if a saga is opened, the free space suffices for it
 abbrev pub OpensWithin : Book → Book → ℕ → Type 0
 OpensWithin old new room = (new ≡ old) ⊎ ((k : ℕ) × (new ≡ with_event old (event.Open (next_number old) k)) × Fits old k room)
 
--- a saga of that definition might be opened, but the log has no room for it
+-- a saga with that definition could be opened, but the free space of the log does not suffice
 pub record LacksRoom (book : Book) (room : ℕ) (wanted : Wanted) (saga : Option ℕ) : Type 0 where
   pub index : ℕ
   pub is : IsWanted book.shelf wanted index
@@ -160,19 +164,20 @@ pub record LacksRoom (book : Book) (room : ℕ) (wanted : Wanted) (saga : Option
 
 -- ---- any line
 
--- the book's history gained just these events, the log's lines are theirs, and they are read back from them
+-- the book's history gained exactly these events; the lines of the reply are their log lines; each event is read back
+-- from its line
 pub record Gains (old new : Book) (reply : Reply) (gained : List Event) : Type 0 where
   pub grows : new ≡ after old gained
   pub logged : lines_of reply ≡ flat_map event_line gained
   pub back : AreReadBack gained
 
--- a request is met
+-- the request is executed or refused
 pub record IsMet (old new : Book) (request : Request) (reply : Reply) : Type 0 where
   pub gained : List Event
   pub gains : Gains old new reply gained
   pub meets : Meets old request gained (text_of reply)
 
--- it is met, or nothing is opened for want of room in the log
+-- the request is executed or refused, or the free space of the log does not suffice
 abbrev pub IsOpened : Book → Book → ℕ → Wanted → Option ℕ → Reply → Type 0
 IsOpened old new room wanted saga reply =
     (IsMet old new (request.Open wanted saga) reply × OpensWithin old new room)
@@ -182,17 +187,39 @@ abbrev pub IsDone : Book → Book → ℕ → Request → Reply → Type 0
 IsDone old new room (request.Open wanted saga) reply = IsOpened old new room wanted saga reply
 IsDone old new room r reply = IsMet old new r reply
 
--- what is read of the line is done, or its fault is told
+-- the request of the line is executed or refused, or the reply has the fault of the line
 abbrev pub IsReplied : Book → Book → ℕ → Result Request RequestFault → Reply → Type 0
 IsReplied old new room (Ok request) reply = IsDone old new room request reply
 IsReplied old new room (Err fault) reply = Gains old new reply [] × (text_of reply ≡ fault_text (word_of_fault fault))
 
--- nothing happened for want of memory
+-- no event was added because memory ran out
 pub record LacksMemory (old new : Book) (reply : Reply) : Type 0 where
   pub gains : Gains old new reply []
   pub text_is : text_of reply ≡ fault_text memory_word
 
--- the answer to a line, where the log has so many bytes of room
+-- the reply to a line, if the log has `room` bytes of free space
 abbrev pub IsAnswer : Book → Book → ℕ → List ℕ → Reply → Type 0
 IsAnswer old new room line reply =
     ((read : Result Request RequestFault) × ReadsRequest line read × IsReplied old new room read reply) ⊎ LacksMemory old new reply
+
+-- ---- over a shelf that may grow
+
+-- the shelf and the numbering are unchanged
+abbrev pub KeepsShelf : Book → Book → Type 0
+KeepsShelf old new = new ≡ record old { history = new.history }
+
+-- the line is a request to add the definition in this text to the shelf
+abbrev pub Defines : List ℕ → List ℕ → Type 0
+Defines line text = ReadsRequest line (Ok (request.Define text))
+
+-- the reply to a line that adds no definition, or to any line if memory runs out; or the text of a definition, and the
+-- book is unchanged
+abbrev pub IsResponse : Book → Book → ℕ → List ℕ → Response → Type 0
+IsResponse old new room line (response.Reply reply) =
+    IsAnswer old new room line reply × ((text : List ℕ) → Defines line text → text_of reply ≡ fault_text memory_word)
+IsResponse old new room line (response.Define text) = (new ≡ old) × Defines line text
+
+-- the log of the old book with the lines of the reply is the log of the new book
+abbrev pub LogsReply : Book → Book → Response → Type 0
+LogsReply old new (response.Reply reply) = (l : List ℕ) → IsBookLog old l → IsBookLog new (l ++ lines_of reply)
+LogsReply old new (response.Define text) = (l : List ℕ) → IsBookLog old l → IsBookLog new l

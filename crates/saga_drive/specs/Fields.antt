@@ -1,4 +1,4 @@
--- What stands at the keys that a request may have.
+-- The values at the keys that a request may have.
 use Rattle.std.specs.Prelude.{ℕ, List, nat_lt, Option, Some, None, Result, Ok, Err, codes, if◌then◌else◌}
 use Rattle.std.specs.Str.{bytes_eq}
 use Rattle.serde_json.specs.Data.{Data, string}
@@ -13,7 +13,7 @@ use Rattle.saga_drive.specs.declared.attempts.Attempt.{Attempt}
 use Rattle.saga_drive.specs.declared.openings.Wanted.{Wanted}
 use Rattle.saga_drive.specs.declared.openings.Wanted.TheVariants.{Index, Name}
 
--- a whole number of 32 bits, where the key is there
+-- a 32-bit integer, if the object has the key
 abbrev pub u32_if : List ℕ → Data → Result (Option ℕ) JsonFault
 u32_if key value =
     if has_key key value then at_key u32_of key value >>= (λ n. Ok (Some n)) else Ok None
@@ -23,14 +23,14 @@ abbrev pub bytes_of : Data → Result (List ℕ) JsonFault
 bytes_of (string text) = Ok text
 bytes_of _ = Err BadType
 
--- the definition of a saga that is to be opened: by its place or by its name, and not by both
+-- the definition with which to open a saga, by its index or by its name, but not by both
 abbrev pub wanted_of : Data → Result Wanted JsonFault
 wanted_of value =
     if has_key (codes "def") value
     then (if has_key (codes "name") value then Err UnknownKey else at_key u32_of (codes "def") value >>= (λ k. Ok (Index k)))
     else (at_key bytes_of (codes "name") value >>= (λ name. Ok (Name name)))
 
--- an action or a compensation, by its word
+-- an action or a compensation, for its word
 abbrev pub kind_named : List ℕ → Result Kind JsonFault
 kind_named word =
     if bytes_eq word (codes "run") then Ok Run
@@ -40,7 +40,7 @@ abbrev pub kind_of : Data → Result Kind JsonFault
 kind_of (string word) = kind_named word
 kind_of _ = Err BadType
 
--- the attempt that is reported, where it is named: by its task and its number, and not by one of them alone
+-- the attempt that a report names: both its task and its number, or neither of them
 abbrev pub attempt_of : Data → Result (Option Attempt) JsonFault
 attempt_of value =
     if has_key (codes "task") value
@@ -48,11 +48,11 @@ attempt_of value =
     at_key kind_of (codes "task") value >>= (λ task. Ok (Some (record { task = task; number = number }))))
     else (if has_key (codes "attempt") value then Err MissingKey else Ok None)
 
--- the most tasks that one reply may have
+-- the maximum number of tasks in one reply
 abbrev pub max_most : ℕ
 max_most = 1000
 
--- how many tasks are asked for: 1 to that many
+-- the requested maximum number of tasks, from 1 to `max_most`
 abbrev pub count_of : ℕ → Result ℕ JsonFault
 count_of n = if nat_lt 0 n then (if nat_lt max_most n then Err BadType else Ok n) else Err BadType
 

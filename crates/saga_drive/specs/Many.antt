@@ -1,4 +1,4 @@
--- Many tasks that begin one after the other.
+-- Several tasks that start one after the other.
 use Rattle.std.specs.Prelude.{◌≡◌, ℕ, ◌<◌, ◌≤◌, ◌⊎◌, ◌↔◌, ◌∷◌, ◌++◌, [], List, Bool, true, false, IsTrue, codes, flat_map, length}
 use Rattle.std.specs.String.{string_bytes}
 use Rattle.saga_history.specs.declared.events.Event.{Event}
@@ -11,7 +11,7 @@ use Rattle.saga_drive.specs.declared.tellings.Telling.{Telling}
 use Rattle.saga_drive.specs.Starts.{AreReadBack, Starts, after}
 use Rattle.saga_drive.specs.Replies.{last_tasks_text, tasks_text}
 
--- tasks begin one after the other, each as the first that may, and each is told by a text
+-- tasks start one after the other, each as the first that may start, and each has a text in the reply
 abbrev pub StartInTurn : List Task → Book → List Event → List (List ℕ) → Type 0
 StartInTurn [] book gained told = (gained ≡ []) × (told ≡ [])
 StartInTurn (t ∷ tasks) book gained told = (first : List Event) × (text : List ℕ) × (rest : List Event) × (texts : List (List ℕ))
@@ -21,19 +21,19 @@ StartInTurn (t ∷ tasks) book gained told = (first : List Event) × (text : Lis
     × (gained ≡ first ++ rest)
     × (told ≡ text ∷ texts)
 
--- there is none behind them, and it is told whether each saga is ended or stuck
+-- no other task may start after them, and the reply says whether each saga is ended or stuck
 pub record AreTheLast (book : Book) (told : List (List ℕ)) (text : List ℕ) : Type 0 where
   pub none : NoTaskIsAllowed book
   pub settled : Bool
   pub settled_is : IsTrue settled ↔ AllAreOver book
   pub text_is : text ≡ last_tasks_text settled told
 
--- there may be more: they are as many as were asked for, or some, those that had begun when memory lacked
+-- more tasks may follow: their number is the requested one, or memory ran out after at least one task
 pub record AreTheFirst (most : ℕ) (told : List (List ℕ)) (text : List ℕ) : Type 0 where
   pub count : (length told ≡ most) ⊎ (0 < length told)
   pub text_is : text ≡ tasks_text told
 
--- as many tasks begin as would by so many requests for the next one, until there is none
+-- the same tasks start as by that number of requests for the next task, until no task may start
 pub record TakesMany (book : Book) (most : ℕ) (gained : List Event) (text : List ℕ) : Type 0 where
   pub tasks : List Task
   pub told : List (List ℕ)
@@ -41,9 +41,9 @@ pub record TakesMany (book : Book) (most : ℕ) (gained : List Event) (text : Li
   pub begin : StartInTurn tasks book gained told
   pub end : AreTheLast (after book gained) told text ⊎ AreTheFirst most told text
 
--- ---- what is told while they begin
+-- ---- the text while the tasks start
 
--- nothing yet
+-- the text is empty
 pub record IsUntold (telling : Telling) : Type 0 where
   pub text : string_bytes telling.text ≡ []
   pub lines : string_bytes telling.lines ≡ []
@@ -53,7 +53,7 @@ abbrev pub is_some : List (List ℕ) → Bool
 is_some [] = false
 is_some (text ∷ told) = true
 
--- so many tasks have begun, and those are told, with their lines of the log
+-- this number of tasks has started, and the texts and the log lines are theirs
 pub record HasStarted (old now : Book) (telling : Telling) (count : ℕ) : Type 0 where
   pub tasks : List Task
   pub told : List (List ℕ)
@@ -67,13 +67,13 @@ pub record HasStarted (old now : Book) (telling : Telling) (count : ℕ) : Type 
   pub lines : string_bytes telling.lines ≡ flat_map event_line gained
   pub apart : telling.apart ≡ is_some told
 
--- fewer than so many have begun
+-- fewer than that number of tasks have started
 pub record HasStartedFewer (old now : Book) (telling : Telling) (most : ℕ) : Type 0 where
   pub count : ℕ
   pub fewer : count < most
   pub started : HasStarted old now telling count
 
--- just so many have begun; or fewer, and none is behind them
+-- exactly that number of tasks has started; or fewer, and no other task may start
 abbrev pub HasStartedAll : Bool → Book → Book → Telling → ℕ → Type 0
 HasStartedAll true old now telling most = HasStarted old now telling most
 HasStartedAll false old now telling most = HasStartedFewer old now telling most × NoTaskIsAllowed now

@@ -1,4 +1,4 @@
--- The texts of replies: each one compact JSON object with keys in ascending order, and a line feed.
+-- The texts of replies. Each is one compact JSON object with keys in ascending order, and a line feed.
 use Rattle.std.specs.Prelude.{ℕ, List, [], ◌∷◌, ◌++◌, Bool, true, false, codes, decimal}
 use Rattle.std.specs.String.{string_bytes}
 use Rattle.std.specs.List.{concat}
@@ -16,7 +16,7 @@ use Rattle.saga_drive.specs.declared.replies.Reply.TheVariants.{Refusal, Told}
 use Rattle.saga_drive.specs.declared.requests.RequestFault.{RequestFault}
 use Rattle.saga_drive.specs.declared.requests.RequestFault.TheVariants.{TooLong, Form}
 
--- the line that is replied, and the lines for the log
+-- the text of the reply, and its log lines
 abbrev pub text_of : Reply → List ℕ
 text_of (Refusal text) = text.now
 text_of (Told text lines) = string_bytes text
@@ -25,7 +25,7 @@ abbrev pub lines_of : Reply → List ℕ
 lines_of (Refusal text) = []
 lines_of (Told text lines) = string_bytes lines
 
--- ---- nothing happened
+-- ---- refusals and faults
 
 abbrev pub fault_text : List ℕ → List ℕ
 fault_text word = codes "{\"fault\":\"" ++ word ++ codes "\"}\n"
@@ -36,14 +36,15 @@ refusal_text word = codes "{\"refused\":\"" ++ word ++ codes "\"}\n"
 abbrev pub memory_word : List ℕ
 memory_word = codes "out-of-memory"
 
--- the words of cases and log lines; a request has neither a kept set nor states, so three of them do not come
+-- the words are those of cases and log lines; a request has neither a set of kept steps nor states, so three of the
+-- words do not occur
 abbrev pub word_of_fault : RequestFault → List ℕ
 word_of_fault TooLong = codes "too-long"
 word_of_fault (Form fault) = word_of_form fault
 
 -- ---- events
 
--- the line of the log, as a value, and where its saga stands then
+-- the log line as a JSON value, and the phase of its saga after the event
 abbrev pub event_front : Event → List ℕ
 event_front e = codes "{\"event\":" ++ compact_text (event_form e) ++ codes ",\"phase\":\""
 
@@ -52,7 +53,7 @@ event_text e phase = event_front e ++ (phase_word phase ++ codes "\"}\n")
 
 -- ---- plans
 
--- a plan, and where its saga stands then
+-- a plan, and the phase of its saga after it
 abbrev pub plan_front : List ℕ → List ℕ
 plan_front answer = concat (codes "{\"answer\":" ∷ answer ∷ codes ",\"phase\":\"" ∷ [])
 
@@ -62,13 +63,13 @@ plan_back saga = concat (codes "\",\"saga\":" ∷ decimal saga ∷ codes ",\"tas
 abbrev pub plan_text : Answer → Phase → ℕ → List ℕ
 plan_text answer phase saga = plan_front (compact_text (answer_form answer)) ++ (phase_word phase ++ plan_back saga)
 
--- there is none
+-- no task may start
 abbrev pub idle_text : Bool → List ℕ
 idle_text settled = concat (codes "{\"settled\":" ∷ truth_text settled ∷ codes ",\"task\":\"none\"}\n" ∷ [])
 
 -- ---- the next tasks
 
--- each may be followed by more, or there is none behind them: then it is told whether each saga is ended or stuck
+-- more tasks may follow; or no other task may start, and the reply says whether each saga is ended or stuck
 abbrev pub tasks_text : List (List ℕ) → List ℕ
 tasks_text told = codes "{\"tasks\":[" ++ listed (codes ",") told ++ codes "]}\n"
 

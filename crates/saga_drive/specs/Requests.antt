@@ -1,4 +1,4 @@
--- The request that a line holds.
+-- The request of a line.
 use Rattle.std.specs.Prelude.{ℕ, List, length, Option, Some, None, Result, Ok, Err, codes, if◌then◌else◌, option_and_then, ◌≡◌, ◌<◌, ◌≤◌}
 use Rattle.std.specs.Str.{bytes_eq}
 use Rattle.serde_json.specs.Data.{Data, string}
@@ -18,14 +18,14 @@ use Rattle.saga_drive.specs.declared.requests.Request.{Request}
 use Rattle.saga_drive.specs.declared.requests.Request.TheVariants as request
 use Rattle.saga_drive.specs.declared.requests.RequestFault.{RequestFault}
 use Rattle.saga_drive.specs.declared.requests.RequestFault.TheVariants.{TooLong, Form}
-use Rattle.saga_drive.specs.Fields.{attempt_of, most_of, u32_if, wanted_of}
+use Rattle.saga_drive.specs.Fields.{attempt_of, bytes_of, most_of, u32_if, wanted_of}
 use Rattle.saga_drive.specs.Verbs.{verb_named, keys_of, optional_keys_of}
 
 -- in bytes
 abbrev pub max_request : ℕ
 max_request = 65536
 
--- how an action or a compensation ended, by its word
+-- the outcome of an action or a compensation, for its word
 abbrev pub outcome_named : List ℕ → Result Outcome JsonFault
 outcome_named word =
     if bytes_eq word (codes "ok") then Ok Done
@@ -35,22 +35,22 @@ abbrev pub outcome_of : Data → Result Outcome JsonFault
 outcome_of (string word) = outcome_named word
 outcome_of _ = Err BadType
 
--- the task that is to be taken: that of a step, or where none is named the plan of the saga
+-- the task to start: the task of the given step, or the plan of the saga if no step is given
 abbrev pub taken_of : ℕ → Data → Result Request JsonFault
 taken_of saga value =
     if has_key (codes "step") value then at_key u16_of (codes "step") value >>= (λ step. Ok (request.TakeStep saga step))
     else Ok (request.TakePlan saga)
 
--- the next task, or as many as are asked for
+-- the next task, or several if a number is given
 abbrev pub next_of : Data → Result Request JsonFault
 next_of value =
     if has_key (codes "most") value then most_of value >>= (λ most. Ok (request.NextMany most)) else Ok request.Next
 
--- the saga's number from which sagas are gone over: the first, where none is named
+-- the number of the first saga to list, which is 0 by default
 abbrev pub from_of : Data → Result ℕ JsonFault
 from_of value = if has_key (codes "from") value then at_key u32_of (codes "from") value else Ok 0
 
--- a phase, by its word
+-- a phase, for its word
 abbrev pub phase_named : List ℕ → Result Phase JsonFault
 phase_named word =
     if bytes_eq word (codes "going") then Ok phase.Going
@@ -63,13 +63,13 @@ abbrev pub phase_of : Data → Result Phase JsonFault
 phase_of (string word) = phase_named word
 phase_of _ = Err BadType
 
--- the sagas of a phase, or where none is named all
+-- the sagas with the given phase, or all if no phase is given
 abbrev pub sagas_of : ℕ → Data → Result Request JsonFault
 sagas_of from value =
     if has_key (codes "phase") value then at_key phase_of (codes "phase") value >>= (λ phase. Ok (request.Sagas from (Some phase)))
     else Ok (request.Sagas from None)
 
--- the request of a verb, with what its line has beside
+-- the request of a verb, with the other fields of its line
 abbrev pub fields_of : Verb → Data → Result Request JsonFault
 fields_of verb.Open value = do
   wanted ← wanted_of value
@@ -99,6 +99,9 @@ fields_of verb.Sagas value = do
   from ← from_of value
   sagas_of from value
 fields_of verb.Status value = Ok request.Status
+fields_of verb.Define value = do
+  text ← at_key bytes_of (codes "definition") value
+  Ok (request.Define text)
 
 unfoldable pub request_of_verb : Verb → Data → Result Request JsonFault
 request_of_verb verb value = do
@@ -109,18 +112,18 @@ abbrev pub request_by : Option Verb → Data → Result Request JsonFault
 request_by None value = Err Kind
 request_by (Some verb) value = request_of_verb verb value
 
--- the verb that stands at the key `do`
+-- the verb at the key `do`
 abbrev pub verb_of : Data → Option Verb
 verb_of value = option_and_then verb_named (text_at (codes "do") value)
 
--- the request that a value holds, or the first fault
+-- the request of a JSON value, or its first fault
 abbrev pub request_of : Data → Result Request JsonFault
 request_of value = request_by (verb_of value) value
 
 unfoldable pub request_of_text : List ℕ → Result Request JsonFault
 request_of_text text = json_of text >>= request_of
 
--- the request of a line, or its first fault, or want of memory
+-- the request of a line, or its first fault, or lack of memory
 abbrev pub ReadsRequest : List ℕ → Result Request RequestFault → Type 0
 ReadsRequest line (Ok request) = (length line ≤ max_request) × (request_of_text line ≡ Ok request)
 ReadsRequest line (Err TooLong) = max_request < length line

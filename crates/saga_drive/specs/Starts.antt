@@ -1,4 +1,4 @@
--- How a task begins: which events the history gains, and what is told of it.
+-- The start of a task: the events that it adds to the history, and its text in the reply.
 use Rattle.std.specs.Prelude.{◌≡◌, ℕ, ◌∷◌, ◌++◌, [], List, Bool, true, false, flat_map}
 use Rattle.saga_case.specs.Right.{IsRight}
 use Rattle.saga_case.specs.Situation.{Situation}
@@ -31,7 +31,7 @@ use Rattle.saga_drive.specs.Tellings.{TellsMore, TellsSame}
 abbrev pub after : Book → List Event → Book
 after book gained = record book { history = book.history ++ gained }
 
--- the action, or the compensation, of a step as a task, and the transition with which it begins
+-- the action or the compensation of a step as a task, and the transition that starts it
 abbrev pub task_of : Kind → ℕ → ℕ → Task
 task_of kind.Run i s = Run i s
 task_of kind.Undo i s = Undo i s
@@ -40,14 +40,15 @@ abbrev pub start_of : Kind → Transition
 start_of kind.Run = transition.StartRun
 start_of kind.Undo = transition.StartUndo
 
--- an action or a compensation begins, and it is told which
+-- an action or a compensation starts, and this is its text
 pub record Takes (book : Book) (kind : Kind) (i s : ℕ) (gained : List Event) (told : List ℕ) : Type 0 where
   pub only : gained ≡ step_event i s (start_of kind) ∷ []
   pub saga : Saga
   pub is : HasSaga book i saga
   pub told_is : told ≡ taken_text kind saga s
 
--- a plan begins and ends, with an answer that is right for the present case; it is told where the saga stands then
+-- a plan starts and ends, with an answer that is right for the present case; its text has the phase of the saga after
+-- it
 pub record Plans (book : Book) (i : ℕ) (gained : List Event) (told : List ℕ) : Type 0 where
   pub answer : Answer
   pub right : OfSaga book i (λ d l. IsRight (terms_of (present_case d l)) answer)
@@ -70,7 +71,7 @@ abbrev pub AreReadBack : List Event → Type 0
 AreReadBack [] = Unit {0}
 AreReadBack (e ∷ events) = IsReadBack e × AreReadBack events
 
--- a task that was allowed begins, and it is told which, behind what was told before
+-- an allowed task starts, and its text is appended to the texts of the tasks before it
 pub record Started (old new : Book) (t : Task) (before behind : Telling) : Type 0 where
   pub gained : List Event
   pub told : List ℕ
@@ -80,11 +81,11 @@ pub record Started (old new : Book) (t : Task) (before behind : Telling) : Type 
   pub allowed : MayStart old t
   pub begins : Starts old t gained told
 
--- the first task began, or there is none
+-- the first task has started, or there is none
 abbrev pub NextIsStarted : Bool → Book → Book → Telling → Telling → Type 0
 NextIsStarted true old new before behind = (t : Task) × IsFirstTask old t × Started old new t before behind
 NextIsStarted false old new before behind = NoTaskIsAllowed old × (new ≡ old) × TellsSame before behind
 
--- nothing happened for want of memory
+-- no event was added because memory ran out
 abbrev pub IsUntouched : Book → Book → Telling → Telling → Type 0
 IsUntouched old new before behind = (new ≡ old) × TellsSame before behind

@@ -1,8 +1,8 @@
--- The words of requests, and the keys that each has, as the table of the format says.
+-- The verbs of requests and the keys of each, as the specification of the format lists them.
 use Rattle.std.specs.Prelude.{ℕ, List, [], ◌∷◌, Option, Some, None, codes, if◌then◌else◌}
 use Rattle.std.specs.Str.{bytes_eq}
 use Rattle.saga_drive.specs.declared.verbs.Verb.{Verb}
-use Rattle.saga_drive.specs.declared.verbs.Verb.TheVariants.{Open, Next, Take, Report, Abort, Show, Busy, Ready, Sagas, Status}
+use Rattle.saga_drive.specs.declared.verbs.Verb.TheVariants.{Open, Next, Take, Report, Abort, Show, Busy, Ready, Sagas, Status, Define}
 
 abbrev pub verb_named : List ℕ → Option Verb
 verb_named word =
@@ -15,9 +15,10 @@ verb_named word =
     else (if bytes_eq word (codes "busy") then Some Busy
     else (if bytes_eq word (codes "ready") then Some Ready
     else (if bytes_eq word (codes "list") then Some Sagas
-    else (if bytes_eq word (codes "status") then Some Status else None)))))))))
+    else (if bytes_eq word (codes "status") then Some Status
+    else (if bytes_eq word (codes "define") then Some Define else None))))))))))
 
--- the keys that the verb's request has
+-- the required keys of the request
 abbrev pub keys_of : Verb → List (List ℕ)
 keys_of Open = codes "do" ∷ []
 keys_of Next = codes "do" ∷ []
@@ -29,8 +30,9 @@ keys_of Busy = codes "do" ∷ []
 keys_of Ready = codes "do" ∷ []
 keys_of Sagas = codes "do" ∷ []
 keys_of Status = codes "do" ∷ []
+keys_of Define = codes "do" ∷ codes "definition" ∷ []
 
--- the keys that it may have besides
+-- the optional keys of the request
 abbrev pub optional_keys_of : Verb → List (List ℕ)
 optional_keys_of Open = codes "def" ∷ codes "name" ∷ codes "saga" ∷ []
 optional_keys_of Next = codes "most" ∷ []
@@ -42,3 +44,4 @@ optional_keys_of Busy = []
 optional_keys_of Ready = codes "from" ∷ []
 optional_keys_of Sagas = codes "from" ∷ codes "phase" ∷ []
 optional_keys_of Status = []
+optional_keys_of Define = []

@@ -1,4 +1,4 @@
-//! Plans that were begun and have not ended.
+//! Plans that were started and have not ended.
 ghost use Rattle.std.specs.Prelude.{◌≡◌, ◌≢◌, ◌++◌, [], ℕ, List, IfOk, OnOk, string_bytes};
 ghost use Rattle.saga_history.specs.declared.tasks.Phase.TheVariants as phase;
 ghost use Rattle.saga_core.specs.Book.{Book};
@@ -12,8 +12,8 @@ use saga_core::Book;
 use saga_history::{Event, history_laws};
 use std::alloc::{AllocError, Global};
 
-/// The plan of a saga is dropped, if it was begun and has not ended, and its line comes behind others. Or want of memory, and
-/// nothing happened.
+/// Drops the plan of a saga if it was started and has not ended, and appends the log line of this event. If memory runs
+/// out, the book is unchanged.
 fn drop_plan(
     alloc: Global,
     book: &mut Book<'_>,
@@ -37,8 +37,10 @@ fn drop_plan(
     Ok(())
 }
 
-/// Drops each plan that was begun and has not ended, as where whoever made it is gone: it is made anew. Tells nothing, and has the
-/// lines of what happened. Takes time linear in the sagas. Or want of memory: then some may be dropped, without a word of it.
+/// Drops each plan that was started and has not ended. A restart uses it, because the process that made the plan no
+/// longer runs and the plan must be made again. The reply has an empty text and the log lines of the dropped plans.
+/// Takes time linear in the sagas. If memory runs out, some plans may already be dropped although no log lines are
+/// returned.
 pub fn drop_plans(alloc: Global, book: &mut Book<'_>) -> Result<Reply, AllocError>
     ensures drops { IfOk result (λ reply. DropsPlans book.old book.new (lines_of reply)) }
     ensures none { IfOk result (λ _. NoneIsPlanned book.new (next_of book.old)) }
@@ -50,7 +52,7 @@ pub fn drop_plans(alloc: Global, book: &mut Book<'_>) -> Result<Reply, AllocErro
     for saga in 0..book.next_number() {
         drop_plan(alloc, book, saga, &mut lines)?;
     }
-    // it is legal
+    // the history is legal
     let _history = book.history();
     Ok(Reply::Told {
         text: String::new(alloc),

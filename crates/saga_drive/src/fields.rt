@@ -1,4 +1,4 @@
-//! What stands at the keys that a request may have.
+//! The values at the keys that a request may have.
 ghost use Rattle.std.specs.Prelude.{◌≡◌};
 ghost use Rattle.serde_json.specs.View.{view};
 ghost use Rattle.saga_json.specs.Keys.{has_key};
@@ -13,17 +13,17 @@ use saga_json::{JsonFault, u16_at, u32_at, value_at};
 use serde_json::Value;
 use std::alloc::Global;
 
-/// The most tasks that one reply may have.
+/// The maximum number of tasks in one reply.
 pub const MAX_MOST: u16 = 1000;
 
-/// Whether an object has a key.
+/// Returns whether an object has a key.
 pub fn has(value: &Value, key: &str) -> bool
     ensures { result ≡ has_key key.now (view value.now) }
 {
     value.get(key).is_some()
 }
 
-/// The whole number at a key, where the key is there.
+/// Returns the integer at a key, or `None` if the object does not have the key.
 pub fn u32_if(value: &Value, key: &str) -> Result<Option<u32>, JsonFault>
     ensures { result ≡ spec.u32_if key.now (view value.now) }
 {
@@ -34,8 +34,8 @@ pub fn u32_if(value: &Value, key: &str) -> Result<Option<u32>, JsonFault>
     }
 }
 
-/// A text of its own.
-fn name_of(alloc: Global, value: &Value) -> Result<Text, JsonFault>
+/// Returns an owned copy of a text.
+pub fn bytes_of(alloc: Global, value: &Value) -> Result<Text, JsonFault>
     ensures { Gives (λ t. t) result (spec.bytes_of (view value.now)) }
 {
     match value {
@@ -44,12 +44,12 @@ fn name_of(alloc: Global, value: &Value) -> Result<Text, JsonFault>
     }
 }
 
-/// The definition of a saga that is to be opened: by its place or by its name, and not by both.
+/// Returns the definition with which to open a saga. The request names it by its index or by its name, but not by both.
 pub fn wanted_of(alloc: Global, value: &Value) -> Result<Wanted, JsonFault>
     ensures { Gives (λ w. w) result (spec.wanted_of (view value.now)) }
 {
     if !has(value, "def") {
-        return Ok(Wanted::Name(name_of(alloc, value_at(value, "name")?)?));
+        return Ok(Wanted::Name(bytes_of(alloc, value_at(value, "name")?)?));
     }
     if has(value, "name") {
         return Err(JsonFault::UnknownKey);
@@ -76,7 +76,8 @@ fn kind_of(value: &Value) -> Result<Kind, JsonFault>
     }
 }
 
-/// The attempt that is reported, where it is named: by its task and its number, and not by one of them alone.
+/// Returns the attempt that a report names. The request has both the task and the number of the attempt, or neither of
+/// them.
 pub fn attempt_of(value: &Value) -> Result<Option<Attempt>, JsonFault>
     ensures { result ≡ spec.attempt_of (view value.now) }
 {
@@ -91,7 +92,7 @@ pub fn attempt_of(value: &Value) -> Result<Option<Attempt>, JsonFault>
     Ok(None)
 }
 
-/// How many tasks are asked for: 1 to [`MAX_MOST`].
+/// Returns the requested maximum number of tasks, which is from 1 to [`MAX_MOST`].
 pub fn most_of(value: &Value) -> Result<u16, JsonFault>
     ensures { result ≡ spec.most_of (view value.now) }
 {

@@ -1,4 +1,4 @@
-//! Replies to what happens by one event: written before it happens, but for where its saga stands then.
+//! Replies for a single event. The reply is built before the event, except for the phase of its saga after the event.
 ghost use Rattle.std.specs.Prelude.{◌≡◌, ◌+◌, ◌≤◌, ◌++◌, IfOk, string_bytes, string_capacity, string_len};
 
 use crate::phases::{phase_in, word_of};
@@ -8,12 +8,13 @@ use saga_history::Event;
 use saga_log::put_event;
 use std::alloc::{AllocError, Global};
 
-/// What stands behind a phase's word, and the most bytes that the two have.
+/// `END` is the text that follows the word for the phase. `ROOM` is the maximum number of bytes of the word and `END`.
 const END: &str = "\"}\n";
 
 const ROOM: usize = 11;
 
-/// The reply to an event that is to happen, up to the word for where its saga stands then; room for that is kept.
+/// The reply for an event, without the word for the phase of its saga and the text that follows it. The buffer has
+/// reserved capacity for both.
 #[derive(Drop)]
 pub struct Happening {
     pub text: String,
@@ -31,7 +32,7 @@ impl Happening {
     ghost use Rattle.saga_drive.specs.Happenings.{IsHeld};
     ghost use Rattle.saga_drive.specs.Replies.{event_front, lines_of};
 
-    /// The reply to an event, before it happens.
+    /// Builds the reply before the event is added.
     pub fn new(alloc: Global, event: &Event) -> Result<Happening, AllocError>
         requires { IsPaired event.now }
         ensures text { IfOk result (λ held. string_bytes held.text ≡ event_front event.now) }
@@ -46,7 +47,7 @@ impl Happening {
         Ok(Happening { text, lines })
     }
 
-    /// The reply, once it has happened: with where the saga stands. Takes no memory.
+    /// Completes the reply after the event was added, with the phase of the saga. Allocates no memory.
     pub fn told(self, book: &Book<'_>, saga: u32) -> Reply
         requires { IsUnknown book.now saga → ⊥ }
         ensures text { IsHeld book.now saga (string_bytes self.text) result }

@@ -1,4 +1,4 @@
-//! What holds of answers and of restarts. The functions do nothing: their contracts are the laws.
+//! Theorems about answers and restarts. The functions do nothing; their contracts state the theorems.
 ghost use Rattle.std.specs.Prelude.{ℕ, List};
 ghost use Rattle.saga_def.specs.Contents.{Contents};
 ghost use Rattle.saga_case.specs.Situation.{Situation};
@@ -7,14 +7,15 @@ ghost use Rattle.saga_core.specs.Book.{Book};
 ghost use Rattle.saga_drive.specs.declared.replies.Reply.{Reply};
 ghost use Rattle.saga_drive.specs.Laws.{HasOneRestart, HasOneText, IsNotRefused, KeepsLegal, KeepsRoom, PlanFits};
 
-/// A log leads to one restart at most; where it leads to one, it is refused for want of memory alone.
+/// A log has at most one restart. If it has one, the only possible refusal is lack of memory.
 pub fn restart_laws()
     ensures one { (shelf : List Contents) (log : List ℕ) → HasOneRestart shelf log }
     ensures alone { (shelf : List Contents) (log : List ℕ) → IsNotRefused shelf log }
 {}
 
-/// An answer keeps a legal history legal, and its log's room for all that may still be written: a plan never has more lines than are
-/// kept for it, whatever its case. Where nothing happens, and memory does not lack, it is settled what is replied.
+/// An answer keeps a legal history legal, and it keeps enough free space in the log for all lines that may still be
+/// written. The lines of a plan never exceed the space that is reserved for a plan, for every case. If an answer adds
+/// no event and memory does not run out, the text of the reply is unique.
 pub fn answer_laws()
     ensures legal { (old new : Book) (room : ℕ) (line : List ℕ) (reply : Reply) → KeepsLegal old new room line reply }
     ensures plans { (c : Situation) (saga : ℕ) (a : Answer) → PlanFits c saga a }

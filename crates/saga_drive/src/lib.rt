@@ -1,17 +1,17 @@
-//! A coordinator for programs in any language: one request, a JSON object, in; one reply out, and the lines of the log for
-//! the events that it added.
+//! A coordinator for programs in any language. It takes one request, which is a JSON object, and returns one reply with
+//! the log lines of the events that the request added.
 //!
-//! `docs/FORMATS.md` of the repository has the requests and the replies. [`answer`] is the whole of it: it reads no file and
-//! writes none, so whoever calls it decides when the lines are kept. [`audit_trail`] is what the log then is worth: an audit of
-//! it says yes.
+//! `docs/FORMATS.md` of the repository specifies the requests and the replies. [`answer`] is the main function. It does
+//! no I/O, so the caller decides when to write the lines to durable storage. [`audit_trail`] writes the log of a book
+//! and audits it; it is proved that the audit accepts the log.
 //!
-//! Two requests, one after the other:
+//! An example with two requests:
 //!
 //! ```
 //! let mut book = Book::new(alloc, shelf, 0, 1);
 //! let room: u64 = 1_000_000;
 //! let opened = answer(alloc, &mut book, room, br#"{"def":0,"do":"open"}"#);
-//! // First the lines go to the log, and are synced; then the text is told.
+//! // First append the lines to the log and sync it. Then send the text.
 //! let _lines = opened.lines();
 //! let _text = opened.text();
 //! let room = room.saturating_sub(opened.lines().len() as u64);
@@ -34,6 +34,7 @@ mod questions;
 mod replies;
 mod reports;
 mod requests;
+mod responses;
 mod restarts;
 mod room;
 mod starts;
@@ -41,12 +42,13 @@ mod tellings;
 mod trails;
 mod verbs;
 
-pub use answers::answer;
+pub use answers::{answer, respond};
 pub use attempts::Attempt;
 pub use drops::drop_plans;
 pub use laws::{answer_laws, restart_laws};
 pub use openings::Wanted;
 pub use replies::Reply;
 pub use requests::{MAX_REQUEST, Request, RequestFault, read_request};
+pub use responses::Response;
 pub use restarts::{Restart, RestartRefusal, restart_from};
 pub use trails::{Trail, audit_trail};

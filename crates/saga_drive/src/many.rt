@@ -1,4 +1,4 @@
-//! Many tasks that begin one after the other.
+//! Several tasks that start one after the other.
 ghost use Rattle.std.specs.Prelude.{◌≡◌, ◌≤◌, IfOk, OnErr, length};
 ghost use Rattle.saga_drive.specs.Answers.{IsMet};
 ghost use Rattle.saga_drive.specs.Many.{HasStartedAll, HasStartedFewer, IsUntold};
@@ -11,12 +11,12 @@ use crate::tellings::Telling;
 use saga_core::Book;
 use std::alloc::{AllocError, Global};
 
-/// What stands before tasks that may be followed by more, and behind tasks.
+/// `FIRST` is the text before the tasks if more tasks may follow. `END` is the text after the tasks.
 const FIRST: &str = "{\"tasks\":[";
 
 const END: &str = "]}\n";
 
-/// What stands before tasks that no other may follow now.
+/// Returns the text before the tasks if no other task may start now.
 fn last_front(settled: bool) -> &'static str
     ensures front { result.now ≡ last_tasks_front settled }
     ensures short { length result.now ≤ 27 }
@@ -28,8 +28,8 @@ fn last_front(settled: bool) -> &'static str
     }
 }
 
-/// The next tasks begin, so many: says whether they did. Where fewer begin, there is no other behind them; where memory lacks for one,
-/// those before it have begun.
+/// Starts the next tasks, at most `most` of them, and returns whether it started `most` tasks. If it started fewer, no
+/// other task may start. If memory runs out for a task, the tasks before it have already started.
 fn start_many(
     alloc: Global,
     book: &mut Book<'_>,
@@ -50,7 +50,8 @@ fn start_many(
     Ok(true)
 }
 
-/// The next tasks are taken, at most so many. Where memory lacks once some have begun, these are told.
+/// Starts the next tasks, at most `most` of them. If memory runs out after some tasks have started, the reply lists
+/// these tasks.
 pub fn next_many(alloc: Global, book: &mut Book<'_>, most: u16) -> Result<Reply, AllocError>
     ensures ok { IfOk result (IsMet book.old book.new (request.NextMany most)) }
     ensures err { OnErr result (book.new ≡ book.old) }

@@ -1,4 +1,4 @@
-//! Openings: which definition is meant, and which number comes next.
+//! Openings: which definition a request selects, and which number the next saga gets.
 ghost use Rattle.std.specs.Prelude.{◌≡◌, ◌↔◌, IsTrue, MatchOption};
 ghost use Rattle.saga_drive.specs.Openings as spec;
 ghost use Rattle.saga_drive.specs.declared.openings.Wanted.TheVariants as wanted;
@@ -6,12 +6,12 @@ ghost use Rattle.saga_drive.specs.declared.openings.Wanted.TheVariants as wanted
 use saga_core::Book;
 use saga_def::{Definition, Text};
 
-/// The definition that a saga is to be opened with.
+/// The definition with which a request opens a saga.
 #[derive(Debug, Drop)]
 pub enum Wanted {
-    /// The one at an index of the shelf.
+    /// The definition at this index of the shelf.
     Index(u32),
-    /// The first of a name.
+    /// The first definition with this name.
     Name(Text),
 }
 
@@ -21,7 +21,7 @@ fn is_named(definition: &Definition, name: &str) -> bool
     definition.name() == name
 }
 
-/// The index of the first definition of a name.
+/// Returns the index of the first definition with this name.
 fn index_of_name(shelf: &[Definition], name: &str) -> Option<u32>
     ensures { MatchOption result (spec.NoneIsWanted shelf.now (wanted.Name name.now))
         (λ k. spec.IsWanted shelf.now (wanted.Name name.now) k) }
@@ -37,7 +37,7 @@ fn index_of_name(shelf: &[Definition], name: &str) -> Option<u32>
     None
 }
 
-/// The index on the shelf of the definition that is wanted.
+/// Returns the index on the shelf of the selected definition.
 pub fn index_of_wanted(shelf: &[Definition], wanted: &Wanted) -> Option<u32>
     ensures { MatchOption result (spec.NoneIsWanted shelf.now wanted.now)
         (λ k. spec.IsWanted shelf.now wanted.now k) }
@@ -49,7 +49,7 @@ pub fn index_of_wanted(shelf: &[Definition], wanted: &Wanted) -> Option<u32>
     }
 }
 
-/// Whether the saga that is opened next has the number that is asked for.
+/// Returns whether the next saga gets the requested number. It does if the request has no number.
 pub fn is_next(book: &Book<'_>, saga: Option<u32>) -> bool
     ensures { IsTrue result ↔ spec.IsNext saga book.now }
 {

@@ -1,4 +1,4 @@
-//! Where a saga stands, in a word.
+//! The word for the phase of a saga.
 ghost use Rattle.std.specs.Prelude.{◌≡◌, ◌≤◌, length};
 ghost use Rattle.saga_core.specs.Refusals.{IsUnknown};
 ghost use Rattle.saga_core.specs.Tasks.{StandsAt};
@@ -7,7 +7,7 @@ ghost use Rattle.saga_history.specs.Tasks.{phase_word};
 use saga_core::Book;
 use saga_history::Phase;
 
-/// The word of a phase, which has at most 8 bytes.
+/// Returns the word for a phase. It has at most 8 bytes.
 #[tactic(auto, using(crate::proofs::PhaseLemmas::short_word))]
 pub fn word_of(phase: Phase) -> &'static str
     ensures word { result.now ≡ phase_word phase }
@@ -16,7 +16,7 @@ pub fn word_of(phase: Phase) -> &'static str
     phase.word()
 }
 
-/// Where a saga stands that was opened.
+/// Returns the phase of a saga that exists.
 pub fn phase_in(book: &Book<'_>, saga: u32) -> Phase
     requires { IsUnknown book.now saga → ⊥ }
     ensures { StandsAt book.now saga result }

@@ -1,5 +1,5 @@
-//! Requests in their usual spelling: keys in order, no blanks, numbers as they are written. They are read piece by piece, without
-//! a tree of values. Any other spelling is for the general reader.
+//! The fast path for requests in canonical form: keys in ascending order, no white space, numbers in decimal. It reads
+//! such a request token by token, without a JSON tree. The general reader handles every other form.
 ghost use Rattle.std.specs.Prelude.{◌≡◌, ◌↔◌, ◌++◌, ◌<◌, ◌^◌, Ok, IfSome, IsTrue, decimal};
 ghost use Rattle.saga_drive.specs.Plain.{kind_text, outcome_text, told_text};
 ghost use Rattle.saga_drive.specs.Requests.{request_of_text};
@@ -11,7 +11,8 @@ use crate::requests::Request;
 use itoa::Buffer;
 use saga_history::{Kind, Outcome};
 
-/// The number that a text begins with, as far as its digits go. A guess: nothing is promised of it.
+/// Returns a guess of the number in the leading digits of a text. The function has no contract; its callers check the
+/// guess.
 fn guess(line: &[u8]) -> u64 {
     let mut value = 0u64;
     for byte in line {
@@ -25,7 +26,7 @@ fn guess(line: &[u8]) -> u64 {
     value
 }
 
-/// What follows a piece.
+/// Returns the rest of the line after a given prefix.
 fn after<'a>(line: &'a [u8], piece: &str) -> Option<&'a [u8]>
     ensures { IfSome result (λ rest. line.entry.now ≡ piece.now ++ rest.now) }
 {
@@ -38,7 +39,7 @@ fn is_same(line: &[u8], text: &str) -> bool
     line == text.as_bytes()
 }
 
-/// A number of 32 bits, and what follows it.
+/// Returns a 32-bit number at the start of a line, and the rest of the line.
 fn u32_first(line: &[u8]) -> Option<(u32, &[u8])>
     ensures text { IfSome result (λ cut. line.entry.now ≡ decimal cut.0 ++ cut.1.now) }
     ensures small { IfSome result (λ cut. cut.0 < 2 ^ 32) }
@@ -49,7 +50,7 @@ fn u32_first(line: &[u8]) -> Option<(u32, &[u8])>
     Some((number, rest))
 }
 
-/// A number of 16 bits, and what follows it.
+/// Returns a 16-bit number at the start of a line, and the rest of the line.
 fn u16_first(line: &[u8]) -> Option<(u16, &[u8])>
     ensures text { IfSome result (λ cut. line.entry.now ≡ decimal cut.0 ++ cut.1.now) }
     ensures small { IfSome result (λ cut. cut.0 < 2 ^ 16) }
@@ -60,7 +61,7 @@ fn u16_first(line: &[u8]) -> Option<(u16, &[u8])>
     Some((number, rest))
 }
 
-/// A number of 32 bits behind a piece, and what follows it.
+/// Returns a 32-bit number after a given prefix, and the rest of the line.
 fn u32_after<'a>(line: &'a [u8], piece: &str) -> Option<(u32, &'a [u8])>
     ensures text { IfSome result (λ cut. line.entry.now ≡ piece.now ++ (decimal cut.0 ++ cut.1.now)) }
     ensures small { IfSome result (λ cut. cut.0 < 2 ^ 32) }
@@ -68,7 +69,7 @@ fn u32_after<'a>(line: &'a [u8], piece: &str) -> Option<(u32, &'a [u8])>
     u32_first(after(line, piece)?)
 }
 
-/// A number of 16 bits behind a piece, and what follows it.
+/// Returns a 16-bit number after a given prefix, and the rest of the line.
 fn u16_after<'a>(line: &'a [u8], piece: &str) -> Option<(u16, &'a [u8])>
     ensures text { IfSome result (λ cut. line.entry.now ≡ piece.now ++ (decimal cut.0 ++ cut.1.now)) }
     ensures small { IfSome result (λ cut. cut.0 < 2 ^ 16) }
@@ -76,7 +77,8 @@ fn u16_after<'a>(line: &'a [u8], piece: &str) -> Option<(u16, &'a [u8])>
     u16_first(after(line, piece)?)
 }
 
-/// The outcome that a report begins with, behind the first byte of its line, and what follows it.
+/// Returns the outcome at the start of a report, and the rest of the line. The line starts after the first character of
+/// the object.
 fn outcome_first(line: &[u8]) -> Option<(Outcome, &[u8])>
     ensures { IfSome result (λ cut. line.entry.now ≡ outcome_text cut.0 ++ cut.1.now) }
 {
@@ -89,7 +91,7 @@ fn outcome_first(line: &[u8]) -> Option<(Outcome, &[u8])>
     }
 }
 
-/// What a report tells, and what follows its step.
+/// Returns the outcome, the saga and the step of a report, and the rest of the line.
 fn told_first(line: &[u8]) -> Option<(Outcome, u32, u16, &[u8])>
     ensures text { IfSome result (λ told. line.entry.now ≡ told_text told.0 told.1 told.2 told.3.now) }
     ensures saga { IfSome result (λ told. told.1 < 2 ^ 32) }
@@ -101,7 +103,7 @@ fn told_first(line: &[u8]) -> Option<(Outcome, u32, u16, &[u8])>
     Some((outcome, saga, step, rest))
 }
 
-/// The task that a line ends with.
+/// Returns the kind of task at the end of a line.
 fn last_kind(line: &[u8]) -> Option<Kind>
     ensures { IfSome result (λ kind. line.now ≡ kind_text kind) }
 {
@@ -114,7 +116,7 @@ fn last_kind(line: &[u8]) -> Option<Kind>
     }
 }
 
-/// A report that names its attempt.
+/// Reads a report that names its attempt.
 fn report_of_attempt(line: &[u8]) -> Option<Request>
     ensures { IfSome result (λ r. request_of_text line.now ≡ Ok r) }
 {
@@ -130,7 +132,7 @@ fn report_of_attempt(line: &[u8]) -> Option<Request>
     })
 }
 
-/// A report that names no attempt.
+/// Reads a report that does not name an attempt.
 fn report(line: &[u8]) -> Option<Request>
     ensures { IfSome result (λ r. request_of_text line.now ≡ Ok r) }
 {
@@ -146,7 +148,7 @@ fn report(line: &[u8]) -> Option<Request>
     })
 }
 
-/// An opening by an index and a number.
+/// Reads an `open` that has an index and a number.
 fn open(line: &[u8]) -> Option<Request>
     ensures { IfSome result (λ r. request_of_text line.now ≡ Ok r) }
 {
@@ -162,7 +164,7 @@ fn open(line: &[u8]) -> Option<Request>
     })
 }
 
-/// One task, or several.
+/// Reads a request for the next task, or for several.
 fn next(line: &[u8]) -> Option<Request>
     ensures { IfSome result (λ r. request_of_text line.now ≡ Ok r) }
 {
@@ -177,7 +179,8 @@ fn next(line: &[u8]) -> Option<Request>
     Some(Request::NextMany(most))
 }
 
-/// The request of a line in a usual spelling, in time linear in the line and without memory; none says nothing of the line.
+/// Reads a request in canonical form, in time linear in the line and without allocation. `None` means only that the
+/// line is not in such a form.
 pub fn plain_request(line: &[u8]) -> Option<Request>
     ensures { IfSome result (λ r. request_of_text line.now ≡ Ok r) }
 {

@@ -1,4 +1,4 @@
-//! Questions: how the book stands is told, and nothing happens.
+//! Read-only requests. They return a part of the state of the book and leave it unchanged.
 ghost use Rattle.std.specs.Prelude.{IfOk};
 ghost use Rattle.saga_drive.specs.Answers.{IsMet};
 ghost use Rattle.saga_drive.specs.declared.requests.Request.TheVariants as request;
@@ -9,7 +9,7 @@ use saga_history::Phase;
 use saga_views::{busy_text, list_text, ready_text, show_text, status_text};
 use std::alloc::{AllocError, Global};
 
-/// How a saga stands.
+/// Returns the state of a saga.
 pub fn show(alloc: Global, book: &Book<'_>, saga: u32) -> Result<Reply, AllocError>
     ensures { IfOk result (IsMet book.now book.now (request.Show saga)) }
 {
@@ -19,21 +19,21 @@ pub fn show(alloc: Global, book: &Book<'_>, saga: u32) -> Result<Reply, AllocErr
     }
 }
 
-/// What was taken and not reported.
+/// Returns the tasks that were started and not yet reported.
 pub fn busy(alloc: Global, book: &Book<'_>) -> Result<Reply, AllocError>
     ensures { IfOk result (IsMet book.now book.now request.Busy) }
 {
     Ok(told(alloc, busy_text(alloc, book)?))
 }
 
-/// Which tasks may begin, of the sagas from a number on.
+/// Returns the tasks that may start, of the sagas from this number on.
 pub fn ready(alloc: Global, book: &Book<'_>, from: u32) -> Result<Reply, AllocError>
     ensures { IfOk result (IsMet book.now book.now (request.Ready from)) }
 {
     Ok(told(alloc, ready_text(alloc, book, from)?))
 }
 
-/// Where the sagas from a number on stand, or those of a phase.
+/// Returns the phases of the sagas from this number on, or only of the sagas with this phase.
 pub fn sagas(
     alloc: Global,
     book: &Book<'_>,
@@ -45,7 +45,7 @@ pub fn sagas(
     Ok(told(alloc, list_text(alloc, book, from, phase)?))
 }
 
-/// How the book stands as a whole.
+/// Returns the summary of the book.
 pub fn status(alloc: Global, book: &Book<'_>) -> Result<Reply, AllocError>
     ensures { IfOk result (IsMet book.now book.now request.Status) }
 {

@@ -1,4 +1,4 @@
-//! Reports: how an action or a compensation ended.
+//! Reports: the outcome of an action or a compensation.
 ghost use Rattle.std.specs.Prelude.{◌≡◌, IfOk, OnErr};
 ghost use Rattle.saga_core.specs.Refusals.{OfSaga};
 ghost use Rattle.saga_drive.specs.Answers.{IsMet};
@@ -12,7 +12,7 @@ use saga_core::Book;
 use saga_history::{Event, Kind, Outcome};
 use std::alloc::{AllocError, Global};
 
-/// Ends the action or the compensation that is on its way at a step, and is the attempt that is meant.
+/// Ends the running action or compensation of a step. It is the attempt to which the report refers.
 fn end(
     alloc: Global,
     book: &mut Book<'_>,
@@ -36,7 +36,8 @@ fn end(
     }
 }
 
-/// An action or a compensation of a step ended, whichever is on its way; where an attempt is meant, only that one.
+/// Records that the running action or compensation of a step ended. Refuses if the saga or the step is unknown, if no
+/// attempt is running, or if the report names another attempt than the running one.
 pub fn report(
     alloc: Global,
     book: &mut Book<'_>,

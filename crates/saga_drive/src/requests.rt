@@ -1,4 +1,4 @@
-//! Reading a request.
+//! The reader of requests.
 ghost use Rattle.std.specs.Prelude.{◌≡◌, ◌↔◌, ◌<◌, IsTrue, length, option_and_then, codes};
 ghost use Rattle.serde_json.specs.View.{view};
 ghost use Rattle.saga_json.specs.Fields.{text_at as text_in};
@@ -6,38 +6,39 @@ ghost use Rattle.saga_json.specs.Reads.{Gives};
 ghost use Rattle.saga_drive.specs.Requests as spec;
 
 use crate::attempts::Attempt;
-use crate::fields::{attempt_of, has, most_of, u32_if, wanted_of};
+use crate::fields::{attempt_of, bytes_of, has, most_of, u32_if, wanted_of};
 use crate::openings::Wanted;
 use crate::plain::plain_request;
 use crate::verbs::Verb;
+use saga_def::Text;
 use saga_history::{Outcome, Phase};
 use saga_json::{JsonFault, check_keys, text_at, u16_at, u32_at, value_at, value_of_text};
 use serde_json::Value;
 use std::alloc::Global;
 
-/// The most bytes of a request, its line feed not counted.
+/// The maximum number of bytes of a request, without its line feed.
 pub const MAX_REQUEST: usize = 65536;
 
-/// What a line of input asks.
+/// The request of a line of input.
 #[derive(Debug, Drop)]
 pub enum Request {
-    /// Open a saga with a definition; where a number is given, only as the saga of that number.
+    /// Opens a saga with a definition. If `saga` is given, it must be the next number.
     Open {
         wanted: Wanted,
         saga: Option<u32>,
     },
-    /// Take the next task.
+    /// Starts the next task.
     Next,
-    /// Take the next tasks, at most so many.
+    /// Starts the next tasks, at most this many.
     NextMany(u16),
-    /// Take the task of a step: its action, or its compensation.
+    /// Starts the task of a step: its action or its compensation.
     TakeStep {
         saga: u32,
         step: u16,
     },
-    /// Plan a saga.
+    /// Makes a plan for a saga.
     TakePlan(u32),
-    /// A step's action or compensation ended; where an attempt is given, only as that one.
+    /// Reports that the action or compensation of a step ended. If `attempt` is given, it must be the running attempt.
     Report {
         saga: u32,
         step: u16,
@@ -45,31 +46,33 @@ pub enum Request {
         outcome: Outcome,
     },
     Abort(u32),
-    /// Tell how a saga stands.
+    /// Returns the state of a saga.
     Show(u32),
-    /// Tell what was taken and not reported.
+    /// Returns the tasks that were started and not yet reported.
     Busy,
-    /// Tell which tasks may begin, of the sagas from that number on.
+    /// Returns the tasks that may start, of the sagas from this number on.
     Ready(u32),
-    /// Tell where the sagas from that number on stand, or those of a phase.
+    /// Returns the phases of the sagas from this number on, or only of the sagas with this phase.
     Sagas {
         from: u32,
         phase: Option<Phase>,
     },
-    /// Tell how the book stands as a whole.
+    /// Returns the summary of the book.
     Status,
+    /// Adds the definition in this text to the shelf.
+    Define(Text),
 }
 
-/// Why a line is no request.
+/// Why a line is not a request.
 #[derive(Clone, Copy, Debug, PartialEq, Eq)]
 pub enum RequestFault {
-    /// It has more than [`MAX_REQUEST`] bytes.
+    /// The line has more than [`MAX_REQUEST`] bytes.
     TooLong,
-    /// The first fault of its form, or want of memory.
+    /// The first fault of the form of the line, or lack of memory.
     Form(JsonFault),
 }
 
-/// How an action or a compensation ended, by its word.
+/// Returns the outcome for its word.
 fn outcome_named(word: &str) -> Result<Outcome, JsonFault>
     ensures { result ≡ spec.outcome_named word.now }
 {
@@ -89,7 +92,8 @@ fn outcome_of(value: &Value) -> Result<Outcome, JsonFault>
     }
 }
 
-/// The task that is to be taken: that of a step, or where none is named the plan of the saga.
+/// Returns the request to start a task of a saga: the task of the given step, or the plan of the saga if no step is
+/// given.
 fn taken_of(saga: u32, value: &Value) -> Result<Request, JsonFault>
     ensures { result ≡ spec.taken_of saga (view value.now) }
 {
@@ -100,7 +104,7 @@ fn taken_of(saga: u32, value: &Value) -> Result<Request, JsonFault>
     Ok(Request::TakeStep { saga, step })
 }
 
-/// The next task, or as many as are asked for.
+/// Returns the request for the next task, or for several if a number is given.
 fn next_of(value: &Value) -> Result<Request, JsonFault>
     ensures { result ≡ spec.next_of (view value.now) }
 {
@@ -110,7 +114,7 @@ fn next_of(value: &Value) -> Result<Request, JsonFault>
     Ok(Request::Next)
 }
 
-/// The number from which sagas are gone over: 0, where none is named.
+/// Returns the number of the first saga to list. The default is 0.
 fn from_of(value: &Value) -> Result<u32, JsonFault>
     ensures { result ≡ spec.from_of (view value.now) }
 {
@@ -120,7 +124,7 @@ fn from_of(value: &Value) -> Result<u32, JsonFault>
     u32_at(value, "from")
 }
 
-/// A phase, by its word.
+/// Returns the phase for its word.
 fn phase_named(word: &str) -> Result<Phase, JsonFault>
     ensures { result ≡ spec.phase_named word.now }
 {
@@ -143,7 +147,7 @@ fn phase_of(value: &Value) -> Result<Phase, JsonFault>
     }
 }
 
-/// The sagas from a number on: those of a phase, or all where none is named.
+/// Returns the request for a list of sagas from a number on: those with the given phase, or all if no phase is given.
 fn sagas_of(from: u32, value: &Value) -> Result<Request, JsonFault>
     ensures { result ≡ spec.sagas_of from (view value.now) }
 {
@@ -157,7 +161,7 @@ fn sagas_of(from: u32, value: &Value) -> Result<Request, JsonFault>
     })
 }
 
-/// The request of a verb, with what its line has beside.
+/// Returns the request of a verb, with the other fields of its line.
 fn fields_of(alloc: Global, verb: Verb, value: &Value) -> Result<Request, JsonFault>
     ensures { Gives (λ r. r) result (spec.fields_of verb (view value.now)) }
 {
@@ -187,6 +191,7 @@ fn fields_of(alloc: Global, verb: Verb, value: &Value) -> Result<Request, JsonFa
         Verb::Ready => Ok(Request::Ready(from_of(value)?)),
         Verb::Sagas => sagas_of(from_of(value)?, value),
         Verb::Status => Ok(Request::Status),
+        Verb::Define => Ok(Request::Define(bytes_of(alloc, value_at(value, "definition")?)?)),
     }
 }
 
@@ -221,7 +226,7 @@ fn request_by_value(alloc: Global, line: &[u8]) -> Result<Request, JsonFault>
     request_of_value(alloc, &value)
 }
 
-/// The request of a line: piece by piece in a usual spelling, and else by a tree of values.
+/// Returns the request of a line. It tries the fast path for canonical form first, and then the general reader.
 fn request_of_text(alloc: Global, line: &[u8]) -> Result<Request, JsonFault>
     ensures { Gives (λ r. r) result (spec.request_of_text line.now) }
 {
@@ -237,7 +242,7 @@ fn is_too_long(line: &[u8]) -> bool
     line.len() > MAX_REQUEST
 }
 
-/// Reads a request, in time and memory linear in the line, which is given without its line feed.
+/// Reads a request from a line without its line feed. Takes time and memory linear in the line.
 pub fn read_request(alloc: Global, line: &[u8]) -> Result<Request, RequestFault>
     ensures { spec.ReadsRequest line.now result }
 {

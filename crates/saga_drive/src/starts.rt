@@ -1,4 +1,5 @@
-//! How tasks begin: what will be told is written before, so where memory lacks nothing has happened.
+//! The start of tasks. Each function builds the text for the reply before it changes the book. So if memory runs out,
+//! the book is unchanged.
 ghost use Rattle.std.specs.Prelude.{◌≡◌, true, IfErr, IfOk, OnErr, OnOk};
 ghost use Rattle.saga_history.specs.Changes.{step_event};
 ghost use Rattle.saga_history.specs.declared.events.Event.TheVariants as event;
@@ -20,7 +21,7 @@ use saga_plan::plan;
 use saga_views::taken_text;
 use std::alloc::{AllocError, Global};
 
-/// The transition with which an action or a compensation begins.
+/// Returns the transition that starts an action or a compensation.
 fn start_of(kind: Kind) -> Transition
     ensures { result ≡ spec.start_of kind }
 {
@@ -30,7 +31,7 @@ fn start_of(kind: Kind) -> Transition
     }
 }
 
-/// The action or the compensation of a step is taken.
+/// Starts the action or the compensation of a step in the book.
 fn take(book: &mut Book<'_>, saga: u32, step: u16, kind: Kind) -> Result<(), TakeRefusal>
     ensures ok { OnOk result
         (book.new ≡ with_event book.old (step_event saga step (spec.start_of kind))) }
@@ -44,7 +45,7 @@ fn take(book: &mut Book<'_>, saga: u32, step: u16, kind: Kind) -> Result<(), Tak
     }
 }
 
-/// The action or the compensation of a step begins: one that may.
+/// Starts the action or the compensation of a step, which must be allowed to start, and appends it to the reply.
 pub fn start_step(
     alloc: Global,
     book: &mut Book<'_>,
@@ -74,7 +75,7 @@ pub fn start_step(
     }
 }
 
-/// A plan begins.
+/// Starts a plan.
 fn start_plan(book: &mut Book<'_>, saga: u32) -> Result<(), AllocError>
     requires { Allows book.old (event.StartPlan saga) }
     ensures ok { OnOk result (book.new ≡ with_event book.old (event.StartPlan saga)) }
@@ -87,7 +88,7 @@ fn start_plan(book: &mut Book<'_>, saga: u32) -> Result<(), AllocError>
     }
 }
 
-/// A plan ends by an answer that is right for the present case.
+/// Ends a plan with an answer that is right for the present case.
 fn end_plan<'d>(book: &mut Book<'d>, saga: u32, verdict: Verdict<'d>)
     requires planned { HoldsPlan book.old saga verdict.case }
     ensures allowed { Allows book.old
@@ -100,7 +101,8 @@ fn end_plan<'d>(book: &mut Book<'d>, saga: u32, verdict: Verdict<'d>)
     }
 }
 
-/// A saga is planned by its present case, and goes on by the plan or stops by the chain. Takes the time and memory of [`plan`].
+/// Makes a plan for the present case of a saga and adopts it. The saga continues with the plan, or it is stuck with the
+/// chain of steps that block it. Takes the time and memory of [`plan`].
 pub fn plan_case<'d>(
     alloc: Global,
     book: &mut Book<'d>,
@@ -126,7 +128,7 @@ pub fn plan_case<'d>(
     Ok(())
 }
 
-/// The first task is the plan of a saga.
+/// Makes a plan for a saga, which is the first task.
 fn plan_first(
     alloc: Global,
     book: &mut Book<'_>,
@@ -144,7 +146,7 @@ fn plan_first(
     }
 }
 
-/// The first task begins, if there is one.
+/// Starts the first task, and returns whether there is one.
 pub fn start_next(
     alloc: Global,
     book: &mut Book<'_>,

@@ -1,15 +1,17 @@
-//! What is told of tasks: written before they begin, in room that is kept for what is known only then.
+//! The texts of tasks in a reply. They are built before the tasks start, with reserved capacity for the phases, which
+//! are known only afterwards.
 ghost use Rattle.std.specs.Prelude.{◌≡◌, ◌+◌, ◌≤◌, ◌++◌, [], IfOk, OnOk, false, length, string_bytes, string_capacity, string_len};
 
 use crate::replies::{Reply, push_reserved};
 use std::alloc::{AllocError, Global};
 
-/// The most bytes of a phase's word, with a comma; and the most that stand before and behind the tasks of a reply.
+/// `WORD` is the maximum length of the word for a phase with a comma. `FRAME` is the maximum length of the texts before
+/// and after the tasks of a reply.
 const WORD: usize = 9;
 
 const FRAME: usize = 32;
 
-/// What a task will be told by, a phase's word between the two parts; and the lines of the log for it.
+/// The text of a task in a reply, in two parts with the word for a phase between them, and the log lines of the task.
 #[derive(Drop)]
 pub struct Item {
     pub front: String,
@@ -17,12 +19,12 @@ pub struct Item {
     pub lines: String,
 }
 
-/// What is told so far of tasks that began, and the lines of the log for it. Room for the end is kept.
+/// The text of the started tasks and their log lines. `text` has reserved capacity for the end of the reply.
 #[derive(Drop)]
 pub struct Telling {
     pub text: String,
     pub lines: String,
-    /// Whether a comma comes before the next task.
+    /// Whether the next task needs a comma before it.
     pub apart: bool,
     ghost room: { string_len text + 32 ≤ string_capacity text },
 }
@@ -31,7 +33,7 @@ impl Telling {
     ghost use Rattle.saga_drive.specs.Replies.{lines_of, text_of};
     ghost use Rattle.saga_drive.specs.Tellings.{HasRoom, TellsMore, TellsSame, told_of};
 
-    /// Nothing is told.
+    /// Makes an empty text.
     pub fn new(alloc: Global) -> Result<Telling, AllocError>
         ensures text { IfOk result (λ telling. string_bytes telling.text ≡ []) }
         ensures lines { IfOk result (λ telling. string_bytes telling.lines ≡ []) }
@@ -46,7 +48,7 @@ impl Telling {
         })
     }
 
-    /// Takes the room for a task.
+    /// Reserves the capacity for a task.
     pub fn make_room(&mut self, item: &Item) -> Result<(), AllocError>
         ensures same { TellsSame self.old self.new }
         ensures ok { OnOk result (HasRoom self.new item.now) }
@@ -60,7 +62,7 @@ impl Telling {
         Ok(())
     }
 
-    /// A task began: it is told with a phase's word, in room that was taken.
+    /// Appends a task that has started, with the word for a phase. `make_room` has reserved the capacity.
     pub fn add(&mut self, item: &Item, word: &str)
         requires room { HasRoom self.old item.now }
         requires short { length word.now ≤ 8 }
@@ -77,7 +79,7 @@ impl Telling {
         self.apart = true;
     }
 
-    /// The reply, with what stands before the tasks and behind them.
+    /// Completes the reply with the texts before and after the tasks.
     pub fn end(self, front: &str, back: &str) -> Reply
         requires { length front.now + length back.now ≤ 32 }
         ensures text { text_of result ≡ front.now ++ string_bytes self.text ++ back.now }

@@ -1,8 +1,8 @@
-//! The words of requests, and the keys that each has.
+//! The verbs of requests, and the keys of each.
 ghost use Rattle.std.specs.Prelude.{◌≡◌, map};
 ghost use Rattle.saga_drive.specs.Verbs as spec;
 
-/// What a request asks to do.
+/// The verb of a request.
 #[derive(Clone, Copy, Debug, PartialEq, Eq)]
 pub enum Verb {
     Open,
@@ -15,10 +15,11 @@ pub enum Verb {
     Ready,
     Sagas,
     Status,
+    Define,
 }
 
 impl Verb {
-    /// The verb of a word.
+    /// Returns the verb for its word.
     pub fn named(word: &str) -> Option<Verb>
         ensures { result ≡ spec.verb_named word.now }
     {
@@ -33,11 +34,12 @@ impl Verb {
             "ready" => Some(Verb::Ready),
             "list" => Some(Verb::Sagas),
             "status" => Some(Verb::Status),
+            "define" => Some(Verb::Define),
             _ => None,
         }
     }
 
-    /// The keys that the verb's request has.
+    /// The required keys of the request.
     pub fn keys(self) -> &'static [&'static str]
         ensures { map (λ k. k.now) result.now ≡ spec.keys_of self }
     {
@@ -46,10 +48,11 @@ impl Verb {
             Verb::Take | Verb::Abort | Verb::Show => &["do", "saga"],
             Verb::Open | Verb::Next | Verb::Busy => &["do"],
             Verb::Ready | Verb::Sagas | Verb::Status => &["do"],
+            Verb::Define => &["do", "definition"],
         }
     }
 
-    /// The keys that it may have besides.
+    /// The optional keys of the request.
     pub fn optional_keys(self) -> &'static [&'static str]
         ensures { map (λ k. k.now) result.now ≡ spec.optional_keys_of self }
     {

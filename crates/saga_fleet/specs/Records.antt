@@ -1,4 +1,4 @@
--- Records of runs: what they say, and what a checker makes of them by numbers alone.
+-- Records of runs: their meaning, and how a checker decides about them with numbers alone.
 use Rattle.std.specs.Prelude.{◌≡◌, ◌≤◌, ◌<◌, ◌+◌, ◌-◌, ℕ, suc, Bool, true, false, IsTrue, List, [], ◌∷◌, ◌++◌, Option, Some, None, length, map, set, take, get_or}
 use Rattle.std.specs.List.{All}
 use Rattle.saga_fleet.specs.declared.reasons.Reason.{Reason}
@@ -15,9 +15,9 @@ use Rattle.saga_fleet.specs.declared.events.Deed.TheVariants.{Decided, Written, 
 use Rattle.saga_fleet.specs.declared.events.Event.TheVariants.{TookOver, Did, Shipped, FailedOver}
 use Rattle.saga_fleet.specs.Fleet.Move.{Answers, Commits, Fails_over, Refuses, Sends, Ships, Takes_over, Tells}
 
--- ---- what a record says
+-- ---- the meaning of a record
 
--- the move that an event records; of a chunk its digest is recorded, and of a text nothing
+-- the move that an event records; a chunk is recorded by its digest, and the text of an acknowledgement is not recorded
 abbrev pub deed_of : ℕ → Deed → Move
 deed_of k (Decided digest) = Sends k (digest ∷ [])
 deed_of k (Written first digest) = Commits k
@@ -38,17 +38,17 @@ digest_of (digest ∷ rest) = digest
 abbrev pub digests : List Chunk → List ℕ
 digests chunks = map digest_of chunks
 
--- that of the last one, 0 where there is none
+-- the digest of the last chunk, 0 if there is none
 abbrev pub last_digest : List ℕ → ℕ
 last_digest ds = get_or ds (length ds - 1) 0
 
--- that of the only one
+-- the digest of the only chunk
 abbrev pub only : List ℕ → Option ℕ
 only [] = None
 only (digest ∷ []) = Some digest
 only (digest ∷ next ∷ rest) = None
 
--- the numbers that it gives are those of the log
+-- the numbers of the event are those of the log
 abbrev pub FitsDeed : Log → ℕ → Deed → Type 0
 FitsDeed w k (Decided digest) = Unit {0}
 FitsDeed w k (Written first digest) = (first ≡ length w.chunks) × (only (digests (session w k).asked) ≡ Some digest)
@@ -65,17 +65,17 @@ Fits w (FailedOver n epoch) = n ≤ length w.chunks
 abbrev pub any : List Chunk → Type 0
 any chunks = Unit {0}
 
--- these events record, from there on, moves that are allowed
+-- these events record allowed moves, from this log on
 abbrev pub IsRecordFrom : Bool → Log → List Event → Type 0
 IsRecordFrom b w [] = Unit {0}
 IsRecordFrom b w (e ∷ es) = Fits w e × IsAllowed (rules b) any w (move_of e) × IsRecordFrom b (happens (rules b) w (move_of e)) es
 
--- the log that a record leads to
+-- the log after a record
 abbrev pub log_after : Bool → Log → List Event → Log
 log_after b w [] = w
 log_after b w (e ∷ es) = log_after b (happens (rules b) w (move_of e)) es
 
--- ---- by numbers alone
+-- ---- the decision with numbers alone
 
 abbrev pub May : Bool → Now → List ℕ → Tally → Deed → Type 0
 May b now ds t (Decided digest) = IsIdle t.stage
@@ -137,7 +137,7 @@ digests_of w = digests w.chunks
 abbrev pub tallies_of : Log → List Tally
 tallies_of w = map tally w.sessions
 
--- no number of a log is greater than that
+-- no number of a log is greater than n
 pub record AreWithin (n : ℕ) (now : Now) (ds : List ℕ) (ts : List Tally) : Type 0 where
   pub servers : now.servers ≤ n
   pub chunks : length ds ≤ n
@@ -174,12 +174,13 @@ Fails b now ds ts (Shipped n) reason = CountFails now ds n reason
 Fails b now ds ts (FailedOver n epoch) reason = CountFails now ds n reason
 Fails b now ds ts e reason = ⊥
 
--- nothing speaks against an event that may follow, or something does
+-- there is no reason, and the event is allowed; or there is a reason, and its condition fails
 abbrev pub Says : Option Reason → Type 0 → (Reason → Type 0) → Type 0
 Says None may fails = may
 Says (Some reason) may fails = fails reason
 
--- the first event that is not allowed, and a condition of its own that the log before it does not meet
+-- whether the result is yes; and the first event that is not allowed, with a reason whose condition fails for the log
+-- before the event
 abbrev pub is_yes : RecordAnswer → Bool
 is_yes (Yes sessions chunks failovers events) = true
 is_yes (No position reason) = false
@@ -191,7 +192,7 @@ pub record IsFirstFault (b : Bool) (es : List Event) (position : ℕ) (reason : 
       (tallies_of (log_after b nothing (take position es))) (get_or es position (TookOver 0 0 0)) reason
   pub denied : IsRecordFrom b nothing (take (position + 1) es) → ⊥
 
--- the sessions that began, the chunks that the log has in the end, the servers that took over, and the events
+-- the numbers of sessions that began, of chunks in the log at the end, of failovers, and of events
 pub record AreCounts (b : Bool) (es : List Event) (sessions chunks failovers events : ℕ) : Type 0 where
   pub sessions_are : sessions ≡ length (log_after b nothing es).sessions
   pub chunks_are : chunks ≡ length (log_after b nothing es).chunks

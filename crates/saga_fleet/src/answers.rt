@@ -1,20 +1,20 @@
-//! What an audit of a record says.
+//! The result of an audit of a record.
 use crate::reasons::Reason;
 
-/// Whether a record is one of a run that is allowed.
+/// The result of an audit: whether the record is one of an allowed run.
 #[derive(Clone, Copy, Debug, PartialEq, Eq)]
 pub enum RecordAnswer {
-    /// Each event is allowed behind those before it.
+    /// Each event is allowed after the events before it.
     Yes {
-        /// How many sessions began.
+        /// The number of sessions that began.
         sessions: usize,
-        /// How many chunks the log has in the end.
+        /// The number of chunks in the log at the end.
         chunks: usize,
-        /// How often another server took over.
+        /// The number of failovers.
         failovers: usize,
         events: usize,
     },
-    /// The event at this place is the first that is not allowed.
+    /// The event at this index is the first that is not allowed.
     No {
         position: usize,
         reason: Reason,

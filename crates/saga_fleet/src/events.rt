@@ -1,4 +1,5 @@
-//! What a record says of one log that many nodes write to, one event after the other.
+//! The events of a record: what many nodes did with the log of one shard, one event after the
+//! other.
 
 /// The state of the last request of a session to the database.
 #[derive(Clone, Copy, Debug, PartialEq, Eq)]

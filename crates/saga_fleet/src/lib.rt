@@ -1,8 +1,8 @@
-//! Many nodes over one database: what was told survives, and records of runs are judged.
+//! Many nodes over one database: what was acknowledged survives, and records of runs are audited.
 //!
-//! [`told_survives_on_many_nodes`] says what follows of every run, and [`each_rule_is_needed`] that no rule can be left out.
-//! [`audit_record`] says of a record of what really happened whether it is such a run, or the first event that is not
-//! allowed, and why.
+//! [`told_survives_on_many_nodes`] states the properties of every run, and [`each_rule_is_needed`] states that no rule
+//! can be left out. [`audit_record`] decides whether a record of a real execution is such a run. If it is not, the
+//! result is the first event that is not allowed, and the reason.
 #![tactic(auto)]
 
 mod answers;

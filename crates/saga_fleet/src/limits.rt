@@ -1,4 +1,4 @@
 //! The limit of a record.
 
-/// The greatest length of a record's text in bytes.
+/// The maximum length of a record's text in bytes.
 pub const MAX_RECORD: usize = 67_108_864;

@@ -5,38 +5,38 @@ ghost use Rattle.saga_fleet.specs.Words.{word_of};
 /// Why an event is not allowed.
 #[derive(Clone, Copy, Debug, PartialEq, Eq)]
 pub enum Reason {
-    /// A takeover whose epoch is not the next one.
+    /// The epoch of a takeover is not the next one.
     EpochNotNext,
-    /// A takeover that read more chunks than there are, or fewer.
+    /// A takeover did not read exactly the existing chunks.
     OtherLength,
-    /// A takeover that read, or a commit that wrote, a chunk of another digest.
+    /// A takeover read, or a commit wrote, a chunk with another digest.
     OtherContent,
-    /// An event of a session that has not begun.
+    /// The event is one of a session that has not begun.
     NoSuchSession,
-    /// A decision of a session that waits for an answer, or was refused.
+    /// A session decided while it was waiting for an answer, or after it was refused.
     NotIdle,
-    /// A commit or a refusal of which nothing was sent.
+    /// A commit was written or refused without a request.
     NothingSent,
-    /// An answer of which nothing was written.
+    /// A commit was answered that was not written.
     NothingDone,
-    /// A commit or an answer on a server that the session did not take the log on.
+    /// A commit or an answer happened on another server than the one on which the session took the log over.
     OtherServer,
-    /// A commit under an epoch that is not the log's.
+    /// A commit was written under an epoch that is not the log's.
     OldEpoch,
-    /// A commit elsewhere than behind all chunks.
+    /// A commit was not written directly after all chunks.
     OtherPlace,
-    /// An answer to what not each server has that may take over.
+    /// A commit was answered before each server that may take over had its chunks.
     NotShipped,
-    /// Something was told that rests on chunks of which the session has not heard.
+    /// Something was acknowledged that rests on chunks that the session does not know.
     NotKnown,
-    /// Fewer chunks than each server that may take over is known to have.
+    /// The number of chunks is below the number that each server that may take over is known to have.
     FewerThanShipped,
-    /// More chunks than were written.
+    /// The number of chunks is above the number of written ones.
     MoreThanWritten,
 }
 
 impl Reason {
-    /// Its word, by which the program names it.
+    /// The reason in one word, as the program prints it.
     pub fn word(self) -> &'static str
         ensures { result.now ≡ word_of self }
     {

@@ -1,4 +1,4 @@
-//! What is kept of a log while its record is read: numbers alone.
+//! The state of a log while its record is read. It consists only of numbers.
 ghost use Rattle.std.specs.Prelude.{◌≡◌, ◌↔◌, ◌+◌, ◌^◌, ◌≤◌, ◌<◌, ℕ, Bool, IsTrue, IfOk, OnOk, List, Some, None, length, if◌then◌else◌};
 ghost use Rattle.saga_fleet.specs.Fleet.{IsDone, IsIdle, IsSent, nothing};
 ghost use Rattle.saga_fleet.specs.Records.{AreWithin, CountFails, DeedFails, Fails, IsAnswer, IsRecordFrom, May, MayFollow, Says, did, digests_after, digests_did, is_yes, last_digest, log_after, now_after, only, tallies_after};
@@ -11,7 +11,7 @@ use crate::events::{Deed, Event, Stage};
 use crate::reasons::Reason;
 use std::alloc::{AllocError, Global};
 
-/// Of a log: its epoch, how many chunks each server has that may take over, and how many servers took over.
+/// The state of a log: its epoch, the number of chunks on each server that may take over, and the number of failovers.
 #[derive(Clone, Copy, Debug, PartialEq, Eq)]
 pub struct Now {
     pub epoch: u64,
@@ -19,8 +19,8 @@ pub struct Now {
     pub servers: u64,
 }
 
-/// Of a session: where and under which epoch it began, how many chunks it knows and has asked for, the digest of what it asked
-/// for where that is one chunk, and what became of it.
+/// The state of a session: the server and the epoch of its takeover, the numbers of chunks that it knows and that it
+/// has requested, and the stage of its request. `digest` is that of the requested chunk, if there is exactly one.
 #[derive(Clone, Copy, Debug, PartialEq, Eq)]
 pub struct Tally {
     pub server: u64,
@@ -61,14 +61,14 @@ impl Stage {
 }
 
 impl Tally {
-    /// Whether each server that may take over has what it asked for.
+    /// Whether each server that may take over has the requested chunks.
     fn is_safe(self, now: Now) -> bool
         ensures { IsTrue result ↔ (self.known + self.asked ≤ now.shipped) }
     {
         self.known <= now.shipped && self.asked <= now.shipped - self.known
     }
 
-    /// What speaks against a commit of that digest, behind so many chunks.
+    /// The reason against a commit with this digest after `first` chunks.
     fn against_commit(self, now: Now, digests: &[u64], first: u64, digest: u64) -> Option<Reason>
         ensures { (b : Bool) → Says result (May b now digests.now self (Written first digest))
             (DeedFails b now digests.now self (Written first digest)) }
@@ -88,7 +88,7 @@ impl Tally {
         }
     }
 
-    /// What speaks against an answer.
+    /// The reason against an answer.
     fn against_answer(self, synchronous: bool, now: Now) -> Option<Reason>
         ensures { (ds : List ℕ) → Says result (May synchronous now ds self Heard)
             (DeedFails synchronous now ds self Heard) }
@@ -104,7 +104,7 @@ impl Tally {
         }
     }
 
-    /// What speaks against its doing that now.
+    /// The reason against a deed of the session.
     fn against(self, synchronous: bool, now: Now, digests: &[u64], deed: Deed) -> Option<Reason>
         ensures { Says result (May synchronous now digests.now self deed)
             (DeedFails synchronous now digests.now self deed) }
@@ -118,7 +118,7 @@ impl Tally {
         }
     }
 
-    /// What it is then.
+    /// The session after a deed.
     fn after(self, deed: Deed) -> Tally
         requires { self.known + self.asked < 2 ^ 64 }
         ensures { result ≡ did self deed }
@@ -150,14 +150,14 @@ impl Tally {
     }
 }
 
-/// That reason, unless it holds.
+/// Returns this reason, or `None` if the condition holds.
 fn against(holds: bool, reason: Reason) -> Option<Reason>
     ensures { result ≡ (if holds then None else Some reason) }
 {
     if holds { None } else { Some(reason) }
 }
 
-/// The digest of the last chunk, 0 where there is none.
+/// The digest of the last chunk, or 0 if there is none.
 fn last_of(digests: &[u64]) -> u64
     ensures { result ≡ last_digest digests.now }
 {
@@ -177,7 +177,7 @@ fn only_of(digests: &[u64]) -> Option<u64>
     }
 }
 
-/// What speaks against a takeover.
+/// The reason against a takeover.
 fn against_takeover(now: Now, digests: &[u64], epoch: u64, read: u64, digest: u64) -> Option<Reason>
     ensures { (b : Bool) (ts : List Tally) → Says result (MayFollow b now digests.now ts (TookOver epoch read digest))
         (Fails b now digests.now ts (TookOver epoch read digest)) }
@@ -193,7 +193,7 @@ fn against_takeover(now: Now, digests: &[u64], epoch: u64, read: u64, digest: u6
     }
 }
 
-/// What speaks against so many chunks on servers that may take over.
+/// The reason against this number of chunks on the servers that may take over.
 fn against_count(now: Now, digests: &[u64], n: u64) -> Option<Reason>
     ensures { Says result ((now.shipped ≤ n) × (n ≤ length digests.now)) (CountFails now digests.now n) }
 {
@@ -206,17 +206,17 @@ fn against_count(now: Now, digests: &[u64], n: u64) -> Option<Reason>
     }
 }
 
-/// A log, and its sessions.
+/// The state of a log and of its sessions.
 #[derive(Drop)]
 struct Watch {
     log: Now,
-    /// Of each chunk.
+    /// The digest of each chunk.
     digests: Vec<u64>,
     tallies: Vec<Tally>,
 }
 
 impl Watch {
-    /// What speaks against an event now.
+    /// The reason against an event.
     fn against(&self, synchronous: bool, event: Event) -> Option<Reason>
         ensures { Says result (MayFollow synchronous self.now.log self.now.digests.items self.now.tallies.items event)
             (Fails synchronous self.now.log self.now.digests.items self.now.tallies.items event) }
@@ -234,7 +234,7 @@ impl Watch {
         }
     }
 
-    /// A session takes the log over.
+    /// Applies a takeover by a new session.
     fn take_over(&mut self, epoch: u64, read: u64) -> Result<(), AllocError>
         ensures now { OnOk result (self.new.log ≡ now_after self.old.log (TookOver epoch read 0)) }
         ensures digests { OnOk result (self.new.digests.items ≡ self.old.digests.items) }
@@ -253,7 +253,7 @@ impl Watch {
         Ok(())
     }
 
-    /// A session does something.
+    /// Applies a deed of a session.
     fn see_deed(&mut self, session: usize, deed: Deed) -> Result<(), AllocError>
         requires begun { session < length self.old.tallies.items }
         requires within { AreWithin (2 ^ 63) self.old.log self.old.digests.items self.old.tallies.items }
@@ -269,7 +269,7 @@ impl Watch {
         Ok(())
     }
 
-    /// An event that may follow has happened.
+    /// Applies an event that is allowed.
     fn see(&mut self, synchronous: bool, event: Event) -> Result<(), AllocError>
         requires allowed { MayFollow synchronous self.old.log self.old.digests.items self.old.tallies.items event }
         requires within { AreWithin (2 ^ 63) self.old.log self.old.digests.items self.old.tallies.items }
@@ -295,8 +295,9 @@ impl Watch {
     }
 }
 
-/// Whether these events record a run of moves that are allowed, from the log's birth on; or the first event that is not
-/// allowed, and why. In time and memory by their number.
+/// Audits a record: decides whether the events record a run of allowed moves from the creation of the log on. Otherwise
+/// the result is the first event that is not allowed, and the reason. Takes time and memory linear in the number of
+/// events.
 #[tactic(auto, using(crate::proofs::Counts::more))]
 pub fn audit_record(
     alloc: Global,
@@ -305,7 +306,8 @@ pub fn audit_record(
 ) -> Result<RecordAnswer, AllocError>
     ensures yes { IfOk result (λ answer. IsTrue (is_yes answer) ↔ IsRecordFrom synchronous nothing events.now) }
     ensures answer { IfOk result (IsAnswer synchronous events.now) }
-    // where it says yes, all that something was told of is in the database, but for what a server lacked that took over
+    // if the result is yes, the database has every log on which an acknowledged text rests, except what a server lacked
+    // that took over later
     ensures told { IfOk result (λ answer. IsTrue (is_yes answer) → HoldsUnlessCut (log_after synchronous nothing events.now)) }
     ensures told_all { IfOk result (λ answer. IsTrue (is_yes answer) → IsTrue synchronous → Holds (log_after synchronous nothing events.now)) }
 {

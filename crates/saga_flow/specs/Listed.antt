@@ -1,11 +1,11 @@
--- Residual arcs turned round, and residual arcs along unbounded arcs.
+-- Reversed residual arcs, and residual arcs along unbounded arcs.
 use Rattle.std.specs.Prelude.{ℕ, ◌≡◌, true, not, List, Some, slice_get}
 use Rattle.saga_flow.specs.declared.nets.Arc.{Arc}
 use Rattle.saga_flow.specs.declared.nets.Cap.TheVariants.{Unbounded}
 use Rattle.saga_flow.specs.declared.residual_arcs.ResidualArc.{ResidualArc}
 use Rattle.saga_flow.specs.Residual.{Leads}
 
--- the residual arc over the same arc the other way
+-- the reverse of a residual arc
 abbrev pub turned : ResidualArc → ResidualArc
 turned s = record { arc = s.arc; forward = not s.forward }
 

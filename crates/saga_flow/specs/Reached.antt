@@ -1,9 +1,9 @@
--- What is reached from a node along a relation, and paths as lists of nodes.
+-- The nodes that a node reaches by a relation, and paths as lists of nodes.
 use Rattle.std.specs.Prelude.{ℕ, ◌≡◌, List, [], ◌∷◌, Some, slice_get}
 use Rattle.saga_flow.specs.declared.nets.Arc.{Arc}
 use Rattle.saga_flow.specs.declared.nets.Cap.TheVariants.{Unbounded}
 
--- a node reaches itself, and all that follows what it reaches
+-- a node reaches itself, and each successor of a node that it reaches
 pub data Reaches (R : ℕ → ℕ → Type 0) (from : ℕ) : ℕ → Type 0 where
   here : Reaches R from from
   next : {mid to : ℕ} → Reaches R from mid → R mid to → Reaches R from to

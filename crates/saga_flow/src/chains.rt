@@ -1,4 +1,4 @@
-//! The path from a node to where a search began.
+//! The path from a node to the start of a search.
 ghost use Rattle.std.specs.Prelude.{IfOk, IsSome};
 ghost use Rattle.saga_flow.specs.Marks.{mark_at};
 ghost use Rattle.saga_flow.specs.Search.{IsTree, IsHomeArc};
@@ -9,7 +9,8 @@ use crate::nets::Arc;
 use crate::residual_arcs::{ResidualArc, tail};
 use std::alloc::{AllocError, Global};
 
-/// The residual arcs from the source to the sink, where a search backward began: each node's own residual arc, turned round.
+/// The residual arcs from the source to the sink, if a backward search started at the sink: the residual arc of each
+/// node's mark, reversed.
 pub fn path_home(alloc: Global, arcs: &[Arc], marks: &Marks) -> Result<Vec<ResidualArc>, AllocError>
     requires tree { IsTree arcs.now 1 marks.now }
     requires marked { IsSome (mark_at marks.now 0) }

@@ -1,4 +1,4 @@
-//! A greatest flow, and the rounds in which it is reached.
+//! A maximum flow, and the number of rounds to it.
 ghost use Rattle.std.specs.Prelude.{◌≡◌, ◌≤◌, ◌*◌, IfOk, OnOk, length};
 ghost use Rattle.saga_flow.specs.Flows.{HasValue, IsFlow, IsGreatest};
 ghost use Rattle.saga_flow.specs.Reached.{HasUnbounded, Reaches};
@@ -13,19 +13,20 @@ use crate::rounds::Progress;
 use crate::searching::search;
 use std::alloc::{AllocError, Global};
 
-/// A flow through a net.
+/// A flow through a network.
 #[derive(Debug, Drop)]
 pub struct Flow {
-    /// The units that leave the source less those that enter it.
+    /// The amount that leaves the source minus the amount that enters it.
     pub value: u64,
-    /// The units on each arc, in the order of the net's arcs.
+    /// The amount on each arc, in the order of the network's arcs.
     pub on: Vec<u64>,
 }
 
-/// A greatest flow: no other flow of the net has a larger value. The sink is not reached in its residual network.
+/// Returns a maximum flow: no other flow of the network has a larger value. The sink is not reached in its residual
+/// network.
 ///
-/// The caller sees to it that no path of unbounded arcs leads from source to sink (`unbounded_path`).
-/// Several flows may be greatest, and which one it is, is left open. An error comes only where memory is refused.
+/// The caller ensures that no path of unbounded arcs leads from source to sink (`unbounded_path`). The contract does
+/// not say which of several maximum flows the result is. The only error is lack of memory.
 pub fn largest(alloc: Global, net: &Net) -> Result<Flow, AllocError>
     requires apart { Reaches (HasUnbounded net.now.arcs) 0 1 → ⊥ }
     ensures flow { IfOk result (λ f. IsFlow net.now.arcs f.on.items) }
@@ -37,12 +38,12 @@ pub fn largest(alloc: Global, net: &Net) -> Result<Flow, AllocError>
     Ok(flow)
 }
 
-/// The flow of `largest`, with the number of rounds in which it was reached from the empty one.
+/// Returns the flow of `largest`, with the number of rounds that lead to it from the empty flow.
 ///
-/// In each round the greatest amount that it carries goes along a path that has the fewest arcs of all from source to
-/// sink in the residual network, so there are at most as many rounds as the flow's value, and at most nodes times
-/// arcs. (The flow is Ford and Fulkerson's, the bound that of Edmonds and Karp, 1972; paths are found in phases as
-/// Dinic found them, 1970.)
+/// Each round augments by the maximum amount along a path with the minimum number of arcs from source to sink in the
+/// residual network. So there are at most as many rounds as the flow's value, and at most nodes times arcs. (The method
+/// is that of Ford and Fulkerson, the bound is that of Edmonds and Karp, 1972. Paths are found in phases, as by Dinic,
+/// 1970.)
 pub fn largest_counted(alloc: Global, net: &Net) -> Result<(Flow, u64), AllocError>
     requires apart { Reaches (HasUnbounded net.now.arcs) 0 1 → ⊥ }
     ensures flow { IfOk result (λ r. IsFlow net.now.arcs r.0.on.items) }

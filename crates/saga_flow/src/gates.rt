@@ -4,7 +4,7 @@ ghost use Rattle.std.specs.Prelude.{◌≡◌, ◌<◌, ℕ, ◌↔◌, IsTrue, 
 use crate::nets::{Arc, Cap};
 use crate::residual_arcs::ResidualArc;
 
-/// What lets some residual arcs pass.
+/// A filter of residual arcs.
 pub trait Gate {
     ghost use Rattle.saga_flow.specs.declared.residual_arcs.ResidualArc.{ResidualArc};
 
@@ -18,7 +18,7 @@ pub trait Gate {
         ensures { IsTrue result ↔ passes self.now residual };
 }
 
-/// The arcs of the residual network: along an arc that has room left, against one that carries something.
+/// The arcs of the residual network: along an arc with residual capacity, or against an arc with a positive amount.
 #[derive(Drop)]
 pub struct Residual<'a> {
     pub arcs: &'a [Arc],
@@ -64,7 +64,7 @@ impl Gate for Endless<'_> {
     }
 }
 
-/// The residual arcs that another gate lets pass the other way.
+/// The residual arcs whose reverse another gate lets pass.
 #[derive(Drop)]
 pub struct Backward<'a, G: Gate> {
     pub gate: &'a G,

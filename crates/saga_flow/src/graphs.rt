@@ -1,4 +1,4 @@
-//! A net's graph as a search goes through it: the residual arcs out of each node, along arcs and back against them.
+//! The graph of a network for a search: the residual arcs out of each node, along arcs and against them.
 ghost use Rattle.std.specs.Prelude.{◌≡◌, ◌+◌, ◌<◌, ◌^◌, IfOk, length, true, false};
 ghost use Rattle.saga_flow.specs.Network.{IsNetwork};
 ghost use Rattle.saga_flow.specs.Adjacency.{IsAdjacencyList};
@@ -7,7 +7,7 @@ use crate::adjacency::{AdjacencyList, list_of};
 use crate::nets::{Arc, Net};
 use std::alloc::{AllocError, Global};
 
-/// The nodes and arcs of a net, with the arcs that leave each node and those that enter it.
+/// The nodes and arcs of a network, with the arcs that leave each node and the arcs that enter it.
 #[derive(Drop)]
 pub struct Graph<'a> {
     pub nodes: usize,
@@ -22,7 +22,7 @@ pub struct Graph<'a> {
     ghost counted: { length degrees.items ≡ nodes },
 }
 
-/// The graph of a net, made once for a call.
+/// Builds the graph of a network.
 pub fn graph_of(alloc: Global, net: &Net) -> Result<Graph<'_>, AllocError>
     ensures nodes { IfOk result (λ g. g.nodes ≡ net.now.nodes) }
     ensures arcs { IfOk result (λ g. g.arcs.now ≡ net.now.arcs) }
@@ -41,7 +41,7 @@ pub fn graph_of(alloc: Global, net: &Net) -> Result<Graph<'_>, AllocError>
     })
 }
 
-/// How many residual arcs leave each node.
+/// The number of residual arcs that leave each node.
 fn degrees_of(
     alloc: Global,
     nodes: usize,
@@ -60,7 +60,7 @@ fn degrees_of(
 }
 
 impl Graph<'_> {
-    /// The residual arcs along arcs, or those back against them, by the node that they leave.
+    /// The residual arcs along arcs, or those against arcs, by their tails.
     #[inline]
     pub fn adjacency(&self, forward: bool) -> &AdjacencyList
         ensures { IsAdjacencyList self.now.nodes self.now.arcs.now forward result.now.starts.items
@@ -69,7 +69,7 @@ impl Graph<'_> {
         if forward { &self.out } else { &self.into }
     }
 
-    /// How many residual arcs leave each node.
+    /// The number of residual arcs that leave each node.
     pub fn degrees(&self) -> &[usize]
         ensures { length result.now ≡ self.now.nodes }
     {

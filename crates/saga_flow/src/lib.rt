@@ -1,8 +1,9 @@
-//! A greatest flow through a net, and what the source reaches in its residual network.
+//! A maximum flow through a network, and the nodes that the source reaches in its residual network.
 //!
-//! A net has a source, node 0, a sink, node 1, and arcs that carry whole units up to a capacity, or without a bound.
-//! Ask `unbounded_path` first: where no path of unbounded arcs leads from source to sink, `largest` gives a flow that
-//! no other exceeds, and `reach` what the source still reaches, which is the source's side of a least cut.
+//! A network has a source, which is node 0, a sink, which is node 1, and arcs that carry whole units up to a capacity,
+//! or without a bound. Call `unbounded_path` first. If no path of unbounded arcs leads from source to sink, `largest`
+//! returns a maximum flow. `reach` returns the nodes that the source still reaches, which are the source's side of a
+//! minimum cut.
 #![tactic(auto)]
 
 mod adjacency;

@@ -1,4 +1,4 @@
-//! The marks of a breadth-first search: how deep it found each node, and by which residual arc.
+//! The marks of a breadth-first search: the depth of each node, and the residual arc by which it was found.
 ghost use Rattle.std.specs.Prelude.{◌≡◌, ◌==◌, ◌<◌, ◌↔◌, ℕ, List, Option, IfOk, IsTrue, None, Some, is_some, length, map, not, replicate, slice_set};
 ghost use Rattle.saga_flow.specs.Marks.{Mark, IsDepth, IsJustAbove, by_of, depth_at, far_in, mark_at, marks_of, no_depth};
 
@@ -6,12 +6,12 @@ use crate::residual_arcs::ResidualArc;
 use std::alloc::{AllocError, Global};
 use std::marker::Model;
 
-/// What stands for the depth of a node that has no mark.
+/// The value for the depth of a node without a mark.
 const NO_DEPTH: u32 = u32::MAX;
 
-/// The mark of each node, in two flat lists, since a search asks at each arc how deep its head is.
+/// The mark of each node, in two flat lists, because a search reads the depth of the head of each arc.
 ///
-/// Where a search began, the depth is 0, and the residual arc says nothing.
+/// At the start of a search the depth is 0, and the residual arc has no meaning.
 #[derive(Drop)]
 pub struct Marks {
     depths: Vec<u32>,
@@ -27,7 +27,7 @@ impl Model for Marks {
 }
 
 impl Marks {
-    /// No node is marked yet.
+    /// The marks of a search that has marked no node.
     pub fn none(alloc: Global, nodes: usize) -> Result<Marks, AllocError>
         ensures { IfOk result (λ marks. marks ≡ replicate nodes None) }
     {
@@ -41,7 +41,7 @@ impl Marks {
         })
     }
 
-    /// Marks the node where a search begins.
+    /// Marks the start node of a search.
     pub fn begin(&mut self, node: usize)
         requires { node < length self.old }
         ensures { self.new ≡ slice_set self.old node (Some (record { depth = 0; by = None })) }
@@ -49,7 +49,7 @@ impl Marks {
         self.depths[node] = 0;
     }
 
-    /// Marks a node, at this depth, as found by a residual arc.
+    /// Marks a node with this depth and the residual arc by which it was found.
     pub fn set(&mut self, node: usize, depth: u32, by: ResidualArc)
         requires node { node < length self.old }
         requires below { 0 < depth }
@@ -61,7 +61,7 @@ impl Marks {
         self.by[node] = by;
     }
 
-    /// The depth that stands for a node's mark.
+    /// The stored depth of a node.
     #[inline]
     fn read(&self, node: usize) -> u32
         requires { node < length self.now }
@@ -79,7 +79,7 @@ impl Marks {
         self.read(node) != NO_DEPTH
     }
 
-    /// How deep a node stands; 0 where it has no mark.
+    /// The depth of a node. It is 0 if the node has no mark.
     pub fn depth(&self, node: usize) -> u32
         requires { node < length self.now }
         ensures { result ≡ depth_at self.now node }
@@ -88,7 +88,7 @@ impl Marks {
         if depth == NO_DEPTH { 0 } else { depth }
     }
 
-    /// The last residual arc by which a search came to a node; none where it began.
+    /// The residual arc by which a search reached a node. It is `None` for the start node.
     pub fn by(&self, node: usize) -> Option<ResidualArc>
         requires { node < length self.now }
         ensures { result ≡ by_of (mark_at self.now node) }
@@ -101,7 +101,7 @@ impl Marks {
         }
     }
 
-    /// How far a node is from where the search began; the number of nodes where it has no mark.
+    /// The distance of a node from the start of the search. It is the number of nodes if the node has no mark.
     pub fn far(&self, node: usize) -> usize
         requires { node < length self.now }
         ensures { result ≡ far_in self.now node }
@@ -121,7 +121,7 @@ impl Marks {
         are_marks(alloc, self.depths.as_slice())
     }
 
-    /// Whether a node has a mark one less deep than this.
+    /// Whether a node has a mark with a distance one less than `far`.
     #[inline]
     pub fn is_nearer(&self, node: usize, far: usize) -> bool
         requires { node < length self.now }
@@ -132,7 +132,7 @@ impl Marks {
     }
 }
 
-/// Which depths are those of marks.
+/// Which depths are depths of marks.
 fn are_marks(alloc: Global, depths: &[u32]) -> Result<Vec<bool>, AllocError>
     ensures { IfOk result (λ r. r.items ≡ map (λ d. not (d == no_depth)) depths.now) }
 {

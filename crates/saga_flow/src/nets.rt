@@ -1,33 +1,33 @@
-//! Nets: nodes, arcs and what the arcs can carry.
+//! Networks: nodes, arcs and capacities.
 ghost use Rattle.std.specs.Prelude.{◌≡◌, ◌^◌, ◌<◌, ◌↔◌, IsTrue};
 ghost use Rattle.saga_flow.specs.Network.{bound_sum, ends_within};
 
 use std::marker::Model;
 
-/// How much an arc carries at most: a whole number of units, or any amount.
+/// The capacity of an arc: a whole number of units, or unbounded.
 #[derive(Clone, Copy, Debug, PartialEq, Eq)]
 pub enum Cap {
-    /// At most so many units.
+    /// At most this number of units.
     Of(u64),
     /// Any number of units.
     Unbounded,
 }
 
-/// An arc leads from one node to another, and carries units that way up to its capacity.
+/// An arc leads from one node to another, and carries units in this direction up to its capacity.
 ///
-/// Nodes are numbers from 0. Node 0 is the source, node 1 the sink. An arc may lead back to where it
-/// begins, and several arcs may join the same two nodes.
+/// Nodes are numbers from 0. Node 0 is the source, node 1 the sink. An arc may be a loop, and several arcs may join the
+/// same two nodes.
 #[derive(Clone, Copy, Debug, PartialEq, Eq)]
 pub struct Arc {
-    /// The node where it begins.
+    /// The tail of the arc.
     pub from: u32,
-    /// The node to which it leads.
+    /// The head of the arc.
     pub to: u32,
-    /// How much it carries at most.
+    /// The capacity of the arc.
     pub cap: Cap,
 }
 
-/// A net of at least two nodes, whose arcs join its nodes and keep the order in which they came.
+/// A network of at least two nodes. Its arcs join its nodes and keep their order.
 #[derive(Debug, Drop)]
 pub struct Net {
     nodes: u32,
@@ -47,10 +47,10 @@ impl Model for Net {
 impl Net {
     ghost use Rattle.saga_flow.specs.Network.{IsNetwork, bound_sum, ends_within};
 
-    /// The net with `nodes` nodes, numbered from 0, and these arcs in their order.
+    /// The network with `nodes` nodes, numbered from 0, and these arcs in order.
     ///
-    /// The caller sees to it that there are a source and a sink, that each arc joins two nodes, and
-    /// that the capacities that are numbers add up to less than 2^63. It takes no memory.
+    /// The caller ensures that there are a source and a sink, that each arc joins two nodes, and that the sum of the
+    /// bounded capacities is less than 2^63. Takes no memory.
     pub fn new(nodes: u32, arcs: Vec<Arc>) -> Self
         requires two { 1 < nodes }
         requires ends { IsTrue (ends_within nodes arcs.items) }
@@ -60,14 +60,14 @@ impl Net {
         Net { nodes, arcs }
     }
 
-    /// Whether `new` may be called with this many nodes and these arcs.
+    /// Whether `new` may be called with this number of nodes and these arcs.
     pub fn accepts(nodes: u32, arcs: &[Arc]) -> bool
         ensures { IsTrue result ↔ IsNetwork (record { nodes = nodes; arcs = arcs.now }) }
     {
         1 < nodes && all_join(nodes, arcs) && has_small_sum(arcs)
     }
 
-    /// How many nodes the net has.
+    /// The number of nodes of the network.
     pub fn nodes(&self) -> u32
         ensures value { result ≡ self.now.nodes }
         ensures sound { IsNetwork self.now }
@@ -75,7 +75,7 @@ impl Net {
         self.nodes
     }
 
-    /// The arcs, in the order in which they were given.
+    /// The arcs, in the order of the input.
     pub fn arcs(&self) -> &[Arc]
         ensures value { result.now ≡ self.now.arcs }
         ensures sound { IsNetwork self.now }
@@ -91,7 +91,7 @@ fn all_join(nodes: u32, arcs: &[Arc]) -> bool
     arcs.iter().all(|arc| arc.from < nodes && arc.to < nodes)
 }
 
-/// Whether the capacities that are numbers add up to less than 2^63.
+/// Whether the sum of the bounded capacities is less than 2^63.
 fn has_small_sum(arcs: &[Arc]) -> bool
     ensures { IsTrue result ↔ (bound_sum arcs.now < 2 ^ 63) }
 {

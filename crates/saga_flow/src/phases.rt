@@ -1,5 +1,5 @@
-//! Phases: how far each node is from the sink, by one search, and a blocking flow: all paths that are found to lead nearer
-//! with each residual arc, depth first with a current arc at each node.
+//! Phases: a search computes the distance of each node to the sink, and a depth-first search with a current arc at each
+//! node finds a blocking flow: all paths in which each residual arc decreases the distance.
 ghost use Rattle.std.specs.Prelude.{◌≡◌, ◌<◌, ◌≤◌, ◌+◌, ◌^◌, ℕ, All, IfOk, IfSome, IsSome, IsTrue, OnOk, Some, length, vec_len};
 ghost use Rattle.saga_flow.specs.Listed.{turned};
 ghost use Rattle.saga_flow.specs.Reached.{HasUnbounded, Reaches};
@@ -18,11 +18,11 @@ use crate::residual_arcs::{ResidualArc, tail};
 use crate::rounds::{Progress, augment};
 use std::alloc::{AllocError, Global};
 
-/// Sends along the path of a search backward from the sink to the source, and then along each further path that leads
-/// nearer with each residual arc, the greatest amount that it carries.
+/// Augments by the maximum amount along the path of a backward search from the sink to the source. Then it does the
+/// same along each further path in which each residual arc decreases the distance.
 ///
-/// Each of these paths has the fewest arcs of all at its moment, so each is a round; together they are a blocking flow
-/// (Dinic's phases).
+/// Each of these paths has the minimum number of arcs at that time, so each augmentation is a round. Together they are
+/// a blocking flow (Dinic's phases).
 pub fn run_phase(
     alloc: Global,
     graph: &Graph,
@@ -50,10 +50,10 @@ pub fn run_phase(
     Ok(())
 }
 
-/// Looks for a path of open residual arcs from source to sink that leads one nearer with each.
+/// Searches for a path of open residual arcs from source to sink in which each arc decreases the distance by one.
 ///
-/// `left` has for each node how many of its residual arcs are still to be tried, and `path` is written over.
-/// (Dinic's search with a current arc at each node.)
+/// `left` has the number of untried residual arcs of each node. `path` is overwritten. (Dinic's search with a current
+/// arc at each node.)
 fn next_path(
     graph: &Graph,
     on: &[u64],
@@ -90,7 +90,7 @@ fn next_path(
     Ok(true)
 }
 
-/// A residual arc that leads nearer, with the node to which it leads, and how many out of its tail are left to be tried.
+/// A residual arc that decreases the distance, with its head and the number of untried residual arcs out of its tail.
 #[derive(Clone, Copy)]
 pub struct Nearer {
     pub left: usize,
@@ -98,7 +98,8 @@ pub struct Nearer {
     pub to: usize,
 }
 
-/// The first of the last `left` residual arcs out of a node that is open and leads one nearer: first along arcs, then back.
+/// The first of the last `left` residual arcs out of a node that is open and decreases the distance by one. Arcs come
+/// first, then reversed arcs.
 fn arc_nearer(graph: &Graph, on: &[u64], marks: &Marks, node: usize, left: usize) -> Option<Nearer>
     requires sized { length on.now ≡ length graph.now.arcs.now }
     requires marks { length marks.now ≡ graph.now.nodes }
@@ -121,7 +122,8 @@ fn arc_nearer(graph: &Graph, on: &[u64], marks: &Marks, node: usize, left: usize
     arc_over(graph, on, marks, node, left.min(back), false)
 }
 
-/// The first of the last `left` residual arcs out of a node, along arcs or back, that is open and leads one nearer.
+/// The first of the last `left` residual arcs out of a node, along arcs or against them, that is open and decreases the
+/// distance by one.
 #[inline]
 fn arc_over(
     graph: &Graph,
@@ -166,7 +168,7 @@ fn arc_over(
     None
 }
 
-/// After an augmentation the arcs of its path are tried again.
+/// After an augmentation, the arcs of its path become untried again.
 fn put_back(graph: &Graph, path: &[ResidualArc], left: &mut [usize])
     requires left { length left.old ≡ graph.now.nodes }
     requires steps { All (λ s. s.arc < length graph.now.arcs.now) path.now }

@@ -1,4 +1,4 @@
-//! The greatest amount that a path carries, and what is left when it has gone over the path.
+//! The bottleneck of a path, and the amounts after an augmentation.
 ghost use Rattle.std.specs.Prelude.{◌≡◌, ◌<◌, ◌≤◌, ◌+◌, ◌^◌, ℕ, All, length, slice_index};
 ghost use Rattle.saga_flow.specs.Residual.{Carries, HasRoom};
 ghost use Rattle.saga_flow.specs.Rounds.{pushed, shifted};
@@ -7,10 +7,10 @@ ghost use Rattle.saga_flow.specs.Pushes.{CanShift, IsPush, NoArcTwice};
 use crate::nets::{Arc, Cap};
 use crate::residual_arcs::ResidualArc;
 
-/// More than any bounded residual arc carries.
+/// More than the residual capacity of any bounded arc.
 const ENDLESS: u64 = 1 << 63;
 
-/// Sends along a path the greatest amount that it carries, and answers it.
+/// Augments along a path by the maximum amount that it carries, and returns this amount.
 ///
 /// (Ford and Fulkerson's augmentation.)
 pub fn push_most(arcs: &[Arc], path: &[ResidualArc], on: &mut [u64]) -> u64
@@ -26,7 +26,7 @@ pub fn push_most(arcs: &[Arc], path: &[ResidualArc], on: &mut [u64]) -> u64
     more
 }
 
-/// The greatest amount that a path carries, where that is below 2^63.
+/// The maximum amount that a path carries, which is below 2^63.
 fn most_along(arcs: &[Arc], path: &[ResidualArc], on: &[u64]) -> u64
     requires sized { length on.now ≡ length arcs.now }
     requires carries { All (Carries arcs.now on.now 1) path.now }
@@ -41,7 +41,7 @@ fn most_along(arcs: &[Arc], path: &[ResidualArc], on: &[u64]) -> u64
     least
 }
 
-/// How much a residual arc carries: 2^63 stands for any amount.
+/// The residual capacity of a residual arc. The value 2^63 means unbounded.
 fn room(arcs: &[Arc], residual: ResidualArc, on: &[u64]) -> u64
     requires sized { length on.now ≡ length arcs.now }
     requires carries { Carries arcs.now on.now 1 residual }
@@ -60,7 +60,7 @@ fn room(arcs: &[Arc], residual: ResidualArc, on: &[u64]) -> u64
     }
 }
 
-/// Sends an amount over each residual arc of a path.
+/// Sends an amount along each residual arc of a path.
 pub fn push(path: &[ResidualArc], on: &mut [u64], more: u64)
     requires once { NoArcTwice path.now }
     requires fits { All (CanShift on.old more) path.now }
@@ -71,7 +71,7 @@ pub fn push(path: &[ResidualArc], on: &mut [u64], more: u64)
     }
 }
 
-/// Sends an amount over one residual arc.
+/// Sends an amount along one residual arc.
 fn shift(on: &mut [u64], residual: ResidualArc, more: u64)
     requires { CanShift on.old more residual }
     ensures { on.new ≡ shifted on.old residual more }

@@ -1,4 +1,4 @@
-//! What the source reaches: in the residual network of a flow, and along unbounded arcs.
+//! The nodes that the source reaches: in the residual network of a flow, and along unbounded arcs.
 ghost use Rattle.std.specs.Prelude.{◌≡◌, ◌<◌, ◌↔◌, ℕ, ◌∷◌, List, IfOk, IfNone, IfSome, IsTrue, length, slice_index_or, false};
 ghost use Rattle.saga_flow.specs.Reached.{HasUnbounded, IsPath, Reaches};
 ghost use Rattle.saga_flow.specs.Residual.{IsResidual};
@@ -14,10 +14,10 @@ use crate::residual_arcs::ResidualArc;
 use crate::searching::search;
 use std::alloc::{AllocError, Global};
 
-/// For each node, whether the source reaches it in the residual network of a flow: along an arc that has room left, and
-/// back against an arc that carries something.
+/// For each node, whether the source reaches it in the residual network of a flow: along arcs with residual capacity,
+/// and against arcs with a positive amount.
 ///
-/// The caller hands in one amount per arc. An error comes only where memory is refused.
+/// The caller passes one amount for each arc. The only error is lack of memory.
 pub fn reach(alloc: Global, net: &Net, flow: &Flow) -> Result<Vec<bool>, AllocError>
     requires sized { length flow.now.on.items ≡ length net.now.arcs }
     ensures sized { IfOk result (λ r. length r.items ≡ net.now.nodes) }
@@ -35,10 +35,10 @@ pub fn reach(alloc: Global, net: &Net, flow: &Flow) -> Result<Vec<bool>, AllocEr
     marks.all(alloc)
 }
 
-/// The nodes of a path of unbounded arcs from the source, which comes first, to the sink, which comes last; none where
-/// there is no such path.
+/// The nodes of a path of unbounded arcs from the source, which comes first, to the sink, which comes last. Returns
+/// `None` if there is no such path.
 ///
-/// An error comes only where memory is refused.
+/// The only error is lack of memory.
 pub fn unbounded_path(alloc: Global, net: &Net) -> Result<Option<Vec<u32>>, AllocError>
     ensures some { IfOk result
         (λ found. IfSome found
@@ -57,7 +57,7 @@ pub fn unbounded_path(alloc: Global, net: &Net) -> Result<Option<Vec<u32>>, Allo
     Ok(Some(nodes_of(alloc, graph.arcs, path.as_slice())?))
 }
 
-/// The source, and where each residual arc leads.
+/// The source, and the head of each residual arc.
 fn nodes_of(alloc: Global, arcs: &[Arc], path: &[ResidualArc]) -> Result<Vec<u32>, AllocError>
     requires { IsTrail (LeadsEndless arcs.now) 0 path.now 1 }
     ensures first { IfOk result (λ nodes. (rest : List ℕ) × (nodes.items ≡ 0 ∷ rest)) }

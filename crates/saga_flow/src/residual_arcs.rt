@@ -1,11 +1,11 @@
-//! Steps: an arc taken along, or back against it.
+//! Residual arcs: an arc, taken along it or against it.
 ghost use Rattle.std.specs.Prelude.{◌≡◌, ◌<◌, ℕ, length};
 ghost use Rattle.saga_flow.specs.Residual.{Leads};
 ghost use Rattle.saga_flow.specs.Listed.{turned};
 
 use crate::nets::Arc;
 
-/// An arc of the residual network: over the net's arc with this number, along it or back against it.
+/// An arc of the residual network: the network's arc with this number, along it or against it.
 #[derive(Clone, Copy, Debug, PartialEq, Eq)]
 pub struct ResidualArc {
     pub arc: usize,
@@ -13,7 +13,7 @@ pub struct ResidualArc {
 }
 
 impl ResidualArc {
-    /// The residual arc over the same arc the other way.
+    /// The reverse of the residual arc.
     pub fn turned(self) -> Self
         ensures { result ≡ turned self }
     {
@@ -24,7 +24,7 @@ impl ResidualArc {
     }
 }
 
-/// The node that a residual arc leaves.
+/// The tail of a residual arc.
 pub fn tail(arcs: &[Arc], residual: ResidualArc) -> usize
     requires { residual.arc < length arcs.now }
     ensures { (to : ℕ) × Leads arcs.now residual result to }

@@ -1,4 +1,4 @@
-//! Rounds: an amount goes along a path, and the flow's value and the count of rounds follow.
+//! Rounds: an augmentation along a path, with the update of the flow's value and of the number of rounds.
 ghost use Rattle.std.specs.Prelude.{◌≡◌, ◌<◌, ◌≤◌, ◌+◌, ◌^◌, ℕ, All, length, slice_index};
 ghost use Rattle.saga_flow.specs.Residual.{Carries};
 ghost use Rattle.saga_flow.specs.Pushes.{NoArcTwice};
@@ -8,7 +8,7 @@ use crate::nets::Arc;
 use crate::pushes::push_most;
 use crate::residual_arcs::ResidualArc;
 
-/// The amounts so far, one for each arc, their value, and the rounds in which they were reached.
+/// The current amounts, one for each arc, their value, and the number of rounds that lead to them.
 #[derive(Drop)]
 pub struct Progress {
     pub on: Vec<u64>,
@@ -16,7 +16,7 @@ pub struct Progress {
     pub rounds: u64,
 }
 
-/// One round: the greatest amount that a path carries goes along it.
+/// One round: augments along a path by the maximum amount that it carries.
 pub fn augment(arcs: &[Arc], path: &[ResidualArc], progress: &mut Progress)
     requires sized { length progress.old.on.items ≡ length arcs.now }
     requires carries { All (Carries arcs.now progress.old.on.items 1) path.now }

@@ -1,4 +1,5 @@
-//! A breadth-first search: which nodes are reached over the residual arcs that a gate lets pass, over how few, and by which last.
+//! A breadth-first search: which nodes are reached over the residual arcs that a gate lets pass, the minimum number of
+//! these arcs, and the last arc.
 ghost use Rattle.std.specs.Prelude.{◌≡◌, ◌<◌, ◌≤◌, ◌+◌, ℕ, IfOk, IfSome, OnOk, Some, length, false, true};
 ghost use Rattle.saga_flow.specs.Residual.{Leads};
 ghost use Rattle.saga_flow.specs.Marks.{no_depth};
@@ -10,14 +11,14 @@ use crate::marks::Marks;
 use crate::residual_arcs::ResidualArc;
 use std::alloc::{AllocError, Global};
 
-/// What a search has found: the marks of the nodes, and the marked nodes in the order in which they were found.
+/// The result of a search: the marks of the nodes, and the marked nodes in the order of discovery.
 #[derive(Drop)]
 pub struct Found {
     pub marks: Marks,
     pub order: Vec<usize>,
 }
 
-/// The node at hand, where it stands in the order, and how deep the nodes are that are found from it.
+/// The current node, its index in the order, and the depth of the nodes that are found from it.
 #[derive(Clone, Copy)]
 pub struct Place {
     pub start: usize,
@@ -26,7 +27,7 @@ pub struct Place {
     pub depth: u32,
 }
 
-/// Searches from `start`, level by level, until all that is reached has a mark, or until `goal` has one.
+/// Searches from `start`, level by level, until all reached nodes have a mark, or until `goal` has one.
 pub fn search<G: Gate>(
     alloc: Global,
     graph: &Graph,
@@ -79,7 +80,7 @@ fn add_mark(found: &mut Found, node: usize, depth: u32, by: ResidualArc) -> Resu
     Ok(())
 }
 
-/// Marks what the residual arcs from a node lead to.
+/// Marks the nodes to which the residual arcs from a node lead.
 fn visit<G: Gate>(
     graph: &Graph,
     gate: &G,
@@ -107,7 +108,7 @@ fn visit<G: Gate>(
     Ok(())
 }
 
-/// Marks what the residual arcs from a node lead to along arcs, or back against them.
+/// Marks the nodes to which the residual arcs from a node lead along arcs, or against them.
 #[inline]
 fn visit_arcs<G: Gate>(
     graph: &Graph,

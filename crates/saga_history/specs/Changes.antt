@@ -1,4 +1,4 @@
--- What an event says: which saga it names, and what changes there.
+-- The saga of an event, and the change of this saga.
 use Rattle.std.specs.Prelude.{ℕ, ◌==◌, List, [], ◌∷◌, reverse, if◌then◌else◌}
 use Rattle.saga_case.specs.declared.answers.Answer.{Answer}
 use Rattle.saga_history.specs.declared.transitions.Transition.{Transition}
@@ -8,7 +8,8 @@ use Rattle.saga_history.specs.declared.events.Event.TheVariants as event
 use Rattle.saga_history.specs.declared.events.Mark.{Mark}
 use Rattle.saga_history.specs.declared.events.Mark.TheVariants as mark
 
--- what changes in a saga: it is opened, a step makes a transition, a plan is begun, dropped or adopted, or it is aborted
+-- the change of a saga: it is opened, a step makes a transition, a plan is started, dropped or adopted, or it is
+-- aborted
 pub data Change : Type 0 where
   opens : (definition : ℕ) → Change
   moves : (step : ℕ) → Transition → Change
@@ -47,7 +48,7 @@ change_of (event.Missed i s) = moves s transition.Missed
 change_of (event.UndoMissed i s) = moves s transition.UndoMissed
 change_of (event.Abort i) = aborts
 
--- the event of a step of a saga with that transition
+-- the event of this transition of a step
 abbrev pub step_event : ℕ → ℕ → Transition → Event
 step_event i s transition.StartRun = event.StartRun i s
 step_event i s transition.Commit = event.Commit i s
@@ -58,16 +59,16 @@ step_event i s transition.Undone = event.Undone i s
 step_event i s transition.UndoMissed = event.UndoMissed i s
 step_event i s transition.UndoFail = event.UndoFail i s
 
--- a history as the rules see it: looked back on from its end, the last event first
+-- a history as the rules see it: in reverse order, with the last event first
 abbrev pub past : List Event → List Event
 past events = reverse events
 
--- the changes of one saga, the last first
+-- the changes of one saga, last first
 abbrev pub changes : ℕ → List Event → List Change
 changes i [] = []
 changes i (e ∷ h) = if i == saga_of e then change_of e ∷ changes i h else changes i h
 
--- the mark of an event is the event, of an adoption the saga alone
+-- the mark of an event: the event without the answer of an adoption
 abbrev pub mark_of : Event → Mark
 mark_of (event.Open i k) = mark.Open i k
 mark_of (event.StartRun i s) = mark.StartRun i s

@@ -1,4 +1,4 @@
--- What holds of phases, and what the headline says, part by part.
+-- A law of phases, and the parts of the main theorem.
 use Rattle.std.specs.Prelude.{◌≡◌, ◌≢◌, ℕ, ◌<◌, true, false, List, Some, length, slice_get, take}
 use Rattle.saga_def.specs.Contents.{Contents}
 use Rattle.saga_def.specs.Order.{Precedes, Steps, IsClosed}
@@ -16,7 +16,7 @@ use Rattle.saga_history.specs.Rules.{definition, HasPhase, IsEnded}
 use Rattle.saga_history.specs.States.{state, times}
 use Rattle.saga_history.specs.Turns.{goal, present_case}
 
--- a saga stands in at most one phase
+-- a saga has at most one phase
 abbrev pub HasOnePhase : Contents → List Change → Type 0
 HasOnePhase d l = (p q : Phase) → HasPhase d l p → HasPhase d l q → p ≡ q
 
@@ -43,15 +43,16 @@ OthersAreUndone shelf h =
     → (s : ℕ) → s < length d.steps → goal (changes i h) s ≡ false → 0 < times transition.Commit (changes i h) s
     → (times transition.Commit (changes i h) s ≡ 1) × (times transition.Undone (changes i h) s ≡ 1)
 
--- of a step that was compensated, each committed step that it precedes was compensated before its compensation last began
+-- if a step was compensated, each committed step that it precedes was compensated before the last start of its
+-- compensation
 abbrev pub UndoneInOrder : List Contents → List Event → Type 0
 UndoneInOrder shelf h =
     (i : ℕ) (d : Contents) → Runs shelf h i d → (p q : ℕ) → Precedes d.needs p q
     → 0 < times transition.Undone (changes i h) p → 0 < times transition.Commit (changes i h) q
     → 0 < times transition.Undone (before_last (starts_undo_of p) (changes i h)) q
 
--- an adopted answer is right for the case that its saga was in just before, and settles it; no set that was allowed there
--- holds a failed or an undone step
+-- an adopted answer is right for the case of its saga before the adoption; no set that was allowed there has a failed
+-- or an undone step
 abbrev pub AdoptionsSettle : List Contents → List Event → Type 0
 AdoptionsSettle shelf events =
     (place i : ℕ) (a : Answer) (d : Contents) → slice_get events place ≡ Some (event.Adopt i a)

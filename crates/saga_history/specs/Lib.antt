@@ -1,4 +1,4 @@
--- Histories, their rules, and what is promised of them.
+-- Histories, their rules, and their properties.
 pub mod Changes
 pub mod States
 pub mod Turns

@@ -1,4 +1,4 @@
--- A compensation that fails for good does not by itself make a saga stuck.
+-- A compensation that fails permanently does not by itself make a saga stuck.
 use Rattle.std.specs.Prelude.{◌≡◌, ◌≢◌, ℕ, Bool, true, false, not, ◌&&◌, List, [], ◌∷◌, Some, All}
 use Rattle.saga_def.specs.declared.steps.Price.TheVariants.{Never}
 use Rattle.saga_def.specs.declared.steps.Step.{Step}
@@ -18,7 +18,7 @@ abbrev pub is_plan : Answer → Bool
 is_plan (answer.Plan plan) = true
 is_plan (answer.Blocked chain) = false
 
--- the answer adopted last is a plan, and since then no step failed and the saga was not aborted
+-- the last adopted answer is a plan, and since then no step failed and the saga was not aborted
 abbrev pub plan_in_force : List Change → Bool
 plan_in_force [] = false
 plan_in_force (moves s t ∷ l) = not (same_transition transition.Fail t) && plan_in_force l
@@ -26,7 +26,7 @@ plan_in_force (adopts a ∷ l) = is_plan a
 plan_in_force (aborts ∷ l) = false
 plan_in_force (_ ∷ l) = plan_in_force l
 
--- no step of the definition has the keep price never
+-- no step of the definition has the cost never for keep
 abbrev pub NoKeepIsNever : Contents → Type 0
 NoKeepIsNever d = All (λ (step : Step). step.keep ≢ Never) d.steps
 
@@ -34,7 +34,7 @@ NoKeepIsNever d = All (λ (step : Step). step.keep ≢ Never) d.steps
 abbrev pub SomeSetIsAllowed : Contents → List Change → Type 0
 SomeSetIsAllowed d l = (set : Steps) × case.IsAllowed (case.terms_of (present_case d l)) set
 
--- in each saga of such a definition: where a plan is in force and planning may begin, some set is allowed
+-- in each saga of such a definition: if a plan is in force and planning may start, some set is allowed
 abbrev pub PlansLeaveAWay : List Contents → List Event → Type 0
 PlansLeaveAWay shelf h =
     (i : ℕ) (d : Contents) → definition shelf (changes i h) ≡ Some d → NoKeepIsNever d

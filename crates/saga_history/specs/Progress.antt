@@ -1,4 +1,4 @@
--- Where a saga stands in which nothing may begin.
+-- The state of a saga in which no task may start.
 use Rattle.std.specs.Prelude.{◌≡◌, ℕ, ◌<◌, true, Some, List, length, ◌⊎◌}
 use Rattle.saga_def.specs.Contents.{Contents}
 use Rattle.saga_history.specs.declared.events.Event.{Event}
@@ -18,11 +18,11 @@ HasNoTask shelf h i = (t : Task) → saga_of (event_of_task t) ≡ i → TaskIsA
 abbrev pub HasBusyStep : Contents → List Change → Type 0
 HasBusyStep d l = (s : ℕ) × (s < length d.steps) × (is_busy (state l s) ≡ true)
 
--- the saga is ended, stuck or being planned, or one of its steps is busy
+-- the saga is ended, stuck or planning, or one of its steps is busy
 abbrev pub IsEndedOrWaits : Contents → List Change → Type 0
 IsEndedOrWaits d l = IsEnded d l ⊎ ((turn l ≡ Stuck) ⊎ ((turn l ≡ Planning) ⊎ HasBusyStep d l))
 
--- so stands each saga of a history in which no task is allowed
+-- this holds for each saga of a history in which no task is allowed
 abbrev pub AllEndedOrWait : List Contents → List Event → Type 0
 AllEndedOrWait shelf h =
     (i : ℕ) (d : Contents) → definition shelf (changes i h) ≡ Some d → HasNoTask shelf h i

@@ -16,7 +16,7 @@ use Rattle.saga_history.specs.Changes.{Change, opens, moves, starts_plan, drops_
 use Rattle.saga_history.specs.States.{state_before, state, states, times, is_standing, is_off}
 use Rattle.saga_history.specs.Turns.{turn, goal, aborted, opened_with, present_case}
 
--- how often a step, and its compensation, is tried; 0 where there is no such step
+-- the number of tries of a step and of its compensation; 0 if there is no such step
 abbrev pub tries_in : Option Step → ℕ
 tries_in None = 0
 tries_in (Some step) = step.tries
@@ -31,14 +31,14 @@ tries d s = tries_in (slice_get d.steps s)
 abbrev pub undo_tries : Contents → ℕ → ℕ
 undo_tries d s = undo_tries_in (slice_get d.steps s)
 
--- how often a step, and its compensation, was missed
+-- the number of misses of a step and of its compensation
 abbrev pub misses_of : List Change → ℕ → ℕ
 misses_of l s = times transition.Missed l s
 
 abbrev pub undo_misses_of : List Change → ℕ → ℕ
 undo_misses_of l s = times transition.UndoMissed l s
 
--- all that the step needs stands
+-- all steps that the step needs are in effect
 abbrev pub NeedsStand : Contents → List Change → ℕ → Type 0
 NeedsStand d l s = (a : ℕ) → NeedsDirectly d.needs s a → IsTrue (is_standing (state l a))
 
@@ -46,7 +46,7 @@ NeedsStand d l s = (a : ℕ) → NeedsDirectly d.needs s a → IsTrue (is_standi
 abbrev pub DependantsAreOff : Contents → List Change → ℕ → Type 0
 DependantsAreOff d l s = (b : ℕ) → NeedsDirectly d.needs b s → IsTrue (is_off (state l b))
 
--- what a transition asks for besides the state that it begins in
+-- the condition of a transition in addition to the state in which it starts
 abbrev pub MeetsCondition : Contents → List Change → ℕ → Transition → Type 0
 MeetsCondition d l s transition.StartRun = (turn l ≡ Going) × IsTrue (goal l s) × NeedsStand d l s
 MeetsCondition d l s transition.Commit = Unit {0}
@@ -63,13 +63,13 @@ pub record StepMay (d : Contents) (l : List Change) (s : ℕ) (t : Transition) :
   pub begins : state l s ≡ state_before t
   pub condition : MeetsCondition d l s t
 
--- a saga is ended: it is going, each step of the goal stands, and each other step is waiting, failed or undone
+-- a saga is ended: it is going, each step of the goal is in effect, and each other step is waiting, failed or undone
 pub record IsEnded (d : Contents) (l : List Change) : Type 0 where
   pub going : turn l ≡ Going
   pub stand : (s : ℕ) → s < length d.steps → goal l s ≡ true → IsTrue (is_standing (state l s))
   pub off : (s : ℕ) → s < length d.steps → goal l s ≡ false → IsTrue (is_off (state l s))
 
--- where a saga stands
+-- the phase of a saga
 abbrev pub HasPhase : Contents → List Change → Phase → Type 0
 HasPhase d l phase.Going = (turn l ≡ Going) × (IsEnded d l → ⊥)
 HasPhase d l phase.Draining = turn l ≡ Draining
@@ -77,7 +77,7 @@ HasPhase d l phase.Planning = turn l ≡ Planning
 HasPhase d l phase.Ended = IsEnded d l
 HasPhase d l phase.Stuck = turn l ≡ Stuck
 
--- what may change next in an opened saga of that definition
+-- the changes that are allowed next in an opened saga with this definition
 abbrev pub SagaMay : Contents → List Change → Change → Type 0
 SagaMay d l (opens k) = ⊥
 SagaMay d l (moves s t) = StepMay d l s t
@@ -94,7 +94,7 @@ definition_at shelf (Some k) = slice_get shelf k
 abbrev pub definition : List Contents → List Change → Option Contents
 definition shelf l = definition_at shelf (opened_with l)
 
--- a saga is opened once and with a definition on the shelf; all else is by its definition
+-- a saga is opened once and with a definition on the shelf; its definition decides about every other change
 abbrev pub IsAllowedChange : List Contents → List Change → Change → Type 0
 IsAllowedChange shelf l (opens k) = (opened_with l ≡ None) × (k < length shelf)
 IsAllowedChange shelf l (moves s t) = IsSomeAnd (definition shelf l) (λ d. SagaMay d l (moves s t))
@@ -103,20 +103,20 @@ IsAllowedChange shelf l drops_plan = IsSomeAnd (definition shelf l) (λ d. SagaM
 IsAllowedChange shelf l (adopts a) = IsSomeAnd (definition shelf l) (λ d. SagaMay d l (adopts a))
 IsAllowedChange shelf l aborts = IsSomeAnd (definition shelf l) (λ d. SagaMay d l aborts)
 
--- an event is allowed where its change is allowed after the changes of its saga
+-- an event is allowed if its change is allowed after the changes of its saga
 abbrev pub IsAllowed : List Contents → List Event → Event → Type 0
 IsAllowed shelf h e = IsAllowedChange shelf (changes (saga_of e) h) (change_of e)
 
--- of each event, with those before it
+-- the property holds for each event, together with the events before it
 abbrev pub EachEvent : (List Event → Event → Type 0) → List Event → Type 0
 EachEvent P [] = Unit {0}
 EachEvent P (e ∷ h) = P h e × EachEvent P h
 
--- each event is allowed after those before it
+-- each event is allowed after the events before it
 abbrev pub IsLegal : List Contents → List Event → Type 0
 IsLegal shelf h = EachEvent (IsAllowed shelf) h
 
--- of one saga alone: each change is allowed after those before it
+-- the same for one saga: each change is allowed after the changes before it
 abbrev pub IsLegalSaga : List Contents → List Change → Type 0
 IsLegalSaga shelf [] = Unit {0}
 IsLegalSaga shelf (c ∷ l) = IsAllowedChange shelf l c × IsLegalSaga shelf l

@@ -1,4 +1,4 @@
--- The states of the steps of a saga, by what happened to them, the last first.
+-- The states of the steps of a saga, by its changes, last first.
 use Rattle.std.specs.Prelude.{ℕ, Bool, true, false, ◌==◌, List, [], ◌∷◌, map, length, count_by, if◌then◌else◌}
 use Rattle.std.specs.List.{range_with_len}
 use Rattle.saga_def.specs.Contents.{Contents}
@@ -8,7 +8,7 @@ use Rattle.saga_history.specs.declared.transitions.Transition.{Transition}
 use Rattle.saga_history.specs.declared.transitions.Transition.TheVariants as transition
 use Rattle.saga_history.specs.Changes.{Change, moves}
 
--- the state that a transition begins in, and the one that it leads to
+-- the state in which a transition starts, and the one to which it leads
 abbrev pub state_before : Transition → StepState
 state_before transition.StartRun = Waiting
 state_before transition.StartUndo = Committed
@@ -27,7 +27,7 @@ state_after transition.Undone = Undone
 state_after transition.UndoMissed = Committed
 state_after transition.UndoFail = Fixed
 
--- the transitions of a step, the last first
+-- the transitions of a step, last first
 abbrev pub transitions : List Change → ℕ → List Transition
 transitions [] s = []
 transitions (moves r t ∷ l) s = if s == r then t ∷ transitions l s else transitions l s
@@ -45,13 +45,13 @@ state l s = end_state (transitions l s)
 abbrev pub states : Contents → List Change → List StepState
 states d l = map (state l) (range_with_len 0 (length d.steps))
 
--- the step's effect stands
+-- the step's effect is in place
 abbrev pub is_standing : StepState → Bool
 is_standing Committed = true
 is_standing Fixed = true
 is_standing _ = false
 
--- its action or compensation is on its way
+-- its action or compensation is in progress
 abbrev pub is_busy : StepState → Bool
 is_busy Running = true
 is_busy Undoing = true
@@ -76,6 +76,6 @@ same_transition transition.UndoMissed transition.UndoMissed = true
 same_transition transition.UndoFail transition.UndoFail = true
 same_transition _ _ = false
 
--- how often a step made a transition
+-- the number of times that a step made a transition
 abbrev pub times : Transition → List Change → ℕ → ℕ
 times t l s = count_by (same_transition t) (transitions l s)

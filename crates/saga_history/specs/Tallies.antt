@@ -1,4 +1,4 @@
--- How often a step made each transition, told from its state; and how far a step is that another one needs.
+-- How often a step made each transition, by its state; and the required state of a step that another one needs.
 use Rattle.std.specs.Prelude.{◌≡◌, ℕ, ◌+◌, ◌<◌, Bool, true, false, List, Some, length, count_by, if◌then◌else◌}
 use Rattle.saga_def.specs.Contents.{Contents}
 use Rattle.saga_def.specs.Order.{NeedsDirectly}
@@ -17,7 +17,7 @@ use Rattle.saga_history.specs.Rules.{tries, undo_tries, misses_of, undo_misses_o
 abbrev pub one : Bool → ℕ
 one b = if b then 1 else 0
 
--- its action has begun and was not missed
+-- its action has started and was not missed
 abbrev pub was_begun : StepState → Bool
 was_begun Waiting = false
 was_begun _ = true
@@ -33,7 +33,7 @@ abbrev pub has_failed : StepState → Bool
 has_failed Failed = true
 has_failed _ = false
 
--- its compensation has begun and was not missed
+-- its compensation has started and was not missed
 abbrev pub undo_begun : StepState → Bool
 undo_begun Undoing = true
 undo_begun Undone = true
@@ -48,11 +48,11 @@ abbrev pub has_fixed : StepState → Bool
 has_fixed Fixed = true
 has_fixed _ = false
 
--- how often a transition stands in a list
+-- the number of occurrences of a transition in a list
 abbrev pub count_of : Transition → List Transition → ℕ
 count_of t ts = count_by (same_transition t) ts
 
--- how often each transition was made, by the state and the misses
+-- how often each transition was made, by the state and the number of misses
 pub record Tally (ts : List Transition) (x : StepState) : Type 0 where
   pub committed : count_of transition.Commit ts ≡ one (has_committed x)
   pub undone : count_of transition.Undone ts ≡ one (has_undone x)
@@ -64,15 +64,15 @@ pub record Tally (ts : List Transition) (x : StepState) : Type 0 where
       + count_of transition.Fail ts + count_of transition.StartUndo ts + count_of transition.Undone ts
       + count_of transition.UndoMissed ts + count_of transition.UndoFail ts
 
--- how far a step must have come that a step in that state needs directly
+-- the states that a step may have if a step in the first state needs it directly
 abbrev pub SuitsNeed : StepState → StepState → Type 0
 SuitsNeed Waiting needed = Unit {0}
 SuitsNeed Failed needed = has_committed needed ≡ true
 SuitsNeed Undone needed = has_committed needed ≡ true
 SuitsNeed _ needed = is_standing needed ≡ true
 
--- each step made the transitions that its state tells, was missed less often than it is tried, and what it needs has
--- come as far as it must; while the saga is planned, no step is busy
+-- Each step made the transitions that its state implies, was missed less often than it is tried, and the steps that it
+-- needs have a required state. While a plan of the saga is in progress, no step is busy.
 pub record IsTallied (d : Contents) (l : List Change) : Type 0 where
   pub tally : (s : ℕ) → s < length d.steps → Tally (transitions l s) (state l s)
   pub misses : (s : ℕ) → s < length d.steps → misses_of l s < tries d s
@@ -80,7 +80,7 @@ pub record IsTallied (d : Contents) (l : List Change) : Type 0 where
   pub needs : (b a : ℕ) → NeedsDirectly d.needs b a → SuitsNeed (state l b) (state l a)
   pub drained : turn l ≡ Planning → AreDrained (states d l)
 
--- each saga of a history is
+-- this holds for each saga of a history
 abbrev pub AllAreTallied : List Contents → List Event → Type 0
 AllAreTallied shelf h =
     (i : ℕ) (d : Contents) → definition shelf (changes i h) ≡ Some d → IsTallied d (changes i h)

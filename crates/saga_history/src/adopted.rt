@@ -1,11 +1,11 @@
-//! An answer in memory of its own, which contracts see as the answer.
+//! An answer in its own memory. Contracts see it as the answer.
 ghost use Rattle.std.specs.Prelude.{◌≡◌, IfOk};
 
 use saga_case::Answer;
 use std::alloc::{AllocError, Global};
 use std::marker::Model;
 
-/// The answer that a saga adopted, behind a pointer: so an event stays small.
+/// The answer that a saga adopted, behind a pointer, so that an event stays small.
 #[derive(Debug, Drop)]
 pub struct Adopted {
     answer: Box<Answer>,
@@ -20,7 +20,7 @@ impl Model for Adopted {
 }
 
 impl Adopted {
-    /// Takes memory for the answer and puts it there.
+    /// Allocates memory and stores the answer in it.
     pub fn new(alloc: Global, answer: Answer) -> Result<Adopted, AllocError>
         ensures { IfOk result (λ adopted. adopted ≡ answer) }
     {
@@ -29,21 +29,21 @@ impl Adopted {
         })
     }
 
-    /// Puts another answer into the same memory. Takes none.
+    /// Stores another answer in the same memory. Takes no memory.
     pub fn fill(&mut self, answer: Answer)
         ensures { self.new ≡ answer }
     {
         *self.answer = answer;
     }
 
-    /// The answer, borrowed.
+    /// The stored answer, borrowed.
     pub fn answer(&self) -> &Answer
         ensures { result.now ≡ self.now }
     {
         &self.answer
     }
 
-    /// The answer, out of its memory.
+    /// Returns the answer and frees its memory.
     pub fn into_answer(self) -> Answer
         ensures { result ≡ self }
     {

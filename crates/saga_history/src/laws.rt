@@ -1,4 +1,4 @@
-//! What holds of each legal history. The functions only read what they are handed: their contracts are the laws.
+//! Laws of each legal history. The functions only read their arguments: their contracts are the laws.
 ghost use Rattle.std.specs.Prelude.{All, List};
 ghost use Rattle.saga_def.specs.Sound.{IsSound};
 ghost use Rattle.saga_history.specs.Changes.{past};
@@ -18,7 +18,7 @@ ghost use Rattle.saga_history.specs.Laws.{AdoptionsSettle, GoalIsClosed, GoalIsK
 use crate::events::Event;
 use saga_def::Definition;
 
-/// Each definition on a shelf is sound, as each was when it was built. Takes time linear in the shelf.
+/// Each definition on a shelf is sound. Takes time linear in the shelf.
 pub fn are_sound(shelf: &[Definition])
     ensures { All IsSound shelf.now }
 {
@@ -27,19 +27,19 @@ pub fn are_sound(shelf: &[Definition])
     }
 }
 
-/// The headline: in each legal history, each ended saga has exactly its goal, a closed set, committed and not
-/// compensated; every other committed step was compensated once, after all that depended on it; and every adopted plan
-/// costs least among all allowed closed sets, which hold no failed or undone step, or its chain shows that none is
-/// allowed.
+/// The main theorem, for each legal history. In each ended saga, exactly the steps of its goal, which is a
+/// dependency-closed set, are committed and not compensated. Every other committed step was compensated once, after all
+/// steps that depended on it. For every adopted plan, no allowed set costs less, and allowed sets have no failed or
+/// undone step. An adopted chain shows that no set is allowed.
 pub fn headline(shelf: &[Definition], history: &[Event])
     ensures { IsLegal shelf.now (past history.now) → Headline shelf.now (past history.now) }
 {
     are_sound(shelf);
 }
 
-/// What else holds of each saga of a legal history: what its states tell of its events; how many events it has, with an
-/// example in which each bound is reached; where it stands when nothing may begin in it; and that a compensation that
-/// fails for good does not by itself make it stuck.
+/// Further laws for each saga of a legal history: what the states say about its events; the maximum number of its
+/// events, with an example that reaches each bound; its state if no task can start; and that a compensation that fails
+/// permanently does not by itself make the saga stuck.
 #[tactic(auto, using(crate::proofs::TallyLemmas::all_are_tallied, crate::proofs::CountLemmas::all_have_few_events, crate::proofs::ProgressLemmas::all_ended_or_wait, crate::proofs::PlanLemmas::plans_leave_a_way))]
 pub fn saga_laws(shelf: &[Definition], history: &[Event])
     ensures tallied { IsLegal shelf.now (past history.now)
@@ -55,10 +55,10 @@ pub fn saga_laws(shelf: &[Definition], history: &[Event])
     are_sound(shelf);
 }
 
-/// How a history is made of its events: the event at each place of a legal one was allowed after those before it, which
-/// are a legal history too; and with an event that is allowed it stays legal. An event adds one change to its saga and
-/// leaves every other one as it was, and the history is legal exactly where each saga's part of it is. At most one place
-/// is the first whose event is not allowed, and of a legal history none is.
+/// How a history consists of its events. In a legal history, the event at each index was allowed after the events
+/// before it, which form a legal history too. With an event that is allowed, it stays legal. An event adds one change
+/// to its saga and leaves every other saga unchanged. The history is legal if and only if its part for each saga is
+/// legal. At most one index is that of the first event that is not allowed, and a legal history has no such index.
 #[tactic(auto, using(crate::proofs::PartLemmas::grows_by_allowed, crate::proofs::PartLemmas::leaves_other_sagas, crate::proofs::MergeLemmas::adds_one_change))]
 pub fn history_laws(shelf: &[Definition], history: &[Event])
     ensures places { IsLegal shelf.now (past history.now)
@@ -71,9 +71,9 @@ pub fn history_laws(shelf: &[Definition], history: &[Event])
     ensures none { parts.HasNoFirst shelf.now history.now }
 {}
 
-/// What decides, whatever came after: whose turn it is, the last change that decides a turn; what the goal is, the last
-/// plan that was adopted; what a saga was opened with, its last opening. And the sagas that a history opens are those of
-/// its openings, in order.
+/// Which change is decisive, for all later changes: the turn is decided by the last change that decides a turn; the
+/// goal by the last adopted plan; the definition by the last opening. The sagas that a history opens are those of its
+/// openings, in order.
 pub fn change_laws(history: &[Event])
     ensures turn { deciders.LastDecidesTurn }
     ensures goal { deciders.LastDecidesGoal }
@@ -81,9 +81,9 @@ pub fn change_laws(history: &[Event])
     ensures openings { deciders.OpensByOpenings history.now }
 {}
 
-/// What histories have to do with each other: what is allowed in a saga depends on its own changes alone; a merge of
-/// legal histories that have no saga in common is legal, of two and of any number; and two that number their sagas by
-/// one stride from different first numbers have none in common.
+/// Relations between histories. Which events are allowed in a saga depends only on its own changes. A merge of legal
+/// histories that have no saga in common is legal, for two and for any number of histories. Two histories that number
+/// their sagas with the same stride from different first numbers have no saga in common.
 #[tactic(auto, using(crate::proofs::MergeLemmas::merges_are_legal, crate::proofs::MergeLemmas::merges_of_many_are_legal, crate::proofs::MergeLemmas::depends_on_own_changes))]
 pub fn merge_laws(shelf: &[Definition], first: &[Event], second: &[Event])
     ensures own { parts.DependsOnOwnChanges shelf.now first.now second.now }
@@ -92,7 +92,7 @@ pub fn merge_laws(shelf: &[Definition], first: &[Event], second: &[Event])
     ensures numbered { parts.NumberedApart shelf.now first.now second.now }
 {}
 
-/// What the headline says, part by part, of any history of which it holds; and that a saga stands in at most one phase.
+/// The parts of the main theorem, for every history for which it holds; and that a saga has at most one phase.
 #[tactic(auto, using(crate::proofs::LawLemmas::has_one_phase, crate::proofs::LawLemmas::goal_is_closed, crate::proofs::LawLemmas::goal_is_kept, crate::proofs::LawLemmas::others_are_undone, crate::proofs::LawLemmas::undone_in_order))]
 pub fn headline_parts(shelf: &[Definition], history: &[Event])
     ensures closed { Headline shelf.now (past history.now)

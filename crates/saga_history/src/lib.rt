@@ -1,9 +1,9 @@
-//! Histories of sagas: which events there are, which may follow which, and what holds of each legal history, in which
-//! every event was allowed after those before it.
+//! Histories of sagas: the events, which event may follow which, and the properties of each legal history. In a legal
+//! history, every event was allowed after the events before it.
 //!
-//! [`headline`] is what all else is for: each ended saga has exactly its goal, compensations stand in reverse order,
-//! and each adopted plan is least, or its chain shows that no set is allowed. [`first_not_allowed`] judges a history by
-//! the rules alone.
+//! [`headline`] is the main theorem: each ended saga has exactly its goal, compensations run in reverse order, and each
+//! adopted plan is a minimum-cost plan, or its chain shows that no set is allowed. [`first_not_allowed`] checks a
+//! history with the rules alone.
 #![tactic(auto)]
 
 mod adopted;

@@ -1,11 +1,11 @@
-//! What the state of a step says.
+//! Properties of the state of a step.
 ghost use Rattle.std.specs.Prelude.{◌≡◌, ◌↔◌, IsTrue};
 ghost use Rattle.saga_case.specs.States.{IsBusy};
 ghost use Rattle.saga_history.specs.States as spec;
 
 use saga_case::StepState;
 
-/// Whether the step's effect stands: it is committed or fixed.
+/// Whether the step's effect is in place: it is committed, possibly permanently.
 pub fn is_standing(state: StepState) -> bool
     ensures { result ≡ spec.is_standing state }
 {
@@ -15,7 +15,7 @@ pub fn is_standing(state: StepState) -> bool
     }
 }
 
-/// Whether the step's action or compensation is on its way: it is running or undoing.
+/// Whether the step's action or compensation is in progress: it is running or undoing.
 pub fn is_busy(state: StepState) -> bool
     ensures value { result ≡ spec.is_busy state }
     ensures same { IsTrue result ↔ IsBusy state }
@@ -26,7 +26,7 @@ pub fn is_busy(state: StepState) -> bool
     }
 }
 
-/// Whether the step has no effect and nothing is on its way: it is waiting, failed or undone.
+/// Whether the step has no effect and nothing is in progress: it is waiting, failed or undone.
 pub fn is_off(state: StepState) -> bool
     ensures { result ≡ spec.is_off state }
 {

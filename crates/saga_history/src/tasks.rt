@@ -1,35 +1,35 @@
-//! What there is to do in a saga, how it ends, and where a saga stands.
+//! Tasks of a saga, their outcomes, and the phases of a saga.
 ghost use Rattle.std.specs.Prelude.{◌≡◌};
 ghost use Rattle.saga_history.specs.Tasks as spec;
 
 use crate::transitions::Transition;
 use saga_case::StepState;
 
-/// Where a saga stands.
+/// The phase of a saga.
 #[derive(Clone, Copy, Debug, PartialEq, Eq)]
 pub enum Phase {
     Going,
-    /// A step has failed, or the saga was aborted: what is busy comes to its end.
+    /// A step has failed, or the saga was aborted, and busy steps come to their end.
     Draining,
     Planning,
-    /// The goal stands, and nothing else does.
+    /// The steps of the goal are in effect, and no other step is.
     Ended,
     /// No set of steps was allowed.
     Stuck,
 }
 
-/// What may begin: a saga's number, and the step's.
+/// A task that may start, with the saga's number and the step's number.
 #[derive(Clone, Copy, Debug, PartialEq, Eq)]
 pub enum Task {
     /// Run a step's action.
     Run(u32, u16),
     /// Run a step's compensation.
     Undo(u32, u16),
-    /// Plan how the saga shall end.
+    /// Plan how the saga ends.
     Plan(u32),
 }
 
-/// What is done at a step: its action, or its compensation.
+/// The kind of a task of a step: its action, or its compensation.
 #[derive(Clone, Copy, Debug, PartialEq, Eq)]
 pub enum Kind {
     Run,
@@ -44,7 +44,7 @@ pub enum Outcome {
 }
 
 impl Phase {
-    /// The phase in one word, as `draining`.
+    /// The phase in one word, for example `draining`.
     pub fn word(self) -> &'static str
         ensures { result.now ≡ spec.phase_word self }
     {
@@ -59,7 +59,7 @@ impl Phase {
 }
 
 impl Kind {
-    /// The state of a step whose action, or compensation, is on its way.
+    /// The state of a step whose action, or compensation, is in progress.
     pub fn busy_state(self) -> StepState
         ensures { result ≡ spec.busy_state self }
     {
@@ -71,7 +71,8 @@ impl Kind {
 }
 
 impl Outcome {
-    /// How an action, or a compensation, ends that had so many misses before, of so many tries.
+    /// The transition by which an action, or a compensation, ends with this outcome, after `misses` misses and with
+    /// `tries` allowed attempts.
     pub fn end_of(self, kind: Kind, misses: u64, tries: u64) -> Transition
         ensures { result ≡ spec.end_of kind self misses tries }
     {

@@ -1,4 +1,4 @@
-//! How a step passes from one state to another.
+//! Transitions between the states of a step.
 ghost use Rattle.std.specs.Prelude.{◌≡◌};
 ghost use Rattle.saga_history.specs.States as spec;
 ghost use Rattle.saga_history.specs.Turns.{turn_after_transition};
@@ -6,29 +6,29 @@ ghost use Rattle.saga_history.specs.Turns.{turn_after_transition};
 use crate::turns::Turn;
 use saga_case::StepState;
 
-/// What happens to a step. Each begins in one state and leads to another.
+/// A transition of a step. Each starts in one state and leads to another.
 #[derive(Clone, Copy, Debug, PartialEq, Eq)]
 pub enum Transition {
-    /// Its action begins.
+    /// Its action starts.
     StartRun,
-    /// Its action has been done.
+    /// Its action succeeded.
     Commit,
-    /// Its action failed, and is tried again.
+    /// Its action failed, and is retried.
     Missed,
-    /// Its action failed, and is not tried again.
+    /// Its action failed, and is not retried.
     Fail,
-    /// Its compensation begins.
+    /// Its compensation starts.
     StartUndo,
-    /// Its compensation has been done.
+    /// Its compensation succeeded.
     Undone,
-    /// Its compensation failed, and is tried again.
+    /// Its compensation failed, and is retried.
     UndoMissed,
-    /// Its compensation failed for good.
+    /// Its compensation failed permanently.
     UndoFail,
 }
 
 impl Transition {
-    /// The state that the transition begins in.
+    /// The state in which the transition starts.
     pub fn state_before(self) -> StepState
         ensures { result ≡ spec.state_before self }
     {
@@ -42,7 +42,7 @@ impl Transition {
         }
     }
 
-    /// The state that it leads to.
+    /// The state to which it leads.
     pub fn state_after(self) -> StepState
         ensures { result ≡ spec.state_after self }
     {
@@ -57,7 +57,7 @@ impl Transition {
         }
     }
 
-    /// Whose turn it is after a step of the saga made the transition.
+    /// The turn of the saga after a step made the transition.
     pub fn turn_after(self, turn: Turn) -> Turn
         ensures { result ≡ turn_after_transition self turn }
     {

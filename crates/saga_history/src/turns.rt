@@ -1,17 +1,17 @@
-//! Whose turn it is in a saga.
+//! The turn of a saga.
 ghost use Rattle.std.specs.Prelude.{◌≡◌};
 ghost use Rattle.saga_history.specs.Turns as spec;
 
 use saga_case::Answer;
 
-/// What a saga does: it goes towards its goal, or a failure or an abort has ended that.
+/// The turn of a saga: it works towards its goal, or a failure or an abort has ended that.
 #[derive(Clone, Copy, Debug, PartialEq, Eq)]
 pub enum Turn {
     /// Steps of the goal run, and others are compensated.
     Going,
-    /// What is busy comes to its end, and nothing begins.
+    /// Busy steps come to their end, and no step starts.
     Draining,
-    /// A plan is being made.
+    /// A plan is in progress.
     Planning,
     /// No set of steps was allowed.
     Stuck,

@@ -1,4 +1,4 @@
--- What stands at a key of an object: texts, whole numbers of 16, 32 and 64 bits, and lists of them.
+-- The value at a key of an object: texts, whole numbers of 16, 32 and 64 bits, and lists of them.
 use Rattle.std.specs.Prelude.{ℕ, ◌^◌, List, nat_lt, Option, Some, None, Result, Ok, Err, if◌then◌else◌, option_and_then}
 use Rattle.serde_json.specs.Data.{Data, number, array, unsigned}
 use Rattle.serde_json.specs.Find.{get, as_str}
@@ -11,12 +11,12 @@ use Rattle.saga_json.specs.Trees.{list_of}
 abbrev pub text_at : List ℕ → Data → Option (List ℕ)
 text_at key value = option_and_then as_str (get key value)
 
--- what stands at a key, which must be there
+-- the value at a required key
 abbrev pub value_in : Option Data → Result Data JsonFault
 value_in None = Err MissingKey
 value_in (Some value) = Ok value
 
--- what is read of the value at a key
+-- the reading of the value at a key
 abbrev pub at_key : {A : Type 0} → (Data → Result A JsonFault) → List ℕ → Data → Result A JsonFault
 at_key read key value = do
   found ← value_in (get key value)
@@ -33,7 +33,7 @@ u16_of = below (2 ^ 16)
 abbrev pub u32_of : Data → Result ℕ JsonFault
 u32_of = below (2 ^ 32)
 
--- a whole number, each of which has at most 64 bits
+-- a whole number, which always has at most 64 bits
 abbrev pub u64_of : Data → Result ℕ JsonFault
 u64_of (number (unsigned n)) = Ok n
 u64_of _ = Err BadType

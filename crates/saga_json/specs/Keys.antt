@@ -1,4 +1,4 @@
--- The keys that must and that may stand in an object.
+-- The required and the optional keys of an object.
 use Rattle.std.specs.Prelude.{ℕ, List, Bool, not, ◌||◌, Result, Ok, Err, if◌then◌else◌, is_some}
 use Rattle.std.specs.List.{list_all, list_any}
 use Rattle.std.specs.Str.{bytes_eq}
@@ -16,11 +16,11 @@ is_among keys key = list_any (λ k. bytes_eq k key) keys
 abbrev pub has_key : List ℕ → Data → Bool
 has_key key value = is_some (get key value)
 
--- the object has each of the keys that must be there
+-- the object has each of the required keys
 abbrev pub has_each : List (List ℕ) → Data → Bool
 has_each must value = list_all (λ key. has_key key value) must
 
--- the key is one that must or that may be there
+-- the key is required or optional
 abbrev pub is_known : List (List ℕ) → List (List ℕ) → List ℕ → Bool
 is_known must may key = is_among must key || is_among may key
 
@@ -28,7 +28,7 @@ is_known must may key = is_among must key || is_among may key
 abbrev pub has_only : List (List ℕ) → List (List ℕ) → Data → Bool
 has_only must may value = list_all (is_known must may) (keys_of value)
 
--- nothing, or the first fault of the keys: one that is unknown, before one that is missing
+-- no fault, or the first fault of the keys: an unknown key comes before a missing one
 unfoldable pub keys_fit : List (List ℕ) → List (List ℕ) → Data → Result (Unit {0}) JsonFault
 keys_fit must may value =
     if not (has_only must may value) then Err UnknownKey

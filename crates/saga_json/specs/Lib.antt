@@ -1,4 +1,4 @@
--- Texts in JSON, and what is read of their objects.
+-- JSON texts, and readings of their objects.
 pub mod Reads
 pub mod Faults
 pub mod Trees

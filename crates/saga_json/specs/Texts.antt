@@ -6,12 +6,12 @@ use Rattle.serde_json.specs.Read.{read}
 use Rattle.saga_json.specs.declared.faults.JsonFault.{JsonFault}
 use Rattle.saga_json.specs.declared.faults.JsonFault.TheVariants.{NotJson, OutOfMemory}
 
--- the text is UTF-8, and `serde_json` reads it as this value
+-- the text is UTF-8, and `serde_json` parses it to this value
 pub record IsTextOf (value : Data) (text : List ℕ) : Type 0 where
   pub utf8 : IsUtf8 text
   pub json : read text ≡ Some value
 
--- the text is no JSON; or want of memory
+-- the text is not JSON; or lack of memory
 abbrev pub IsJsonFault : List ℕ → JsonFault → Type 0
 IsJsonFault text NotJson = (value : Data) → IsTextOf value text → ⊥
 IsJsonFault text OutOfMemory = Unit {0}

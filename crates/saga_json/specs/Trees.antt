@@ -1,4 +1,4 @@
--- The value that `serde_json` reads of a text, as lists.
+-- The value to which `serde_json` parses a text, as lists.
 use Rattle.std.specs.Prelude.{ℕ, List, [], ◌∷◌, Bool, true, false}
 use Rattle.serde_json.specs.Data.{Data, object, Items, no_items, item, Members, no_members, member}
 

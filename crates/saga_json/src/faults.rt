@@ -1,40 +1,41 @@
-//! Why a text in JSON is refused.
+//! Why a JSON text is refused.
 ghost use Rattle.std.specs.Prelude.{◌≡◌};
 
 use std::alloc::{AllocError, AllocFailed};
 use std::convert::From;
 use thiserror::Error;
 
-/// Why a text is refused: a case, an answer, a line of a log or a request. Where several faults are there, the first of this
-/// list is given; `OutOfMemory` may stand in place of any answer. Only an answer, alone or in a log, has `Kept`, and only a
-/// case has `WrongLength` or `Busy`.
+/// Why the text of a case, an answer, a line of a log or a request is refused. If a text has several faults, the result
+/// is the first one in this list. `OutOfMemory` may replace any other result. Only an answer, alone or in a log, has
+/// `Kept`, and only a case has `WrongLength` or `Busy`.
 #[derive(Clone, Copy, Debug, PartialEq, Eq, Error)]
 pub enum JsonFault {
     /// Bytes that are not UTF-8, or a text that `serde_json` refuses.
     #[error("no JSON")]
     NotJson,
-    /// Not an object; also: the key that tells the kind, as `event`, is missing, or its word is unknown.
+    /// The value is not an object. Or the key that gives the kind, for example `event`, is missing or has an unknown
+    /// word.
     #[error("another kind of value")]
     Kind,
-    /// A key that the form does not have.
+    /// A key is not a key of the format.
     #[error("an unknown key")]
     UnknownKey,
-    /// A key of the form is missing.
+    /// A key of the format is missing.
     #[error("a missing key")]
     MissingKey,
-    /// A value of another kind than the form says, or a number that is not whole, below 0 or too large.
+    /// A value has the wrong type, or a number is not whole, below 0 or too large.
     #[error("a value of another type")]
     BadType,
-    /// The numbers in `kept` do not ascend strictly, or one is not below the length of `stand`.
+    /// The numbers in `kept` do not strictly ascend, or one is not below the length of `stand`.
     #[error("no list of kept steps")]
     Kept,
-    /// Another number of states than of steps.
+    /// The number of states is not the number of steps.
     #[error("another number of states than of steps")]
     WrongLength,
     /// The first step that is running or undoing.
     #[error("step {0} is busy")]
     Busy(u16),
-    /// A growth of memory was refused.
+    /// A memory allocation failed.
     #[error("out of memory")]
     OutOfMemory,
 }
@@ -42,7 +43,7 @@ pub enum JsonFault {
 impl JsonFault {
     ghost use Rattle.saga_json.specs.Faults.{word_of};
 
-    /// The fault in one word, as `bad-type`, for a line of output.
+    /// The fault in one word, for example `bad-type`, for a line of output.
     pub fn word(&self) -> &'static str
         ensures { result.now ≡ word_of self.now }
     {

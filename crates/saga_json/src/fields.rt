@@ -1,4 +1,5 @@
-//! What stands at a key of an object, by its kind: `MissingKey` where nothing does, `BadType` where it is of another kind.
+//! The value at a key of an object, by its kind. The fault is `MissingKey` if the key is missing, and `BadType` if the
+//! value has another kind.
 ghost use Rattle.std.specs.Prelude.{◌≡◌, map, option_map};
 ghost use Rattle.serde_json.specs.Find.{get};
 ghost use Rattle.serde_json.specs.View.{view};

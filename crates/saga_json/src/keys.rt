@@ -45,8 +45,8 @@ fn has_only(must: &[&str], may: &[&str], value: &Value) -> bool
     }
 }
 
-/// That an object has each key that must be there, and none but those and those that may be there: else `UnknownKey`, and
-/// then `MissingKey`.
+/// Checks that an object has each required key, and no key that is neither required nor optional. The fault is
+/// `UnknownKey`, or if there is none, `MissingKey`.
 #[tactic(auto, unfolding(crate::specs::Keys::keys_fit))]
 pub fn check_keys(value: &Value, must: &[&str], may: &[&str]) -> Result<(), JsonFault>
     ensures { result ≡ spec.keys_fit (map (λ k. k.now) must.now) (map (λ k. k.now) may.now)

@@ -1,4 +1,4 @@
-//! Texts in JSON: the value of a text, and what is read of an object: its keys, texts, whole numbers of each width, and lists.
+//! JSON texts: the value of a text, and readings of an object: its keys, texts, whole numbers of each width, and lists.
 //!
 //! [`JsonFault`] has the faults of all such texts: cases, answers, lines of a log, requests.
 #![tactic(auto)]

@@ -8,7 +8,7 @@ use crate::faults::JsonFault;
 use serde_json::Value;
 use std::alloc::Global;
 
-/// The JSON value of a text, as `serde_json` reads it; `NotJson`, or want of memory.
+/// The JSON value of a text, as `serde_json` parses it. The fault is `NotJson` or lack of memory.
 pub fn value_of_text(alloc: Global, bytes: &[u8]) -> Result<Value, JsonFault>
     ensures text { MatchResult result (λ v. IsTextOf (view v) bytes.now) (IsJsonFault bytes.now) }
     ensures value { Gives view result (json_of bytes.now) }

@@ -1,4 +1,4 @@
--- What the needs make of the steps.
+-- The order of the steps by their needs.
 pub mod Shape
 pub mod TopologicalOrder
 pub mod Rank

@@ -1,4 +1,4 @@
--- What an order knows of a definition.
+-- The part of a definition that an order uses.
 use Rattle.std.specs.Prelude.{ℕ, List, length, ◌≤◌}
 use Rattle.saga_def.specs.Limits.{max_steps}
 use Rattle.saga_def.specs.declared.steps.Need.{Need}
@@ -6,7 +6,7 @@ use Rattle.saga_def.specs.Contents.{Contents}
 use Rattle.saga_def.specs.Order.{IsAcyclic}
 use Rattle.saga_def.specs.Rules.{AreKnown}
 
--- how many steps there are, and the needs in the order handed in
+-- the number of steps, and the needs in the order of the input
 pub record Shape : Type 0 where
   pub count : ℕ
   pub needs : List Need
@@ -14,11 +14,12 @@ pub record Shape : Type 0 where
 abbrev pub shape : ℕ → List Need → Shape
 shape count needs = record { count = count; needs = needs }
 
--- those of a definition
+-- the shape of a definition
 abbrev pub shape_of : Contents → Shape
 shape_of c = shape (length c.steps) c.needs
 
--- what each definition keeps: few steps, needs between these alone, and none that precedes itself
+-- the properties of each definition: the number of steps is within the limit, needs are between these steps, and no
+-- step precedes itself
 pub record IsOrdered (s : Shape) : Type 0 where
   pub few : s.count ≤ max_steps
   pub known : AreKnown s.needs s.count

@@ -1,7 +1,7 @@
-//! What the needs of a definition make of its steps: which precede which, how long the chains are, and who stands
-//! next to whom.
+//! The order of a definition's steps by their needs: which step precedes which, the lengths of the chains of needs, and
+//! the neighbors of each step.
 //!
-//! An [`Order`] is made once of a definition, by [`Order::of`]. What it then answers takes no memory.
+//! [`Order::of`] computes an [`Order`] from a definition once. Its other methods take no memory.
 #![tactic(auto)]
 
 mod laws;

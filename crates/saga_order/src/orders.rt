@@ -1,4 +1,4 @@
-//! What precedes what in a definition.
+//! The precedence of steps in a definition.
 ghost use Rattle.std.specs.Prelude.{◌≡◌, ◌<◌, ◌↔◌, length, IsTrue, IfOk};
 
 use crate::ranks::ranks_of;
@@ -9,7 +9,7 @@ use saga_def::Definition;
 use std::alloc::{AllocError, Global};
 use std::marker::Model;
 
-/// The order that the needs of a definition put its steps in. It borrows the definition, and asks it for neighbours.
+/// The order of the steps of a definition by their needs. It borrows the definition, which provides the neighbors.
 #[derive(Debug, Drop)]
 pub struct Order<'d> {
     definition: &'d Definition,
@@ -34,8 +34,8 @@ impl<'d> Order<'d> {
     ghost use Rattle.saga_order.specs.Rank.{IsRank};
     ghost use Rattle.saga_order.specs.Shape.{shape_of, IsOrdered};
 
-    /// The order of a definition. Takes time linear in the steps and needs, and for the transitive closure at most steps
-    /// times steps and needs together, by the 64 of a word.
+    /// The order of a definition. Takes time linear in the steps and needs. The transitive closure takes at most time
+    /// proportional to the number of steps times the number of steps and needs, divided by the 64 bits of a word.
     pub fn of(alloc: Global, definition: &'d Definition) -> Result<Order<'d>, AllocError>
         ensures { IfOk result (λ order. order ≡ shape_of definition.now) }
     {
@@ -49,7 +49,7 @@ impl<'d> Order<'d> {
         })
     }
 
-    /// How many steps there are.
+    /// The number of steps.
     pub fn count(&self) -> usize
         ensures count { result ≡ self.now.count }
         ensures ordered { IsOrdered self.now }
@@ -66,7 +66,7 @@ impl<'d> Order<'d> {
         self.closure[b as usize].contains(a)
     }
 
-    /// The length of the longest chain of needs that begins at a step.
+    /// The length of the longest chain of needs that starts at a step.
     pub fn rank(&self, step: u16) -> u16
         requires { step < self.now.count }
         ensures { IsRank self.now.needs step result }
@@ -74,7 +74,8 @@ impl<'d> Order<'d> {
         self.ranks[step as usize]
     }
 
-    /// Whether a set of steps, a mark a step, holds with each step all that precede it. Takes time linear in the needs.
+    /// Whether a set of steps, given as a truth value for each step, is dependency-closed. Takes time linear in the
+    /// needs.
     pub fn is_closed(&self, set: &[bool]) -> bool
         requires { length set.now ≡ self.now.count }
         ensures { IsTrue result ↔ IsClosed self.now.needs (member set.now) }
@@ -87,7 +88,7 @@ impl<'d> Order<'d> {
         true
     }
 
-    /// The steps that a step needs directly, ascending, each once.
+    /// The steps that a step needs directly, in ascending order and each once.
     pub fn needs_of(&self, step: u16) -> &[u16]
         requires { step < self.now.count }
         ensures { AreNeedsOf self.now.needs step result.now }
@@ -95,7 +96,7 @@ impl<'d> Order<'d> {
         self.definition.needs_of(step)
     }
 
-    /// The steps that need a step directly, ascending, each once.
+    /// The steps that need a step directly, in ascending order and each once.
     pub fn needed_by(&self, step: u16) -> &[u16]
         requires { step < self.now.count }
         ensures { AreNeededBy self.now.needs step result.now }

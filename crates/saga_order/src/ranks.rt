@@ -1,4 +1,4 @@
-//! How long the chains of needs are that begin at a step.
+//! The lengths of the chains of needs that start at a step.
 ghost use Rattle.std.specs.Prelude.{◌<◌, ◌≤◌, length, All, IfOk};
 ghost use Rattle.saga_order.specs.TopologicalOrder.{IsTopologicalOrder};
 ghost use Rattle.saga_order.specs.Rank.{AreRanks, IsNextRank};
@@ -7,7 +7,7 @@ ghost use Rattle.saga_order.specs.Shape.{shape_of};
 use saga_def::Definition;
 use std::alloc::{AllocError, Global};
 
-/// One more than the greatest rank of the steps that are needed, or 0 where none is.
+/// One more than the maximum rank of the needed steps, or 0 if there are none.
 fn next_rank(needed: &[u16], ranks: &[u16]) -> u16
     requires within { All (λ a. a < length ranks.now) needed.now }
     requires small { All (λ rank. rank < 65535) ranks.now }

@@ -1,11 +1,11 @@
-//! Sets of steps, a bit a step.
+//! Sets of steps as bits.
 ghost use Rattle.std.specs.Prelude.{◌≡◌, ◌<◌, ◌≤◌, ◌*◌, ℕ, [], length, IfOk};
 ghost use Rattle.saga_order.specs.Bits.{holds, IsEmptyFor, IsWith, IsJoined};
 
 use std::alloc::{AllocError, Global};
 use std::marker::Model;
 
-/// A set of steps: bit `s % 64` of the word at `s / 64` says whether it holds the step `s`.
+/// A set of steps: bit `s % 64` of the word at `s / 64` says whether the set contains the step `s`.
 #[derive(Debug, Drop)]
 pub struct StepSet {
     words: Vec<u64>,
@@ -20,7 +20,7 @@ impl Model for StepSet {
 }
 
 impl StepSet {
-    /// The empty set with room for none, which takes no memory.
+    /// The empty set with capacity 0. Takes no memory.
     pub fn new(alloc: Global) -> StepSet
         ensures { result ≡ [] }
     {
@@ -29,7 +29,7 @@ impl StepSet {
         }
     }
 
-    /// The empty set with room for the steps below `count`.
+    /// The empty set with capacity for the steps below `count`.
     pub fn with_room(alloc: Global, count: usize) -> Result<StepSet, AllocError>
         ensures { IfOk result (λ set. IsEmptyFor count set) }
     {
@@ -38,7 +38,7 @@ impl StepSet {
         })
     }
 
-    /// Whether the set holds a step.
+    /// Whether the set contains a step.
     pub fn contains(&self, step: u16) -> bool
         ensures { result ≡ holds self.now step }
     {
@@ -46,7 +46,7 @@ impl StepSet {
         place < self.words.len() && (self.words[place] >> (step % 64)) & 1 == 1
     }
 
-    /// Puts a step into the set.
+    /// Adds a step to the set.
     pub fn insert(&mut self, step: u16)
         requires { step < 64 * length self.old }
         ensures { IsWith self.old step self.new }
@@ -54,7 +54,7 @@ impl StepSet {
         self.words[step as usize / 64] |= 1 << (step % 64);
     }
 
-    /// Puts each step of another set, which has no more room, into the set.
+    /// Adds all steps of another set, which has at most the same capacity.
     pub fn add_all(&mut self, more: &StepSet)
         requires { length more.now ≤ length self.old }
         ensures { IsJoined self.old more.now self.new }

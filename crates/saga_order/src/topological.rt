@@ -1,4 +1,4 @@
-//! The steps in a topological order: each stands after all that it needs.
+//! The steps in a topological order: each comes after all steps that it needs.
 ghost use Rattle.std.specs.Prelude.{◌≡◌, ◌<◌, false, length, IfOk, OnOk, Contains};
 ghost use Rattle.saga_order.specs.Shape.{shape_of};
 ghost use Rattle.saga_order.specs.TopologicalOrder.{is_marked, AreAbove, HasVisited, IsTopological, IsTopologicalOrder};
@@ -6,8 +6,8 @@ ghost use Rattle.saga_order.specs.TopologicalOrder.{is_marked, AreAbove, HasVisi
 use saga_def::Definition;
 use std::alloc::{AllocError, Global};
 
-/// Marks a step, visits all that it needs and that was not visited, and then adds the step to the order. Calls itself no
-/// deeper than a chain of needs is long.
+/// Marks a step, visits all steps that it needs and that were not visited, and then adds the step to the order. The
+/// recursion depth is at most the length of a chain of needs.
 fn visit(
     definition: &Definition,
     visited: &mut [bool],
@@ -34,7 +34,7 @@ fn visit(
     Ok(())
 }
 
-/// All the steps, each after what it needs. Takes time linear in the steps and needs.
+/// All steps, each after the steps that it needs. Takes time linear in the steps and needs.
 pub fn topological_order(alloc: Global, definition: &Definition) -> Result<Vec<u16>, AllocError>
     ensures { IfOk result (λ order. IsTopologicalOrder (shape_of definition.now) order.items) }
 {

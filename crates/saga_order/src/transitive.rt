@@ -1,4 +1,4 @@
-//! The transitive closure of the needs: for each step the set of all that precede it.
+//! The transitive closure of the needs: for each step the set of all steps that precede it.
 ghost use Rattle.std.specs.Prelude.{◌≡◌, ◌<◌, ◌≤◌, [], length, All, IfOk, replicate};
 ghost use Rattle.saga_order.specs.TopologicalOrder.{IsTopologicalOrder};
 ghost use Rattle.saga_order.specs.Shape.{shape_of};
@@ -8,7 +8,7 @@ use crate::step_sets::StepSet;
 use saga_def::Definition;
 use std::alloc::{AllocError, Global};
 
-/// So many empty sets, which take no memory of their own.
+/// This number of empty sets. They take no memory of their own.
 fn empty_sets(alloc: Global, count: usize) -> Result<Vec<StepSet>, AllocError>
     ensures { IfOk result (λ sets. sets.items ≡ replicate count []) }
 {
@@ -19,7 +19,7 @@ fn empty_sets(alloc: Global, count: usize) -> Result<Vec<StepSet>, AllocError>
     Ok(sets)
 }
 
-/// The steps that are needed, and all that precede them.
+/// The needed steps, and all steps that precede them.
 fn preceding_over(alloc: Global, needed: &[u16], closure: &[StepSet]) -> Result<StepSet, AllocError>
     requires within { All (λ a. a < length closure.now) needed.now }
     requires narrow { AreNarrow closure.now }
@@ -33,8 +33,8 @@ fn preceding_over(alloc: Global, needed: &[u16], closure: &[StepSet]) -> Result<
     Ok(preceding)
 }
 
-/// For each step the set of all that precede it. Takes at most steps times steps and needs together, by the 64 of a
-/// word.
+/// For each step the set of all steps that precede it. Takes at most time proportional to the number of steps times the
+/// number of steps and needs, divided by the 64 bits of a word.
 pub fn transitive_closure(
     alloc: Global,
     definition: &Definition,

@@ -1,4 +1,4 @@
--- The network of a case, and what the planner promises.
+-- The network of a case, and the contract of the planner.
 pub mod Planned
 pub mod Making
 pub mod Laws

@@ -1,4 +1,4 @@
--- What the planner promises of its answer, in addition to correctness.
+-- Properties of the planner's answer, in addition to correctness.
 use Rattle.std.specs.Prelude.{ℕ, length, IsTrue, ◌++◌, ◌≡◌, ◌≤◌, ◌+◌, ◌*◌}
 use Rattle.saga_def.specs.Order.{Steps, member}
 use Rattle.saga_case.specs.declared.answers.Answer.{Answer}
@@ -21,7 +21,7 @@ abbrev pub KeepsNothing : Answer → Type 0
 KeepsNothing (Plan plan) = (s : ℕ) → ¬ IsTrue (member plan.kept s)
 KeepsNothing (Blocked chain) = ⊥
 
--- that many rounds lead to the flow of a plan in the network of the case; a chain takes no round
+-- this number of rounds leads to the flow of a plan in the network of the case; a chain takes no round
 abbrev pub IsMadeIn : Terms → Answer → ℕ → Type 0
 IsMadeIn t (Plan plan) rounds = IsReachedIn (network_of t).arcs (plan.leave ++ (plan.stand ++ plan.links)) rounds
 IsMadeIn t (Blocked chain) rounds = rounds ≡ 0

@@ -17,7 +17,7 @@ use Rattle.saga_report.specs.declared.sagas.Cost.{Cost}
 use Rattle.saga_report.specs.declared.sagas.Cost.TheVariants as cost
 use Rattle.saga_report.specs.Sagas.{cost_of, plans_of}
 
--- what a report tells of a saga
+-- the data of a saga in a report
 pub record Story : Type 0 where
   pub opened : Option ℕ
   pub turn : Turn
@@ -27,7 +27,7 @@ pub record Story : Type 0 where
   pub plans : ℕ
   pub cost : Cost
 
--- the story of a saga by what changed in it, the last first
+-- the data of a saga by its changes, last first
 abbrev pub story_of : List Change → Story
 story_of l = record {
   opened = opened_with l;
@@ -39,14 +39,15 @@ story_of l = record {
   cost = cost_of l;
 }
 
--- a definition without name and steps, for a saga that was opened with none on the shelf, which no legal history has
+-- a definition without name and steps, for a saga that was opened with none on the shelf, which is impossible in a
+-- legal history
 abbrev pub no_contents : Contents
 no_contents = record { name = []; steps = []; needs = [] }
 
 abbrev pub contents_of : List Contents → Story → Contents
 contents_of shelf story = unwrap_or (option_and_then (slice_get shelf) story.opened) no_contents
 
--- a step of the goal stands, or another one is waiting, failed or undone
+-- a step of the goal is in effect, or another one is waiting, failed or undone
 abbrev pub is_done : Bool → StepState → Bool
 is_done true state = is_standing state
 is_done false state = is_off state
@@ -61,11 +62,11 @@ phase_by turns.Draining done = phase.Draining
 phase_by turns.Planning done = phase.Planning
 phase_by turns.Stuck done = phase.Stuck
 
--- where the saga stands
+-- the phase of the saga
 abbrev pub phase_of : Contents → Story → Phase
 phase_of d story = phase_by story.turn (are_done d story)
 
--- the state's word, filled up to 9 places
+-- the state's word, padded to 9 columns
 abbrev pub padded_word : StepState → List ℕ
 padded_word state.Waiting = codes "waiting  "
 padded_word state.Running = codes "running  "
@@ -75,7 +76,7 @@ padded_word state.Undoing = codes "undoing  "
 padded_word state.Undone = codes "undone   "
 padded_word state.Fixed = codes "fixed    "
 
--- what stands before a number to fill it up to 4 places
+-- the padding of a number to 4 columns
 abbrev pub pad_of : ℕ → List ℕ
 pad_of n =
     if nat_lt n 10 then codes "   "

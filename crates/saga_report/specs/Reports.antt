@@ -12,22 +12,22 @@ use Rattle.saga_report.specs.declared.sagas.Entry.{Entry}
 use Rattle.saga_report.specs.Opened.{opened_sagas}
 use Rattle.saga_report.specs.Lines.{Story, story_of, contents_of, phase_of, saga_text, total_line}
 
--- a saga of the history of a place
+-- a saga of the history at an index
 abbrev pub entry : ℕ → ℕ → Entry
 entry place number = record { number = number; place = place }
 
--- the sagas that histories open, the first of which has this place, history by history
+-- the sagas that histories open, history by history; the first history has this index
 abbrev pub entries_from : ℕ → List (List Event) → List Entry
 entries_from place [] = []
 entries_from place (h ∷ histories) = map (entry place) (opened_sagas h) ++ entries_from (place + 1) histories
 
--- in ascending order of their numbers, those of one number in the order of their histories
+-- in ascending order of their numbers; sagas with the same number are in the order of their histories
 pub record AreInOrder (histories : List (List Event)) (entries : List Entry) : Type 0 where
   pub all : IsPermutation (entries_from 0 histories) entries
   pub ascending : IsNonDecreasingBy (λ (e : Entry). e.number) entries
   pub stable : IsStableByKey (λ (e : Entry). e.number) nat_cmp (entries_from 0 histories) entries
 
--- what changed in a saga, the last first, and what that tells
+-- the changes of a saga, last first, and its data
 abbrev pub changes_at : List (List Event) → Entry → List Change
 changes_at histories e = changes e.number (past (slice_index_or histories e.place []))
 
@@ -55,7 +55,7 @@ text_of shelf histories entries =
     ++ total_line (length entries) (count_by (λ e. is_ended (phase_at shelf histories e)) entries)
     (count_by (λ e. is_stuck (phase_at shelf histories e)) entries) (sum_by length histories)
 
--- the phase that is told of each saga is the one that it has
+-- the phase of each saga in the report is its phase
 abbrev pub PhasesAreTold : List Contents → List (List Event) → Type 0
 PhasesAreTold shelf histories =
     (e : Entry) → HasPhase (contents_of shelf (story_at histories e)) (changes_at histories e) (phase_at shelf histories e)
@@ -67,7 +67,7 @@ pub record IsReport (shelf : List Contents) (histories : List (List Event)) (tex
   pub phases : PhasesAreTold shelf histories
   pub text_is : text ≡ text_of shelf histories entries
 
--- the report, with how many sagas it tells to be stuck
+-- the report, with the number of stuck sagas in it
 pub record IsCountedReport (shelf : List Contents) (histories : List (List Event)) (text : List ℕ) (stuck : ℕ) : Type 0 where
   pub entries : List Entry
   pub in_order : AreInOrder histories entries

@@ -1,4 +1,4 @@
--- What is kept of a saga tells what changed in it, the last first.
+-- The stored state of a saga agrees with its changes, last first.
 use Rattle.std.specs.Prelude.{◌≡◌, ℕ, List, [], Option, Some, length, slice_get, slice_index_or, nat_eq, MatchOption}
 use Rattle.std.specs.HashMap.{HashMap, get}
 use Rattle.saga_history.specs.declared.events.Event.{Event}
@@ -18,15 +18,15 @@ pub record Tells (saga : Saga) (l : List Change) : Type 0 where
   pub plans_are : saga.plans ≡ plans_of l
   pub cost_is : saga.cost ≡ cost_of l
 
--- what is kept of a saga, or that nothing changed in it
+-- the stored state of a saga agrees, or nothing is stored and the saga has no changes
 abbrev pub IsKept : Option Saga → List Change → Type 0
 IsKept kept l = MatchOption kept (l ≡ []) (λ saga. Tells saga l)
 
--- of each saga of a history
+-- the same for each saga of a history
 abbrev pub Follows : {S : Type 0} → HashMap ℕ Saga S → List Event → Type 0
 Follows sagas events = (i : ℕ) → IsKept (get nat_eq sagas i) (changes i (past events))
 
--- of each saga of each history
+-- the same for each saga of each history
 pub record AreFollowed {S : Type 0} (books : List (HashMap ℕ Saga S)) (histories : List (List Event)) : Type 0 where
   pub sized : length books ≡ length histories
   pub each : (place : ℕ) (book : HashMap ℕ Saga S) → slice_get books place ≡ Some book → Follows book (slice_index_or histories place [])

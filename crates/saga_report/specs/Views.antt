@@ -1,4 +1,4 @@
--- The story that is kept of a saga.
+-- The data of a saga that a report stores.
 use Rattle.std.specs.Prelude.{slice_index_or}
 use Rattle.saga_case.specs.declared.states.StepState.TheVariants.{Waiting}
 use Rattle.saga_report.specs.declared.sagas.Saga.{Saga}

@@ -44,7 +44,8 @@ fn entries_of(alloc: Global, histories: &[&[Event]]) -> Result<Vec<Entry>, Alloc
     Ok(entries)
 }
 
-/// The sagas of histories in ascending order of their numbers, those of one number in the order of their histories.
+/// The sagas of histories in ascending order of their numbers. Sagas with the same number are in the order of their
+/// histories.
 pub fn ordered_entries(alloc: Global, histories: &[&[Event]]) -> Result<Vec<Entry>, AllocError>
     ensures { IfOk result (λ entries. AreInOrder (map (λ h. h.now) histories.now) entries.items) }
 {

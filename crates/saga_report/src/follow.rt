@@ -1,4 +1,4 @@
-//! Following the sagas of a history, event by event.
+//! Follows the sagas of a history, event by event.
 ghost use Rattle.std.specs.Prelude.{◌≡◌, ◌<◌, ◌≤◌, ◌+◌, ◌^◌, List, ◌∷◌, IfOk};
 ghost use Rattle.saga_history.specs.Changes.{Change, change_of};
 ghost use Rattle.saga_report.specs.Tells.{Tells, Follows};
@@ -8,7 +8,7 @@ use saga_history::{Event, next_aborted, next_opened, next_turn};
 use std::alloc::{AllocError, Global};
 use std::collections::HashMap;
 
-/// What the saga comes to after one more of its events.
+/// The saga after one more of its events.
 fn after(alloc: Global, saga: Saga, event: &Event) -> Result<Saga, AllocError>
     requires { saga.plans + 1 < 2 ^ 64 }
     ensures tells { IfOk result (λ new. (l : List Change) → Tells saga l
@@ -38,7 +38,7 @@ fn after(alloc: Global, saga: Saga, event: &Event) -> Result<Saga, AllocError>
     })
 }
 
-/// The sagas of a history by their numbers, each with what changed in it.
+/// The sagas of a history by their numbers, each with its changes applied.
 pub fn follow(alloc: Global, events: &[Event]) -> Result<HashMap<u32, Saga>, AllocError>
     ensures { IfOk result (λ sagas. Follows sagas events.now) }
 {

@@ -1,6 +1,7 @@
-//! The report of a run: for each saga its phase, the states of its steps, and what its plans came to.
+//! The report of a run: for each saga its phase, the states of its steps, and the number and cost of its plans.
 //!
-//! `docs/FORMATS.md` of the repository has the form. It is told from the histories alone, in one pass.
+//! `docs/FORMATS.md` of the repository has the format. The report depends only on the histories, and is made in one
+//! pass.
 #![tactic(auto)]
 
 mod entries;

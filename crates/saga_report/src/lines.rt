@@ -14,7 +14,7 @@ use saga_def::Definition;
 use saga_history::{Phase, Turn, is_off, is_standing};
 use std::alloc::{AllocError, Global};
 
-/// The state's word, filled up to 9 places.
+/// The state's word, padded to 9 columns.
 fn padded_word(state: StepState) -> &'static str
     ensures { result.now ≡ spec.padded_word state }
 {
@@ -29,7 +29,7 @@ fn padded_word(state: StepState) -> &'static str
     }
 }
 
-/// What stands before a number to fill it up to 4 places.
+/// The padding of a number to 4 columns.
 fn pad_of(number: u64) -> &'static str
     ensures { result.now ≡ spec.pad_of number }
 {
@@ -124,7 +124,7 @@ fn is_in_goal(saga: &Saga, step: u16) -> bool
     }
 }
 
-/// Whether a step of the goal stands, or another one is waiting, failed or undone.
+/// Whether a step of the goal is in effect, or another one is waiting, failed or undone.
 fn is_done(saga: &Saga, step: u16) -> bool
     ensures { result
         ≡ spec.is_done ((story_in saga.now).goal step) ((story_in saga.now).state step) }
@@ -179,7 +179,7 @@ fn push_steps(
     Ok(())
 }
 
-/// Adds the lines of a saga of that definition.
+/// Appends the lines of a saga with this definition.
 fn push_known(
     alloc: Global,
     text: &mut String,
@@ -200,7 +200,7 @@ fn push_known(
     Ok(phase)
 }
 
-/// Adds the lines of a saga that was opened with no definition of the shelf.
+/// Appends the lines of a saga that was opened with no definition of the shelf.
 fn push_unknown(
     alloc: Global,
     text: &mut String,
@@ -227,7 +227,7 @@ fn definition_of<'d>(shelf: &'d [Definition], saga: &Saga) -> Option<&'d Definit
     }
 }
 
-/// Adds the lines of a saga, and tells its phase.
+/// Appends the lines of a saga, and returns its phase.
 pub fn push_saga(
     alloc: Global,
     text: &mut String,
@@ -249,7 +249,7 @@ pub fn push_saga(
     }
 }
 
-/// Adds the last line.
+/// Appends the last line.
 pub fn push_total(
     alloc: Global,
     text: &mut String,

@@ -27,7 +27,7 @@ fn follow_all(alloc: Global, histories: &[&[Event]]) -> Result<Vec<HashMap<u32, 
     Ok(books)
 }
 
-/// What is kept of a saga.
+/// The stored state of a saga.
 fn find<'a>(books: &'a [HashMap<u32, Saga>], entry: Entry) -> Option<&'a Saga>
     ensures { (histories : List (List Event)) → AreFollowed books.entry.now histories
         → IsKept (option_copied result)
@@ -39,7 +39,7 @@ fn find<'a>(books: &'a [HashMap<u32, Saga>], entry: Entry) -> Option<&'a Saga>
     }
 }
 
-/// Adds the lines of a saga, and tells its phase.
+/// Appends the lines of a saga, and returns its phase.
 fn push_entry(
     alloc: Global,
     text: &mut String,
@@ -72,7 +72,7 @@ fn is_stuck(phase: Phase) -> bool
     matches!(phase, Phase::Stuck)
 }
 
-/// How many events the histories have together.
+/// The total number of events of the histories.
 fn events_of(histories: &[&[Event]]) -> u128
     ensures { result ≡ sum_by length (map (λ h. h.now) histories.now) }
 {
@@ -83,18 +83,19 @@ fn events_of(histories: &[&[Event]]) -> u128
     total
 }
 
-/// A report, and how many sagas it tells to be stuck.
+/// A report, and the number of stuck sagas in it.
 #[derive(Debug, Drop)]
 pub struct CountedReport {
     pub text: String,
     pub stuck: usize,
 }
 
-/// The report of the sagas that histories open, by the definitions of a shelf, with the number of stuck ones, in time linear
-/// in the events.
+/// The report of the sagas that histories open, with the definitions of a shelf, and the number of stuck sagas. Takes
+/// time linear in the events.
 ///
-/// The sagas stand in ascending order of their numbers, those of one number in the order of their histories. Of a saga
-/// that was opened with no definition of the shelf, which no legal history has, neither name nor steps are told.
+/// The sagas are in ascending order of their numbers. Sagas with the same number are in the order of their histories.
+/// If a saga was opened with no definition of the shelf, which is impossible in a legal history, the report has neither
+/// its name nor its steps.
 pub fn report_counted(
     alloc: Global,
     shelf: &[Definition],
@@ -125,7 +126,7 @@ pub fn report_counted(
     Ok(CountedReport { text, stuck })
 }
 
-/// The text of [`report_counted`] alone.
+/// The text of [`report_counted`].
 pub fn report(
     alloc: Global,
     shelf: &[Definition],

@@ -1,4 +1,4 @@
--- When a row tells what changed in its saga, and what the row then allows.
+-- When a row agrees with the changes of its saga, and which changes the row then allows.
 use Rattle.std.specs.Prelude.{◌≡◌, ℕ, ◌<◌, ◌≤◌, ◌+◌, false, List, Some, length, slice_index}
 use Rattle.saga_def.specs.Contents.{Contents}
 use Rattle.saga_def.specs.Sound.{IsSound}
@@ -21,7 +21,7 @@ use Rattle.saga_history.specs.Tasks.{end_of, tries_of}
 use Rattle.saga_history.specs.Rules.{definition, tries, undo_tries, misses_of, undo_misses_of}
 use Rattle.saga_rows.specs.Row.{Row, state_at, mark_at, IsSized, MayRun, MayUndo, RowIsEnded}
 
--- the row tells what the changes of its saga make of it
+-- the row has the state that the changes of its saga give
 pub record Follows (shelf : List Contents) (row : Row) (l : List Change) : Type 0 where
   pub defined : definition shelf l ≡ Some row.definition
   pub sound : IsSound row.definition
@@ -33,7 +33,7 @@ pub record Follows (shelf : List Contents) (row : Row) (l : List Change) : Type 
   pub turn_is : row.turn ≡ turn l
   pub aborted_is : row.aborted ≡ aborted l
 
--- a step of the row is in that state
+-- a step of the row has this state
 pub record IsIn (row : Row) (s : ℕ) (x : StepState) : Type 0 where
   pub is_step : s < length row.definition.steps
   pub here : state_at row.states s ≡ x
@@ -59,12 +59,12 @@ RowMay row s transition.Undone = IsIn row s Undoing
 RowMay row s transition.UndoMissed = IsIn row s Undoing × (undo_misses_at row s + 1 < undo_tries row.definition s)
 RowMay row s transition.UndoFail = IsIn row s Undoing × (undo_tries row.definition s ≤ undo_misses_at row s + 1)
 
--- how often a step's action, or its compensation, was missed
+-- the number of misses of a step's action, or of its compensation
 abbrev pub missed_at : Row → Kind → ℕ → ℕ
 missed_at row kind.Run s = misses_at row s
 missed_at row kind.Undo s = undo_misses_at row s
 
--- how it ends with an outcome
+-- the transition by which it ends with an outcome
 abbrev pub row_end : Row → ℕ → Kind → Outcome → Transition
 row_end row s kind outcome = end_of kind outcome (missed_at row kind s) (tries_of kind row.definition s)
 
@@ -84,7 +84,7 @@ pub record RowMayAbort (row : Row) : Type 0 where
 abbrev pub row_case : Row → Situation
 row_case row = situation row.definition row.states row.aborted
 
--- where the saga stands
+-- the phase of the saga
 abbrev pub RowHasPhase : Row → Phase → Type 0
 RowHasPhase row phase.Going = (row.turn ≡ Going) × (RowIsEnded row → ⊥)
 RowHasPhase row phase.Draining = row.turn ≡ Draining

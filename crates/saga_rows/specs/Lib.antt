@@ -1,4 +1,4 @@
--- What a row is, and what its tables say.
+-- Rows, and the properties of their tables.
 pub mod Limits
 pub mod BitSet
 pub mod Row

@@ -1,4 +1,4 @@
--- A row: a saga by its tables, what may start in it, and what each change makes of it.
+-- A row: the tables of a saga, the tasks that may start in it, and the row after each change.
 use Rattle.std.specs.Prelude.{ℕ, Bool, List, replicate, true, false, length, slice_index, slice_index_or, slice_set, cond, if◌then◌else◌, ◌≡◌, ◌<◌, ◌≤◌, ◌+◌}
 use Rattle.saga_def.specs.Contents.{Contents}
 use Rattle.saga_def.specs.Order.{NeedsDirectly}
@@ -54,7 +54,7 @@ pub record MayUndo (row : Row) (s : ℕ) : Type 0 where
   pub committed : state_at row.states s ≡ Committed
   pub off : (b : ℕ) → NeedsDirectly row.definition.needs b s → is_off (state_at row.states b) ≡ true
 
--- a plan may be begun
+-- a plan may start
 pub record MayPlan (row : Row) : Type 0 where
   pub draining : row.turn ≡ Draining
   pub drained : (s : ℕ) → s < length row.definition.steps → is_busy (state_at row.states s) ≡ false
@@ -67,26 +67,26 @@ RowAllows row Plan = MayPlan row
 abbrev pub RowAllowsNone : Row → Type 0
 RowAllowsNone row = (t : RowTask) → RowAllows row t → ⊥
 
--- a plan stands at step 0
+-- the position of a task in the order of the steps; that of a plan is 0
 abbrev pub task_step : RowTask → ℕ
 task_step (Run s) = s
 task_step (Undo s) = s
 task_step Plan = 0
 
--- allowed, and no task of a lower step is
+-- the task is allowed, and no task of a lower step is
 abbrev pub IsFirstOfRow : Row → RowTask → Type 0
 IsFirstOfRow row t = RowAllows row t × ((u : RowTask) → RowAllows row u → task_step t ≤ task_step u)
 
--- a step is as the goal wants it
+-- a step is as the goal requires
 abbrev pub is_finished : Bool → StepState → Bool
 is_finished wanted state = if wanted then is_standing state else is_off state
 
--- the saga is ended: it is going, and each step is as the goal wants it
+-- the saga is ended: it is going, and each step is as the goal requires
 pub record RowIsEnded (row : Row) : Type 0 where
   pub going : row.turn ≡ Going
   pub finished : (s : ℕ) → s < length row.definition.steps → is_finished (mark_at row.goal s) (state_at row.states s) ≡ true
 
--- a row in which nothing has happened
+-- a row without changes
 abbrev pub new_row : Contents → Row
 new_row c = record {
   definition = c;
@@ -98,7 +98,7 @@ new_row c = record {
   aborted = false;
 }
 
--- one more miss, where that is what happened
+-- 1 if true, and otherwise 0
 abbrev pub one_if : Bool → ℕ
 one_if b = cond b 1 0
 
@@ -108,7 +108,7 @@ miss_in t = one_if (same_transition transition.Missed t)
 abbrev pub undo_miss_in : Transition → ℕ
 undo_miss_in t = one_if (same_transition transition.UndoMissed t)
 
--- a step makes a transition
+-- the row after a transition of a step
 abbrev pub row_after : Row → ℕ → Transition → Row
 row_after row s t = record row {
   states = slice_set row.states s (state_after t);
@@ -117,25 +117,25 @@ row_after row s t = record row {
   turn = turn_after_transition t row.turn;
 }
 
--- there is room to count one miss more
+-- the number of misses does not overflow
 pub record HasRoom (row : Row) (s : ℕ) (t : Transition) : Type 0 where
   pub few : slice_index row.misses s + miss_in t ≤ 255
   pub few_undo : slice_index row.undo_misses s + undo_miss_in t ≤ 255
 
--- an answer is adopted
+-- the row after the adoption of an answer
 abbrev pub row_adopting : Row → Answer → Row
 row_adopting row (answer.Plan plan) = record row { goal = plan.kept; turn = Going }
 row_adopting row (answer.Blocked chain) = record row { turn = Stuck }
 
--- a plan has a mark for each step
+-- a plan has a truth value for each step
 abbrev pub FitsIn : Row → Answer → Type 0
 FitsIn row (answer.Plan plan) = length plan.kept ≡ length row.definition.steps
 FitsIn row (answer.Blocked chain) = Unit {0}
 
--- the saga is aborted
+-- the row after an abort of the saga
 abbrev pub row_aborting : Row → Row
 row_aborting row = record row { turn = turn_after_abort row.turn; aborted = true }
 
--- the turn changes
+-- the row after a change of the turn
 abbrev pub row_turning : Row → Turn → Row
 row_turning row turn = record row { turn = turn }

@@ -1,4 +1,4 @@
--- The rows of several sagas: a mark for each in which a task is allowed, and how many sagas are not over.
+-- The rows of several sagas: a mark for each row in which a task is allowed, and the number of sagas that are not over.
 use Rattle.std.specs.Prelude.{ℕ, Bool, List, [], true, false, not, length, slice_index_or, ◌==◌, ◌≡◌, ◌<◌, ◌≤◌, ◌+◌}
 use Rattle.std.specs.List.{count_by}
 use Rattle.saga_history.specs.declared.turns.Turn.{Turn}
@@ -14,7 +14,7 @@ no_row = record { definition = record { name = []; steps = []; needs = [] }; sta
 abbrev pub row_at : List Row → ℕ → Row
 row_at rows i = slice_index_or rows i no_row
 
--- a saga is over: stuck, or going with nothing left to do
+-- a saga is over: stuck, or going with all steps as the goal requires
 abbrev pub is_over_by : Turn → ℕ → Bool
 is_over_by Going unfinished = unfinished == 0
 is_over_by Draining unfinished = false
@@ -27,12 +27,13 @@ is_over row = is_over_by row.turn (unfinished_in row.definition row.states row.g
 abbrev pub is_open : Row → Bool
 is_open row = not (is_over row)
 
--- a mark tells whether a row allows a task
+-- a mark says whether a row allows a task
 pub record IsMarkOf (row : Row) (mark : Bool) : Type 0 where
   pub some : mark ≡ true → (t : RowTask) × RowAllows row t
   pub none : mark ≡ false → RowAllowsNone row
 
--- the marks of all rows but one are right, and there is none past them; there is room for one row more at most
+-- the marks of all rows except one are correct, and there is no mark after the rows; the set of marks may be longer
+-- than the rows by at most one
 pub record AreMarked (rows : List Row) (marks : List Bool) (but : ℕ) : Type 0 where
   pub sized : length rows ≤ length marks
   pub tight : length marks ≤ max_rows + 1
@@ -40,11 +41,11 @@ pub record AreMarked (rows : List Row) (marks : List Bool) (but : ℕ) : Type 0 
   pub each : (i : ℕ) → i < length rows → (i ≡ but → ⊥) → IsMarkOf (row_at rows i) (mark_at marks i)
   pub past : (i : ℕ) → length rows ≤ i → mark_at marks i ≡ false
 
--- the count of open rows, where one row was counted as it was before
+-- the number of open rows, in which one row is counted as it was before
 abbrev pub IsCountBut : List Row → ℕ → Bool → ℕ → Type 0
 IsCountBut rows i was count = count + one_if (is_open (row_at rows i)) ≡ count_by is_open rows + one_if was
 
--- marks and count are right
+-- marks and count are correct
 pub record AreRows (rows : List Row) (marks : List Bool) (open_rows : ℕ) : Type 0 where
   pub marked : AreMarked rows marks (length rows)
   pub counted : open_rows ≡ count_by is_open rows

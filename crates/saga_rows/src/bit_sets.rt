@@ -1,12 +1,12 @@
-//! Sets of numbers in which the least is found at once.
+//! Sets of numbers with constant-time access to the minimum.
 ghost use Rattle.std.specs.Prelude.{ℕ, Bool, ◌≡◌, ◌<◌, ◌≤◌, ◌*◌, ◌++◌, ◌∷◌, [], All, IfOk, IfErr, MatchOption, false, true, length, map, slice_index_or, slice_set, List, replicate};
 ghost use Rattle.saga_rows.specs.BitSet.{IsBitSet, IsPut, marks};
 
 use std::alloc::{AllocError, Global};
 use std::marker::Model;
 
-/// A set of numbers below a limit of at most 4,096: a bit each, and in `summary` a bit for each word that is not 0. Contracts
-/// see it as a list of marks.
+/// A set of numbers below a limit of at most 4,096. `words` has one bit for each number, and `summary` one bit for each
+/// word that is not 0. Contracts see the set as a list of truth values.
 #[derive(Drop)]
 pub struct BitSet {
     words: Vec<u64>,
@@ -37,7 +37,7 @@ fn put_bit(word: u64, b: usize, on: bool) -> u64
     }
 }
 
-/// Puts a number in or takes it out; gives the new summary.
+/// Adds or removes a number. Returns the new summary.
 fn put(words: &mut [u64], summary: u64, i: usize, on: bool) -> u64
     requires within { i < 64 * length words.old }
     requires few { length words.old ≤ 64 }
@@ -51,7 +51,7 @@ fn put(words: &mut [u64], summary: u64, i: usize, on: bool) -> u64
     put_bit(summary, w, word != 0)
 }
 
-/// The least number that is in.
+/// The minimum of the set.
 fn least(words: &[u64], summary: u64) -> Option<usize>
     requires few { length words.now ≤ 64 }
     ensures { (len : ℕ) → IsBitSet words.now summary len
@@ -71,7 +71,7 @@ fn least(words: &[u64], summary: u64) -> Option<usize>
 }
 
 impl BitSet {
-    /// A set of numbers below a limit, with none in.
+    /// The empty set of numbers below a limit.
     pub fn new(alloc: Global, len: usize) -> Result<BitSet, AllocError>
         requires { len ≤ 4095 }
         ensures { IfOk result (λ bits. bits ≡ replicate len false) }
@@ -84,7 +84,7 @@ impl BitSet {
         })
     }
 
-    /// A set without room. Takes no memory.
+    /// The set with limit 0. Takes no memory.
     pub fn empty(alloc: Global) -> BitSet
         ensures { result ≡ [] }
     {
@@ -95,7 +95,7 @@ impl BitSet {
         }
     }
 
-    /// The same set in memory of its own.
+    /// A copy of the set.
     pub fn copy(&self, alloc: Global) -> Result<BitSet, AllocError>
         ensures { IfOk result (λ bits. bits ≡ self.now) }
     {
@@ -106,14 +106,14 @@ impl BitSet {
         })
     }
 
-    /// How many numbers there is room for.
+    /// The limit of the set.
     pub fn len(&self) -> usize
         ensures { result ≡ length self.now }
     {
         self.len
     }
 
-    /// Room for one number more, which is not in.
+    /// Raises the limit by one. The new number is not in the set.
     pub fn push(&mut self) -> Result<(), AllocError>
         requires { length self.old < 4096 }
         ensures ok { IfOk result (λ _. self.new ≡ self.old ++ false ∷ []) }
@@ -126,7 +126,7 @@ impl BitSet {
         Ok(())
     }
 
-    /// Puts a number in or takes it out.
+    /// Adds or removes a number.
     pub fn set(&mut self, i: usize, on: bool)
         requires { i < length self.old }
         ensures { self.new ≡ slice_set self.old i on }
@@ -134,7 +134,7 @@ impl BitSet {
         self.summary = put(&mut self.words, self.summary, i, on);
     }
 
-    /// Whether a number is in.
+    /// Whether a number is in the set.
     pub fn has(&self, i: usize) -> bool
         requires { i < length self.now }
         ensures { result ≡ slice_index_or self.now i false }
@@ -142,7 +142,7 @@ impl BitSet {
         (self.words[i / 64] >> (i % 64)) & 1 == 1
     }
 
-    /// The least number that is in.
+    /// The minimum of the set.
     pub fn first(&self) -> Option<usize>
         ensures { MatchOption result
             ((i : ℕ) → i < length self.now → slice_index_or self.now i false ≡ false)

@@ -1,4 +1,4 @@
-//! Counts and marks of steps, kept at the neighbours of a step that changes.
+//! Counts and marks of steps. When a step changes, those of its neighbors are updated.
 ghost use Rattle.std.specs.Prelude.{ℕ, Bool, ◌≡◌, ◌<◌, ◌≤◌, ◌+◌, All, false, true, length, slice_index};
 ghost use Rattle.saga_rows.specs.Row.{one_if, mark_at, is_finished};
 ghost use Rattle.saga_rows.specs.Tables.{AreRefreshed, AreShifted, is_ready, occurs, ready_at};
@@ -7,7 +7,7 @@ use crate::bit_sets::BitSet;
 use saga_case::StepState;
 use saga_history::{is_off, is_standing};
 
-/// Whether a step is as the goal wants it: it stands, or it does not.
+/// Whether a step is as the goal requires: in effect if it is wanted, and otherwise without effect.
 pub fn is_finished(wanted: bool, state: StepState) -> bool
     ensures { result ≡ is_finished wanted state }
 {
@@ -18,7 +18,7 @@ pub fn is_finished(wanted: bool, state: StepState) -> bool
     }
 }
 
-/// One less for each of the steps.
+/// Decreases the count of each of the steps by one.
 fn lower(counts: &mut [u16], steps: &[u16])
     requires known { All (λ (s : ℕ). s < length counts.old) steps.now }
     requires enough { (s : ℕ) → s < length counts.old
@@ -30,7 +30,7 @@ fn lower(counts: &mut [u16], steps: &[u16])
     }
 }
 
-/// One more for each of the steps.
+/// Increases the count of each of the steps by one.
 fn raise(counts: &mut [u16], steps: &[u16])
     requires known { All (λ (s : ℕ). s < length counts.old) steps.now }
     requires room { (s : ℕ) → s < length counts.old
@@ -42,7 +42,8 @@ fn raise(counts: &mut [u16], steps: &[u16])
     }
 }
 
-/// The counts of the steps, where one that they count by counted before and counts now.
+/// Updates the counts of the steps after a neighbor changed: `was` and `now` say whether it was counted before and is
+/// counted now.
 pub fn shift(counts: &mut [u16], steps: &[u16], was: bool, now: bool)
     requires known { All (λ (s : ℕ). s < length counts.old) steps.now }
     requires enough { was ≡ true → (s : ℕ) → s < length counts.old
@@ -58,7 +59,7 @@ pub fn shift(counts: &mut [u16], steps: &[u16], was: bool, now: bool)
     }
 }
 
-/// A count after one thing that was counted is not any more, or the other way round.
+/// A count after one item changed: `was` and `now` say whether it was counted before and is counted now.
 pub fn moved(count: usize, was: bool, now: bool) -> usize
     requires enough { was ≡ true → 1 ≤ count }
     requires room { count ≤ 65535 }
@@ -73,7 +74,7 @@ pub fn moved(count: usize, was: bool, now: bool) -> usize
     }
 }
 
-/// Whether a step may be started while its saga is going.
+/// Whether a step may start while its saga is going.
 fn is_ready(state: StepState, wanted: bool, unmet: u16, held: u16) -> bool
     ensures { result ≡ is_ready state wanted unmet held }
 {
@@ -84,7 +85,7 @@ fn is_ready(state: StepState, wanted: bool, unmet: u16, held: u16) -> bool
     }
 }
 
-/// Marks these steps anew.
+/// Recomputes the marks of these steps.
 pub fn refresh(
     states: &[StepState],
     goal: &[bool],
@@ -108,7 +109,7 @@ pub fn refresh(
     }
 }
 
-/// Marks all steps anew.
+/// Recomputes the marks of all steps.
 pub fn refresh_all(
     states: &[StepState],
     goal: &[bool],

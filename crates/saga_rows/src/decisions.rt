@@ -1,5 +1,5 @@
-//! What the tables of a row allow, and where its saga stands. None of it goes over the steps, but for
-//! [`Row::present_case`], [`Row::drained_case`] and [`Row::is_present`].
+//! Which changes the tables of a row allow, and the phase of its saga. Only [`Row::present_case`],
+//! [`Row::drained_case`] and [`Row::is_present`] iterate over the steps.
 ghost use Rattle.std.specs.Prelude.{◌≡◌, ◌<◌, ◌+◌, ◌↔◌, IsTrue, IfOk, IfSome, MatchOption, length};
 ghost use Rattle.saga_history.specs.Tasks.{busy_state, tries_of};
 ghost use Rattle.saga_history.specs.declared.turns.Turn.TheVariants.{Planning};
@@ -21,7 +21,7 @@ impl<'d> Row<'d> {
         self.states()[step as usize] == state
     }
 
-    /// How often the action of a step was missed, or its compensation.
+    /// The number of misses of a step's action, or of its compensation.
     fn missed(&self, step: u16, kind: Kind) -> u8
         requires { step < length self.now.definition.steps }
         ensures { result ≡ missed_at self.now kind step }
@@ -33,7 +33,7 @@ impl<'d> Row<'d> {
         }
     }
 
-    /// How often it is tried.
+    /// The number of its tries.
     fn tries(&self, step: u16, kind: Kind) -> u64
         requires { step < length self.now.definition.steps }
         ensures { result ≡ tries_of kind self.now.definition step }
@@ -45,7 +45,7 @@ impl<'d> Row<'d> {
         }
     }
 
-    /// Whether it is tried again where it fails now.
+    /// Whether it is retried if it fails now.
     fn is_tried_again(&self, step: u16, kind: Kind) -> bool
         requires { step < length self.now.definition.steps }
         ensures { IsTrue result
@@ -78,7 +78,7 @@ impl<'d> Row<'d> {
         }
     }
 
-    /// The transition by which the action of a step, or its compensation, ends with an outcome, if it is on its way.
+    /// The transition by which the action of a step, or its compensation, ends with an outcome, if it is in progress.
     pub fn end_of(&self, step: u16, kind: Kind, outcome: Outcome) -> Option<Transition>
         requires { step < length self.now.definition.steps }
         ensures may { IfSome result (λ t. RowMay self.now step t) }
@@ -92,7 +92,7 @@ impl<'d> Row<'d> {
         Some(outcome.end_of(kind, missed, self.tries(step, kind)))
     }
 
-    /// Whether a plan is being made.
+    /// Whether a plan is in progress.
     pub fn is_planning(&self) -> bool
         ensures { IsTrue result ↔ (self.now.turn ≡ Planning) }
     {
@@ -113,7 +113,7 @@ impl<'d> Row<'d> {
         }
     }
 
-    /// Where the saga stands.
+    /// The phase of the saga.
     pub fn phase(&self) -> Phase
         ensures { RowHasPhase self.now result }
     {
@@ -157,8 +157,8 @@ impl<'d> Row<'d> {
         }
     }
 
-    /// Whether a case is the present one. Takes time linear in the steps, and in the definition where the case has
-    /// another one.
+    /// Whether a case is the present one. Takes time linear in the steps. If the case has another definition, it also
+    /// takes time linear in the definition.
     pub fn is_present(&self, case: &Case) -> bool
         ensures { IsTrue result ↔ (case.now ≡ row_case self.now) }
     {

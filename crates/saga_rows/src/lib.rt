@@ -1,7 +1,7 @@
-//! One saga followed change by change: its states, goal and turn in tables that tell at once what may start in it. And
-//! the rows of several sagas, with the first task of all.
+//! The state of one saga after each change: tables of its states, goal and turn from which the tasks that may start
+//! follow without a search. And the rows of several sagas, with the first task of all.
 //!
-//! A row follows whatever it is told: whether a change is allowed is asked before.
+//! A row applies every change that it is given: the caller checks first whether a change is allowed.
 #![tactic(auto)]
 
 mod bit_sets;

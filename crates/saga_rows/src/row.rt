@@ -1,4 +1,4 @@
-//! One saga by its tables.
+//! The tables of one saga.
 ghost use Rattle.std.specs.Prelude.{ℕ, Bool, ◌≡◌, ◌<◌, ◌≤◌, ◌↔◌, IsTrue, IfOk, MatchOption, true, length, replicate, slice_index, slice_set};
 ghost use Rattle.saga_case.specs.declared.states.StepState.TheVariants.{Waiting};
 ghost use Rattle.saga_history.specs.declared.turns.Turn.TheVariants.{Going};
@@ -15,13 +15,14 @@ use saga_history::{Transition, Turn, is_busy, is_off, is_standing};
 use std::alloc::{AllocError, Global};
 use std::marker::Model;
 
-/// A saga: its definition, the state of each step, its goal as a mark for each step, whose turn it is, how often each step
-/// and each compensation was missed, and whether the saga was aborted.
+/// A saga: its definition, the state of each step, its goal, its turn, the numbers of misses, and whether the saga was
+/// aborted. The goal has a truth value for each step. The numbers of misses are those of each step and of each
+/// compensation.
 ///
-/// Beside them, for each step: how many of its needs are not met, how many of its dependants hold its compensation back,
-/// and whether it may be started while the saga is going; and how many steps are busy, and how many are not as the goal
-/// wants them. They take a few bytes a step; neighbours come from the definition. All memory is taken by
-/// [`Row::new`].
+/// In addition, the row has for each step: the number of its needs that are not met, the number of dependants that
+/// prevent its compensation, and whether it may start while the saga is going. It also has the number of busy steps,
+/// and the number of steps that are not as the goal requires. These tables take a few bytes for each step. The
+/// definition provides the neighbors. [`Row::new`] allocates all memory.
 #[derive(Drop)]
 pub struct Row<'d> {
     definition: &'d Definition,
@@ -58,7 +59,7 @@ impl<'d> Model for Row<'d> {
         r.undo_misses.items r.unmet.items r.held.items r.busy r.unfinished r.ready };
 }
 
-/// One for a missed action.
+/// 1 for a missed action, and otherwise 0.
 fn miss_in(t: Transition) -> u8
     ensures { result ≡ spec.miss_in t }
 {
@@ -68,7 +69,7 @@ fn miss_in(t: Transition) -> u8
     }
 }
 
-/// One for a missed compensation.
+/// 1 for a missed compensation, and otherwise 0.
 fn undo_miss_in(t: Transition) -> u8
     ensures { result ≡ spec.undo_miss_in t }
 {
@@ -78,7 +79,7 @@ fn undo_miss_in(t: Transition) -> u8
     }
 }
 
-/// How many steps are not as the goal wants them. Takes time linear in the steps.
+/// The number of steps that are not as the goal requires. Takes time linear in the steps.
 fn count_unfinished(definition: &Definition, states: &[StepState], goal: &[bool]) -> usize
     requires states { length states.now ≡ length definition.now.steps }
     requires goal { length goal.now ≡ length definition.now.steps }
@@ -92,7 +93,7 @@ fn count_unfinished(definition: &Definition, states: &[StepState], goal: &[bool]
     unfinished
 }
 
-/// How many needs each step has.
+/// The number of needs of each step.
 fn count_needs(alloc: Global, definition: &Definition) -> Result<Vec<u16>, AllocError>
     ensures sized { IfOk result (λ counts. length counts.items ≡ length definition.now.steps) }
     ensures each { IfOk result (λ counts. (s : ℕ) → s < length definition.now.steps
@@ -109,7 +110,7 @@ impl<'d> Row<'d> {
     ghost use Rattle.saga_rows.specs.Row.{FitsIn, HasRoom, IsFirstOfRow, IsSized, MayPlan, MayRun, MayUndo, RowAllowsNone, RowIsEnded, new_row, row_aborting, row_adopting, row_after};
     ghost use Rattle.saga_rows.specs.Rows.{is_over};
 
-    /// A saga in which nothing has happened. All its memory is taken here.
+    /// A saga without changes. Allocates all its memory.
     pub fn new(alloc: Global, definition: &'d Definition) -> Result<Row<'d>, AllocError>
         ensures { IfOk result (λ row. row ≡ new_row definition.now) }
     {
@@ -139,7 +140,7 @@ impl<'d> Row<'d> {
         })
     }
 
-    /// The same row in memory of its own, which costs less than to make it from its definition.
+    /// A copy of the row. This takes less time than to construct it from its definition.
     pub fn copy(&self, alloc: Global) -> Result<Row<'d>, AllocError>
         ensures { IfOk result (λ row. row ≡ self.now) }
     {
@@ -159,7 +160,7 @@ impl<'d> Row<'d> {
         })
     }
 
-    /// How many steps there are.
+    /// The number of steps.
     pub fn steps(&self) -> usize
         ensures count { result ≡ length self.now.definition.steps }
         ensures sized { IsSized self.now }
@@ -167,7 +168,7 @@ impl<'d> Row<'d> {
         self.definition.steps()
     }
 
-    /// A step enters a state. Takes time linear in its neighbours.
+    /// Sets the state of a step. Takes time linear in its neighbors.
     fn enter(&mut self, s: u16, state: StepState)
         requires { s < length self.old.definition.steps }
         ensures { self.new ≡ record self.old { states = slice_set self.old.states s state } }
@@ -217,7 +218,7 @@ impl<'d> Row<'d> {
         );
     }
 
-    /// A step makes a transition. Takes time linear in its neighbours.
+    /// Applies a transition of a step. Takes time linear in its neighbors.
     pub fn apply(&mut self, s: u16, t: Transition)
         requires step { s < length self.old.definition.steps }
         requires room { HasRoom self.old s t }
@@ -229,7 +230,7 @@ impl<'d> Row<'d> {
         self.turn = t.turn_after(self.turn);
     }
 
-    /// The goal becomes a set of steps. Takes time linear in the steps.
+    /// Sets the goal to a set of steps. Takes time linear in the steps.
     fn set_goal(&mut self, kept: &[bool])
         requires { length kept.now ≡ length self.old.definition.steps }
         ensures { self.new ≡ record self.old { goal = kept.now } }
@@ -245,7 +246,7 @@ impl<'d> Row<'d> {
         self.unfinished = count_unfinished(self.definition, &self.states, &self.goal);
     }
 
-    /// An answer is adopted. Takes time linear in the steps.
+    /// Applies the adoption of an answer. Takes time linear in the steps.
     pub fn adopt(&mut self, answer: &Answer)
         requires { FitsIn self.old answer.now }
         ensures { self.new ≡ row_adopting self.old answer.now }
@@ -261,7 +262,7 @@ impl<'d> Row<'d> {
         }
     }
 
-    /// The saga is aborted.
+    /// Applies an abort of the saga.
     pub fn abort(&mut self)
         ensures { self.new ≡ row_aborting self.old }
     {
@@ -269,7 +270,7 @@ impl<'d> Row<'d> {
         self.aborted = true;
     }
 
-    /// The turn changes: a plan is begun or dropped.
+    /// Sets the turn: a plan is started or dropped.
     pub fn turn_to(&mut self, turn: Turn)
         ensures { self.new ≡ record self.old { turn = turn } }
     {
@@ -290,28 +291,28 @@ impl<'d> Row<'d> {
         self.states.as_slice()
     }
 
-    /// The goal: a mark for each step.
+    /// The goal: a truth value for each step.
     pub fn goal(&self) -> &[bool]
         ensures { result.now ≡ self.now.goal }
     {
         self.goal.as_slice()
     }
 
-    /// How often each step was missed.
+    /// The number of misses of each step.
     pub fn misses(&self) -> &[u8]
         ensures { result.now ≡ self.now.misses }
     {
         self.misses.as_slice()
     }
 
-    /// How often each compensation was missed.
+    /// The number of misses of each compensation.
     pub fn undo_misses(&self) -> &[u8]
         ensures { result.now ≡ self.now.undo_misses }
     {
         self.undo_misses.as_slice()
     }
 
-    /// Whose turn it is.
+    /// The turn of the saga.
     pub fn turn(&self) -> Turn
         ensures { result ≡ self.now.turn }
     {
@@ -353,7 +354,7 @@ impl<'d> Row<'d> {
         self.ready.has(s as usize)
     }
 
-    /// Whether a plan may be begun.
+    /// Whether a plan may start.
     pub fn may_plan(&self) -> bool
         ensures { IsTrue result ↔ MayPlan self.now }
     {
@@ -363,7 +364,7 @@ impl<'d> Row<'d> {
         self.busy == 0
     }
 
-    /// Whether the saga is ended: it is going, and each step is as the goal wants it.
+    /// Whether the saga is ended: it is going, and each step is as the goal requires.
     pub fn is_ended(&self) -> bool
         ensures { IsTrue result ↔ RowIsEnded self.now }
     {
@@ -381,7 +382,7 @@ impl<'d> Row<'d> {
         }
     }
 
-    /// The first task that is allowed, by steps.
+    /// The first task that is allowed, in the order of the steps.
     pub fn first(&self) -> Option<RowTask>
         ensures { MatchOption result (RowAllowsNone self.now) (λ t. IsFirstOfRow self.now t) }
     {

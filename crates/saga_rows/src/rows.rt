@@ -15,11 +15,11 @@ use saga_history::{Transition, Turn};
 use std::alloc::{AllocError, Global};
 use std::marker::Model;
 
-/// The most rows that [`Rows`] holds.
+/// The maximum number of rows in [`Rows`].
 pub const MAX_ROWS: usize = 1000;
 
-/// Rows, which contracts see as a list. With a mark for each in which a task is allowed, and a count of those that are
-/// not over.
+/// Rows, which contracts see as a list. In addition, a mark for each row in which a task is allowed, and the number of
+/// rows that are not over.
 #[derive(Drop)]
 pub struct Rows<'d> {
     rows: Vec<Row<'d>>,
@@ -46,7 +46,7 @@ fn has_task(row: &Row) -> bool
     row.first().is_some()
 }
 
-/// Marks one row anew.
+/// Recomputes the mark of one row.
 fn mark(rows: &[Row], tasks: &mut BitSet, i: usize)
     requires within { i < length rows.now }
     requires others { AreMarked rows.now tasks.old i }
@@ -56,7 +56,7 @@ fn mark(rows: &[Row], tasks: &mut BitSet, i: usize)
     tasks.set(i, some);
 }
 
-/// The count of open rows after one row changed.
+/// The number of open rows after one row changed.
 fn recount(rows: &[Row], open_rows: usize, i: usize, was: bool) -> usize
     requires within { i < length rows.now }
     requires few { length rows.now ≤ max_rows }
@@ -67,7 +67,7 @@ fn recount(rows: &[Row], open_rows: usize, i: usize, was: bool) -> usize
     moved(open_rows, was, !row.is_over())
 }
 
-/// Room for the mark of one row more.
+/// Extends the set by the mark of one more row.
 fn make_room(tasks: &mut BitSet, rows: &[Row]) -> Result<(), AllocError>
     requires { AreMarked rows.now tasks.old (length rows.now) }
     ensures marked { AreMarked rows.now tasks.new (length rows.now) }
@@ -80,7 +80,7 @@ fn make_room(tasks: &mut BitSet, rows: &[Row]) -> Result<(), AllocError>
 }
 
 impl<'d> Rows<'d> {
-    /// No row yet. Takes no memory.
+    /// No rows. Takes no memory.
     pub fn new(alloc: Global) -> Rows<'d>
         ensures { result ≡ [] }
     {
@@ -91,8 +91,7 @@ impl<'d> Rows<'d> {
         }
     }
 
-    /// A row more, for a saga in which nothing has happened. All its memory is taken here; where some is refused, the
-    /// rows are as before.
+    /// Adds a row for a saga without changes. Allocates all its memory. If an allocation fails, the rows are unchanged.
     pub fn open(&mut self, alloc: Global, definition: &'d Definition) -> Result<(), AllocError>
         requires { length self.old < max_rows }
         ensures ok { IfOk result (λ _. self.new ≡ self.old ++ new_row definition.now ∷ []) }
@@ -108,7 +107,7 @@ impl<'d> Rows<'d> {
         Ok(())
     }
 
-    /// Without the last row.
+    /// Removes the last row.
     pub fn close(&mut self)
         requires { 0 < length self.old }
         ensures { (rows : List Row) (row : Row) → self.old ≡ rows ++ row ∷ [] → self.new ≡ rows }
@@ -119,7 +118,7 @@ impl<'d> Rows<'d> {
         self.open_rows = moved(self.open_rows, !last.is_over(), false);
     }
 
-    /// A step of a saga makes a transition.
+    /// Applies a transition of a step of a saga.
     pub fn apply(&mut self, i: usize, s: u16, t: Transition)
         requires within { i < length self.old }
         requires step { s < length (row_at self.old i).definition.steps }
@@ -133,7 +132,7 @@ impl<'d> Rows<'d> {
         self.open_rows = recount(&self.rows, self.open_rows, i, was);
     }
 
-    /// An answer is adopted in a saga.
+    /// Applies the adoption of an answer in a saga.
     pub fn adopt(&mut self, i: usize, answer: &Answer)
         requires within { i < length self.old }
         requires fits { FitsIn (row_at self.old i) answer.now }
@@ -146,7 +145,7 @@ impl<'d> Rows<'d> {
         self.open_rows = recount(&self.rows, self.open_rows, i, was);
     }
 
-    /// A saga is aborted.
+    /// Applies an abort of a saga.
     pub fn abort(&mut self, i: usize)
         requires { i < length self.old }
         ensures { self.new ≡ slice_set self.old i (row_aborting (row_at self.old i)) }
@@ -158,7 +157,7 @@ impl<'d> Rows<'d> {
         self.open_rows = recount(&self.rows, self.open_rows, i, was);
     }
 
-    /// The turn of a saga changes: a plan is begun or dropped.
+    /// Sets the turn of a saga: a plan is started or dropped.
     pub fn turn_to(&mut self, i: usize, turn: Turn)
         requires { i < length self.old }
         ensures { self.new ≡ slice_set self.old i (row_turning (row_at self.old i) turn) }
@@ -178,14 +177,14 @@ impl<'d> Rows<'d> {
         &self.rows[i]
     }
 
-    /// How many rows there are.
+    /// The number of rows.
     pub fn len(&self) -> usize
         ensures { result ≡ length self.now }
     {
         self.rows.len()
     }
 
-    /// Whether each saga is ended or stuck. Looks at no row.
+    /// Whether each saga is ended or stuck. Reads no row.
     pub fn are_over(&self) -> bool
         ensures { IsTrue result
             ↔ ((i : ℕ) → i < length self.now → is_over (row_at self.now i) ≡ true) }
@@ -193,7 +192,7 @@ impl<'d> Rows<'d> {
         self.open_rows == 0
     }
 
-    /// The first task of all, by row and then by step. Looks at no row but the one that has it.
+    /// The first task of all, by row and then by step. Reads only the row that has it.
     pub fn next(&self) -> Option<(usize, RowTask)>
         ensures { MatchOption result
             ((i : ℕ) → i < length self.now → RowAllowsNone (row_at self.now i))

@@ -1,6 +1,6 @@
-//! What there is to do in one saga.
+//! Tasks of one saga.
 
-/// What may start in a saga, with the step's number.
+/// A task that may start in a saga, with the step's number.
 #[derive(Clone, Copy, Debug, PartialEq, Eq)]
 pub enum RowTask {
     /// A step's action.

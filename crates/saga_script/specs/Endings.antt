@@ -10,17 +10,17 @@ outcome_of Done = outcome.Done
 outcome_of Failed = outcome.Failed
 outcome_of DoneThenAbort = outcome.Done
 
--- the saga is to be aborted after it
+-- the saga is aborted after it
 abbrev pub asks_abort : Ending → Bool
 asks_abort Done = false
 asks_abort Failed = false
 asks_abort DoneThenAbort = true
 
--- a line names the attempt of that number: it names no attempt, and so each, or just this one
+-- a line applies to the attempt with this number: it names no attempt, which means each, or it names this one
 abbrev pub is_attempt : Option ℕ → ℕ → Bool
 is_attempt None attempt = true
 is_attempt (Some named) attempt = attempt == named
 
--- the place of an attempt in a row of ten; place 0 is for all attempts that no line can name
+-- the index of an attempt in a row of ten; index 0 is for all attempts that no line can name
 abbrev pub place_of : ℕ → ℕ
 place_of attempt = if nat_lt attempt 10 then attempt else 0

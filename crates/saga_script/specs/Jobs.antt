@@ -1,4 +1,4 @@
--- What a script tells of a job.
+-- What a script states about a job.
 use Rattle.std.specs.Prelude.{◌≡◌, List, true}
 use Rattle.saga_history.specs.declared.tasks.Outcome.{Outcome}
 use Rattle.saga_desk.specs.Job.{Job}
@@ -8,18 +8,18 @@ use Rattle.saga_script.specs.Statements.{Statement}
 use Rattle.saga_script.specs.Questions.{Question, question, ending_of}
 use Rattle.saga_script.specs.Table.{ending_in}
 
--- how the job's attempt at its action of its step of its saga ends
+-- the question how the job's attempt of its action of its step ends
 abbrev pub question_of : Job → Question
 question_of job = question job.saga job.name job.is_undo job.attempt
 
--- a script may answer to a job what it tells of it, and asks for an abort just where it tells that
+-- a script may return for a job the outcome that it states, and requests an abort if and only if it states one
 abbrev pub MayAnswer : Script → Job → Outcome → Type 0
 MayAnswer script job outcome = outcome ≡ outcome_of (ending_in script (question_of job))
 
 abbrev pub AsksAbort : Script → Job → Type 0
 AsksAbort script job = asks_abort (ending_in script (question_of job)) ≡ true
 
--- the same, of what the lines of a script's text say
+-- the same, from the statements of a script's text
 abbrev pub IsTold : List Statement → Job → Outcome → Type 0
 IsTold statements job outcome = outcome ≡ outcome_of (ending_of (question_of job) statements)
 

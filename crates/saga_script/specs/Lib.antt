@@ -1,4 +1,4 @@
--- Scripts, and what they tell.
+-- Scripts, and look-ups in them.
 pub mod Limits
 pub mod Endings
 pub mod Statements

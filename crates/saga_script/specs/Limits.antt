@@ -1,6 +1,6 @@
 -- The limit of a script.
 use Rattle.std.specs.Prelude.{ℕ}
 
--- the most bytes
+-- the maximum number of bytes
 abbrev pub max_script : ℕ
 max_script = 1048576

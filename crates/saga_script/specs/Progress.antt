@@ -1,4 +1,4 @@
--- What lines tell of one question, line by line.
+-- The answer of lines to one question, line by line.
 use Rattle.std.specs.Prelude.{ℕ, ◌+◌, List, [], ◌∷◌, Option, Some, None, Result, Ok, Err, if◌then◌else◌}
 use Rattle.saga_bytes.specs.Lines.{lines_of}
 use Rattle.saga_script.specs.declared.endings.Ending.{Ending}
@@ -9,7 +9,7 @@ use Rattle.saga_script.specs.Statements.{Statement, statement_of}
 use Rattle.saga_script.specs.Questions.{Question, names}
 pub use Rattle.saga_script.specs.Scripts.{Fails}
 
--- what one more statement tells
+-- the answer after one more statement
 abbrev pub told_by : Question → Ending → Statement → Ending
 told_by q before s = if names q s then s.ending else before
 
@@ -23,6 +23,6 @@ told_after q before number ([] ∷ lines) = told_after q before (number + 1) lin
 told_after q before number ((byte ∷ line) ∷ lines) =
     on_line number (statement_of (byte ∷ line)) (λ s. told_after q (told_by q before s) (number + 1) lines)
 
--- what the lines of a text tell
+-- the answer after the lines of a text
 abbrev pub told_from : Question → List ℕ → Result Ending ScriptFault
 told_from q text = told_after q Done 1 (lines_of text)

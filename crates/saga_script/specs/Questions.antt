@@ -1,4 +1,4 @@
--- What a script is asked, and the last statement that tells it.
+-- Questions to a script, and the last statement that answers them.
 use Rattle.std.specs.Prelude.{ℕ, ◌==◌, List, Bool, true, false, ◌&&◌, not, Option, Some, None}
 use Rattle.std.specs.List.{filter, last_or}
 use Rattle.std.specs.Str.{bytes_eq}
@@ -26,11 +26,11 @@ abbrev pub names : Question → Statement → Bool
 names q s =
     bytes_eq s.name q.name && (((s.saga == q.saga) && is_same s.is_undo q.is_undo) && is_attempt s.attempt q.attempt)
 
--- done where nothing is said
+-- done if there is no statement
 abbrev pub ending_or_done : Option Statement → Ending
 ending_or_done None = Done
 ending_or_done (Some s) = s.ending
 
--- the ending of the last statement that names it
+-- the ending of the last statement that names the question
 abbrev pub ending_of : Question → List Statement → Ending
 ending_of q statements = ending_or_done (last_or None (filter (names q) statements))

@@ -1,4 +1,4 @@
--- What a script's table tells.
+-- Look-ups in the table of a script.
 use Rattle.std.specs.Prelude.{ℕ, ◌+◌, ◌*◌, List, Bool, Option, Some, None, String, slice_index_or, nat_eq, if◌then◌else◌}
 use Rattle.std.specs.Global.{Global}
 use Rattle.std.specs.HashMap.{HashMap, get, get_by_text}
@@ -8,7 +8,7 @@ use Rattle.saga_script.specs.declared.scripts.Script.{Script}
 use Rattle.saga_script.specs.Endings.{place_of}
 use Rattle.saga_script.specs.Questions.{Question}
 
--- the number of an action of a saga
+-- the table key for an action of a saga
 abbrev pub key_of : ℕ → Bool → ℕ
 key_of saga is_undo = saga * 2 + (if is_undo then 1 else 0)
 

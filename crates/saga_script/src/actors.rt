@@ -1,4 +1,4 @@
-//! A script acts: what it tells of a job is what it answers.
+//! A script as an actor: its outcome for a job is the one that the script states.
 use crate::scripts::Script;
 use saga_desk::Job;
 use saga_history::Outcome;

@@ -1,4 +1,4 @@
-//! How a line of a script says that an action ends.
+//! How an action ends, as a line of a script states it.
 ghost use Rattle.std.specs.Prelude.{ℕ, ◌≡◌, ◌<◌, IfSome, slice_index_or, if◌then◌else◌};
 ghost use Rattle.saga_script.specs.Endings.{outcome_of, asks_abort, is_attempt, place_of};
 
@@ -9,15 +9,15 @@ use saga_history::Outcome;
 pub enum Ending {
     Done,
     Failed,
-    /// Done, and the saga is to be aborted after it.
+    /// It succeeds, and the saga is aborted after it.
     DoneThenAbort,
 }
 
-/// How many tries an action has at most, and a place for all that come after them.
+/// The maximum number of tries of an action, and one more index for all later attempts.
 pub const PLACES: usize = 10;
 
 impl Ending {
-    /// The outcome that it is.
+    /// The outcome of this ending.
     pub fn outcome(self) -> Outcome
         ensures { result ≡ outcome_of self }
     {
@@ -27,7 +27,7 @@ impl Ending {
         }
     }
 
-    /// Whether the saga is to be aborted after it.
+    /// Whether the saga is aborted after it.
     pub fn asks_abort(self) -> bool
         ensures { result ≡ asks_abort self }
     {
@@ -35,7 +35,8 @@ impl Ending {
     }
 }
 
-/// The endings of all attempts, with a new one for that attempt, or for each where there is none.
+/// The endings of all attempts, in which the new ending replaces that of the given attempt, or of each attempt if none
+/// is given.
 pub fn with_ending(row: [Ending; PLACES], attempt: Option<u8>, ending: Ending) -> [Ending; PLACES]
     requires { IfSome attempt (λ k. k < 10) }
     ensures { (k : ℕ) (d : Ending) → k < 10 → slice_index_or result k d
@@ -51,7 +52,7 @@ pub fn with_ending(row: [Ending; PLACES], attempt: Option<u8>, ending: Ending) -
     }
 }
 
-/// The place of an attempt in a row. Attempts past the last that a line can name have place 0.
+/// The index of an attempt in a row. Attempts after the last one that a line can name have index 0.
 pub fn place_of(attempt: u64) -> usize
     ensures place { result ≡ place_of attempt }
     ensures within { result < 10 }

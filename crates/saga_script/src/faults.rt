@@ -2,14 +2,14 @@
 use std::alloc::AllocError;
 use std::convert::From;
 
-/// Why a script is refused. `OutOfMemory` may stand in place of any answer.
+/// Why a script is refused. `OutOfMemory` may replace any other result.
 #[derive(Clone, Copy, Debug, PartialEq, Eq)]
 pub enum ScriptFault {
-    /// More bytes than [`MAX_SCRIPT`](crate::MAX_SCRIPT).
+    /// The script has more bytes than [`MAX_SCRIPT`](crate::MAX_SCRIPT).
     TooLong,
-    /// The first line that is not of the form, by its number from 1; empty lines are counted.
+    /// The number, from 1, of the first line that does not have the format. Empty lines are counted.
     BadLine(usize),
-    /// A growth of memory was refused.
+    /// A memory allocation failed.
     OutOfMemory,
 }
 

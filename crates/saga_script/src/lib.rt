@@ -1,7 +1,7 @@
-//! Scripts: how the actions and compensations of sagas end, told beforehand by the lines of a text.
+//! Scripts: the lines of a text state in advance how the actions and compensations of sagas end.
 //!
-//! `docs/FORMATS.md` of the repository has the form. Reading makes a table, so that a look-up goes over no lines. A script
-//! is an actor: workers run sagas by it.
+//! `docs/FORMATS.md` of the repository has the format. Reading a script builds a table, so a look-up does not scan the
+//! lines. A script is an actor: workers can run sagas with it.
 #![tactic(auto)]
 
 mod actors;

@@ -1,4 +1,4 @@
 //! Limits of a script.
 
-/// The greatest length of a script in bytes.
+/// The maximum length of a script in bytes.
 pub const MAX_SCRIPT: usize = 1_048_576;

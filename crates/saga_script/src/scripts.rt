@@ -1,4 +1,4 @@
-//! Scripts, and what they tell.
+//! Scripts, and look-ups in them.
 ghost use Rattle.std.specs.Prelude.{◌≡◌, ◌<◌, Bool, ℕ, Ok, OnOk, IfOk, IfErr, IfSome, if◌then◌else◌};
 ghost use Rattle.saga_script.specs.Endings.{outcome_of, asks_abort};
 ghost use Rattle.saga_script.specs.Statements.{stated};
@@ -16,11 +16,11 @@ use std::collections::HashMap;
 /// How actions and compensations end.
 #[derive(Drop)]
 pub struct Script {
-    /// By a step's name, and then by saga and action, the ending of each attempt.
+    /// The endings of all attempts, by a step's name and then by saga and action.
     table: HashMap<String, HashMap<u64, [Ending; PLACES]>>,
 }
 
-/// The number of an action of a saga.
+/// The table key for an action of a saga.
 fn key_of(saga: u32, is_undo: bool) -> u64
     ensures { result ≡ key_of saga is_undo }
 {
@@ -33,7 +33,7 @@ impl Script {
     ghost use Rattle.saga_script.specs.Scripts.{ReadsScript};
     ghost use Rattle.saga_script.specs.Progress.{told_from, told_by, Fails};
 
-    /// Adds what one more line says.
+    /// Adds one more statement.
     #[tactic(auto, unfolding(crate::specs::Table::ending_told))]
     fn add(&mut self, alloc: Global, statement: &Statement<'_>) -> Result<(), AllocError>
         requires { IfSome statement.now.attempt (λ k. (0 < k) × (k < 10)) }
@@ -56,7 +56,7 @@ impl Script {
         Ok(())
     }
 
-    /// The table of a text's lines, or the first line that is not of the form.
+    /// The table for the lines of a text, or the first line that does not have the format.
     fn of_lines(alloc: Global, bytes: &[u8]) -> Result<Script, ScriptFault>
         ensures ok { IfOk result (λ s. (q : Question) → told_from q bytes.now
             ≡ Ok (ending_told s.table q)) }
@@ -103,8 +103,8 @@ impl Script {
         }
     }
 
-    /// The outcome of an attempt, counted from 1, at a step's action or compensation: that of the last line that names
-    /// saga, step and action, and this attempt or none; done where there is none. Takes no memory.
+    /// The outcome of an attempt, counted from 1, of a step's action or compensation. The last line that names saga,
+    /// step and action, and this attempt or none, states it. Without such a line the outcome is done. Takes no memory.
     pub fn outcome(&self, saga: u32, name: &str, is_undo: bool, attempt: u64) -> Outcome
         ensures { result
             ≡ outcome_of (ending_in self.now (question saga name.now is_undo attempt)) }
@@ -112,7 +112,7 @@ impl Script {
         self.ending(saga, name, is_undo, attempt).outcome()
     }
 
-    /// Whether that line asks that the saga be aborted. Takes no memory.
+    /// Whether this line requests an abort of the saga. Takes no memory.
     pub fn asks_abort(&self, saga: u32, name: &str, is_undo: bool, attempt: u64) -> bool
         ensures { result
             ≡ asks_abort (ending_in self.now (question saga name.now is_undo attempt)) }

@@ -4,3 +4,6 @@ mod DriveLemmas
 mod SurvivalLemmas
 mod TalkLemmas
 mod ServedLemmas
+mod GrowingLemmas
+mod InputLemmas
+mod ShelfLemmas

@@ -3,5 +3,7 @@ pub mod Limits
 pub mod Outside
 pub mod Logs
 pub mod Shown
+pub mod Inputs
+pub mod Shelves
 pub mod Conversations
 pub mod Drives

@@ -15,10 +15,14 @@
 
 mod besides;
 mod endings;
+mod growing;
+mod inputs;
+mod laws;
 mod limits;
 mod lines;
 mod outside;
 mod pending;
+mod shelves;
 mod shown;
 mod sides;
 mod starts;
@@ -27,6 +31,7 @@ mod streams;
 mod talks;
 
 pub use endings::{Ending, Stream};
+pub use laws::shelf_laws;
 pub use limits::MAX_BESIDE;
 pub use lines::{drive_lines, show_log};
 pub use outside::{FileFault, OpenFault, Outside};

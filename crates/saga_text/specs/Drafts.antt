@@ -5,7 +5,7 @@ use Rattle.std.specs.declared.alloc.Global.{Global}
 use Rattle.saga_text.specs.declared.drafts.Draft.{Draft}
 use Rattle.saga_text.specs.Format.{Written}
 
--- the names that a list of borrowed texts holds
+-- the names in a list of borrowed texts
 abbrev pub names_of : Vec (Bor (List ℕ)) Global → List (List ℕ)
 names_of names = map (λ name. name.now) names.items
 

@@ -1,4 +1,4 @@
--- The definition that a tree holds, as the table of the format says, a key a line.
+-- The definition in a tree, as the table of the format specifies it, with one line for each key.
 use Rattle.std.specs.Prelude.{ℕ, ◌+◌, List, [], ◌∷◌, ◌++◌, Bool, true, not, ◌&&◌, ◌||◌, ◌==◌, Option, Some, Result, Ok, Err, pos, codes, if◌then◌else◌, map}
 use Rattle.std.specs.List.{list_all, position_or_len}
 use Rattle.std.specs.Result.{result_unwrap_or}
@@ -40,16 +40,16 @@ is_step_key First key = is_plain_step_key key
 is_step_key Second key =
     is_plain_step_key key || bytes_eq key (codes "tries") || bytes_eq key (codes "undo_tries")
 
--- a test of tables, which what is no table passes
+-- a test of tables; a value that is not a table passes
 abbrev pub passes : (Members → Bool) → Data → Bool
 passes test (table members) = test members
 passes test _ = true
 
--- a table with keys of a step alone
+-- all keys of a table are keys of a step
 abbrev pub has_step_keys : Format → Members → Bool
 has_step_keys format step = list_all (is_step_key format) (keys_of step)
 
--- what the list `step` holds; nothing where `step` is no list
+-- the items of the list `step`, or none if `step` is not a list
 abbrev pub step_items : Members → List Data
 step_items top = result_unwrap_or (list_at (codes "step") top) []
 
@@ -59,7 +59,7 @@ has_known_keys format top =
     list_all is_top_key (keys_of top)
     && list_all (passes (has_step_keys format)) (step_items top)
 
--- a name is there at the top, and in each table of the list `step`
+-- a name is present at the top, and in each table of the list `step`
 unfoldable pub has_names : Members → Bool
 has_names top =
     has_key (codes "name") top && list_all (passes (has_key (codes "name"))) (step_items top)
@@ -82,13 +82,13 @@ abbrev pub needs_of : Data → Result (List (List ℕ)) TextFault
 needs_of (table members) = texts_at (codes "needs") members
 needs_of _ = Err BadType
 
--- a definition as it is written: each step with the names of those that it needs
+-- a definition as it is written: each step with the names of the steps that it needs
 pub record Written : Type 0 where
   pub name : List ℕ
   pub steps : List Step
   pub needs : List (List (List ℕ))
 
--- the kinds of all values
+-- the draft, by the kinds of all values
 unfoldable pub kinds_of : Members → Result Written TextFault
 kinds_of top = do
   name ← name_at (codes "name") top
@@ -97,33 +97,33 @@ kinds_of top = do
   needs ← each needs_of items
   Ok (record { name = name; steps = steps; needs = needs })
 
--- the same, where the keys are known and the names are there
+-- the same, if the keys are known and the names are present
 abbrev pub checked_of : Format → Members → Result Written TextFault
 checked_of format top =
     if not (has_known_keys format top) then Err UnknownKey
     else (if not (has_names top) then Err MissingKey else kinds_of top)
 
--- what is written, or the first fault
+-- the draft of a file, or the first fault
 abbrev pub written_of : Members → Result Written TextFault
 written_of top = do
   format ← format_of top
   checked_of format top
 
--- the number of a name: the first step that has it, or the number of steps where none has
+-- the number of a name: that of the first step with this name, or the number of steps if there is none
 abbrev pub number_of : List Step → List ℕ → ℕ
 number_of steps name = position_or_len (λ (step : Step). bytes_eq name step.name) steps
 
--- the needs of steps numbered from `first` on, in the order of steps, then of writing
+-- the needs of steps numbered from `first` on, in the order of the steps and then in the order of the file
 abbrev pub numbered : (List ℕ → ℕ) → ℕ → List (List (List ℕ)) → List Need
 numbered number first [] = []
 numbered number first (names ∷ rest) =
     map (λ name. record { step = first; on = number name }) names ++ numbered number (first + 1) rest
 
--- the definition that is written
+-- the definition of a draft
 abbrev pub contents_from : Written → Contents
 contents_from written = contents written.name written.steps (numbered (number_of written.steps) 0 written.needs)
 
--- the definition that a tree holds, or the first fault
+-- the definition in a tree, or the first fault
 abbrev pub contents_of : Members → Result Contents TextFault
 contents_of top = do
   written ← written_of top

@@ -1,4 +1,4 @@
--- What a definition file is.
+-- The contents of a definition file.
 pub mod Trees
 pub mod Kinds
 pub mod Format

@@ -1,4 +1,4 @@
--- The tree that `toml` reads of a text, as lists.
+-- The tree to which `toml` parses a text, as lists.
 use Rattle.std.specs.Prelude.{ℕ, List, [], ◌∷◌, IsUtf8, Some, ◌≡◌}
 use Rattle.toml.specs.Data.{Data, Items, no_items, item, Members, no_members, member}
 use Rattle.toml.specs.Parse.{parse_document}
@@ -13,7 +13,7 @@ abbrev pub keys_of : Members → List (List ℕ)
 keys_of no_members = []
 keys_of (member key value rest) = key ∷ keys_of rest
 
--- the text is UTF-8, and `toml` reads it as this tree
+-- the text is UTF-8, and `toml` parses it to this tree
 pub record IsTextOf (top : Members) (text : List ℕ) : Type 0 where
   pub utf8 : IsUtf8 text
   pub tree : parse_document text ≡ Some top

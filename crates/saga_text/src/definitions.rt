@@ -1,4 +1,4 @@
-//! Reading a definition file.
+//! Reads a definition file.
 ghost use Rattle.std.specs.Prelude.{◌≡◌, ◌↔◌, ◌<◌, ℕ, List, length, IsTrue, MatchResult, IfOk, IfErr};
 ghost use Rattle.toml.specs.Data.{Members};
 ghost use Rattle.toml.specs.View.{table_view};
@@ -18,7 +18,7 @@ use saga_def::{DefFault, Definition, MAX_STEPS};
 use std::alloc::Global;
 use toml::Table;
 
-/// The tree of a text.
+/// Parses a text into a tree.
 fn read_tree(alloc: Global, bytes: &[u8]) -> Result<Table, TextFault>
     ensures { MatchResult result (λ top. IsTextOf (table_view top) bytes.now)
         (IsTreeFault bytes.now) }
@@ -35,7 +35,7 @@ fn read_tree(alloc: Global, bytes: &[u8]) -> Result<Table, TextFault>
     }
 }
 
-/// The definition of a draft. Names are numbered only where the steps are not too many.
+/// Builds the definition of a draft. Names are resolved to numbers only if the number of steps is within the limit.
 fn build(alloc: Global, draft: Draft<'_>) -> Result<Definition, TextFault>
     ensures built { IfOk result (λ d. (d ≡ contents_from (written draft.entry)) × IsSound d) }
     ensures fault { IfErr result (IsFirstCarried (contents_from (written draft.entry))) }
@@ -61,8 +61,8 @@ fn is_too_long(bytes: &[u8]) -> bool
     bytes.len() > MAX_DEFINITION
 }
 
-/// Reads a definition file, of format 1 or 2, in time linear in the text beside what `toml` and
-/// [`Definition::build`] take.
+/// Reads a definition file, of format 1 or 2. Takes time linear in the text, in addition to the time of `toml` and
+/// [`Definition::build`].
 pub fn read_definition(alloc: Global, bytes: &[u8]) -> Result<Definition, TextFault>
     ensures reads { Reads bytes.now result }
     ensures accepts { (c : Contents) → Holds bytes.now (Ok c) → IsSound c

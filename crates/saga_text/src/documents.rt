@@ -1,4 +1,4 @@
-//! Reading what a whole file writes.
+//! Reads the contents of a whole file.
 ghost use Rattle.std.specs.Prelude.{◌≡◌, map};
 ghost use Rattle.toml.specs.View.{view, table_view};
 ghost use Rattle.saga_text.specs.Reads.{Gives};
@@ -13,7 +13,7 @@ use crate::steps::{needs_of_each, steps_of};
 use std::alloc::Global;
 use toml::{Table, Value};
 
-/// The kinds of all values: what a file writes whose keys are known and whose names are there.
+/// Reads all values by their kinds: the draft of a file whose keys are known and whose names are present.
 #[tactic(auto, unfolding(crate::specs::Format::kinds_of))]
 fn kinds_of<'a>(alloc: Global, top: &'a Table) -> Result<Draft<'a>, TextFault>
     ensures { Gives written result (kinds_of (table_view top.entry.now)) }
@@ -25,14 +25,14 @@ fn kinds_of<'a>(alloc: Global, top: &'a Table) -> Result<Draft<'a>, TextFault>
     Ok(Draft { name, steps, needs })
 }
 
-/// The items of the list `step`: none where it is no list.
+/// The items of the list `step`, or none if it is not a list.
 fn step_items(top: &Table) -> &[Value]
     ensures { map view result.now ≡ step_items (table_view top.entry.now) }
 {
     list_at(top, "step").unwrap_or(&[])
 }
 
-/// Whether the format has each key of the file.
+/// Whether all keys of the file are keys of the format.
 #[tactic(auto, unfolding(crate::specs::Format::has_known_keys))]
 fn has_known_keys(top: &Table, format: Format) -> bool
     ensures { result ≡ has_known_keys format (table_view top.now) }
@@ -40,7 +40,7 @@ fn has_known_keys(top: &Table, format: Format) -> bool
     top_keys_are_known(top) && items_keys_are_known(step_items(top), format)
 }
 
-/// Whether each name is there.
+/// Whether each name is present.
 #[tactic(auto, unfolding(crate::specs::Format::has_names))]
 fn has_names(top: &Table) -> bool
     ensures { result ≡ has_names (table_view top.now) }
@@ -48,7 +48,7 @@ fn has_names(top: &Table) -> bool
     has_key(top, "name") && items_have_key(step_items(top), "name")
 }
 
-/// What a file writes.
+/// Reads the draft of a file.
 pub fn read_draft<'a>(alloc: Global, top: &'a Table) -> Result<Draft<'a>, TextFault>
     ensures { Gives written result (written_of (table_view top.entry.now)) }
 {

@@ -1,9 +1,9 @@
-//! A definition as a file writes it.
+//! A definition as it is written in a file.
 ghost use Rattle.std.specs.Prelude.{◌≡◌, length};
 
 use saga_def::{Step, Text};
 
-/// A definition as it is written. The needs hold, for each step, the names of those that it needs.
+/// A definition as it is written. `needs` has, for each step, the names of the steps that it needs.
 #[derive(Drop)]
 pub struct Draft<'a> {
     pub name: Text,

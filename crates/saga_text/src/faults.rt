@@ -5,8 +5,8 @@ use saga_def::DefFault;
 use std::alloc::{AllocError, AllocFailed};
 use std::convert::From;
 
-/// Why [`read_definition`](crate::read_definition) refuses a file. Where several faults are there, the first of this
-/// list is given, looked for in the whole file; `OutOfMemory` may stand in place of any answer.
+/// Why [`read_definition`](crate::read_definition) refuses a file. If a file has several faults, the result is the
+/// first one in this list, for the whole file. `OutOfMemory` may replace any other result.
 #[derive(Debug, Drop)]
 pub enum TextFault {
     /// More than [`MAX_DEFINITION`](crate::MAX_DEFINITION) bytes.
@@ -15,22 +15,22 @@ pub enum TextFault {
     NotToml,
     /// `format` is missing, or is not the integer 1 or 2.
     BadFormat,
-    /// A key at the top, or in a table of the list `step`, that the format does not have.
+    /// A key at the top, or in a table of the list `step`, is not a key of the format.
     UnknownKey,
-    /// No `name` at the top, or in a table of the list `step`.
+    /// A `name` is missing at the top, or in a table of the list `step`.
     MissingKey,
-    /// A value of another kind than the format says, a number below 0, or a price text other than `never`.
+    /// A value has the wrong type, a number is below 0, or the text of a cost is not `never`.
     BadType,
-    /// The file holds a definition, and this is its first fault. It is never `DefFault::OutOfMemory`.
+    /// The file has a definition, and this is its first fault. It is never `DefFault::OutOfMemory`.
     Def(DefFault),
-    /// A growth of memory was refused.
+    /// A memory allocation failed.
     OutOfMemory,
 }
 
 impl TextFault {
     ghost use Rattle.saga_text.specs.Faults.{word_of};
 
-    /// The fault in one word, as `bad-type`, for a line of output. A definition's fault has its own word.
+    /// The fault in one word, for example `bad-type`, for a line of output. A definition's fault has its own word.
     pub fn word(&self) -> &'static str
         ensures { result.now ≡ word_of self.now }
     {

@@ -1,4 +1,4 @@
-//! Which keys a file may have, and which it must have.
+//! The allowed and the required keys of a file.
 ghost use Rattle.std.specs.Prelude.{◌≡◌, ◌&&◌, map};
 ghost use Rattle.std.specs.List.{list_all};
 ghost use Rattle.toml.specs.View.{view, table_view};
@@ -46,21 +46,21 @@ fn is_step_key(format: Format, key: &str) -> bool
     }
 }
 
-/// Whether the format has each key at the top.
+/// Whether all keys at the top are keys of the format.
 pub fn top_keys_are_known(top: &Table) -> bool
     ensures { result ≡ list_all is_top_key (keys_of (table_view top.now)) }
 {
     top.keys().all(|key| is_top_key(key.as_str()))
 }
 
-/// Whether the format has each key of a step's table.
+/// Whether all keys of a step's table are keys of the format.
 fn step_keys_are_known(step: &Table, format: Format) -> bool
     ensures { result ≡ has_step_keys format (table_view step.now) }
 {
     step.keys().all(|key| is_step_key(format, key.as_str()))
 }
 
-/// Whether the format has each key of an item that is a table.
+/// Whether all keys of an item are keys of the format. An item that is not a table passes.
 fn item_keys_are_known(item: &Value, format: Format) -> bool
     ensures { result ≡ passes (has_step_keys format) (view item.now) }
 {
@@ -70,14 +70,14 @@ fn item_keys_are_known(item: &Value, format: Format) -> bool
     }
 }
 
-/// Whether the format has each key of each table among the items.
+/// Whether all keys of each table in the list are keys of the format.
 pub fn items_keys_are_known(items: &[Value], format: Format) -> bool
     ensures { result ≡ list_all (passes (has_step_keys format)) (map view items.now) }
 {
     items.iter().all(|item| item_keys_are_known(item, format))
 }
 
-/// Whether the item has the key where it is a table.
+/// Whether the item has the key. An item that is not a table passes.
 fn item_has_key(item: &Value, key: &str) -> bool
     ensures { result ≡ passes (has_key key.now) (view item.now) }
 {
@@ -87,7 +87,7 @@ fn item_has_key(item: &Value, key: &str) -> bool
     }
 }
 
-/// Whether each table among the items has the key.
+/// Whether each table in the list has the key.
 pub fn items_have_key(items: &[Value], key: &str) -> bool
     ensures { result ≡ list_all (passes (has_key key.now)) (map view items.now) }
 {

@@ -1,4 +1,4 @@
-//! What stands at a key of a table, by its kind.
+//! The values at keys of a table, by their kinds.
 ghost use Rattle.std.specs.Prelude.{◌≡◌, map, option_map, string_bytes};
 ghost use Rattle.toml.specs.Data.{get_member};
 ghost use Rattle.toml.specs.View.{view, table_view};
@@ -46,7 +46,7 @@ pub fn name_at(alloc: Global, table: &Table, key: &str) -> Result<Text, TextFaul
     }
 }
 
-/// A price: 0 where there is none.
+/// A cost. It is 0 if there is no value.
 fn price_in(value: Option<&Value>) -> Result<Price, TextFault>
     ensures { result ≡ price_in (option_map (λ v. view v.now) value.entry) }
 {
@@ -58,14 +58,14 @@ fn price_in(value: Option<&Value>) -> Result<Price, TextFault>
     }
 }
 
-/// The price at a key: 0 where there is none.
+/// The cost at a key. It is 0 if the key is missing.
 pub fn price_at(table: &Table, key: &str) -> Result<Price, TextFault>
     ensures { result ≡ price_at key.now (table_view table.now) }
 {
     price_in(value_at(table, key))
 }
 
-/// A count: 1 where there is none.
+/// A count. It is 1 if there is no value.
 fn count_in(value: Option<&Value>) -> Result<u64, TextFault>
     ensures { result ≡ count_in (option_map (λ v. view v.now) value.entry) }
 {
@@ -76,7 +76,7 @@ fn count_in(value: Option<&Value>) -> Result<u64, TextFault>
     }
 }
 
-/// The count at a key: 1 where there is none.
+/// The count at a key. It is 1 if the key is missing.
 pub fn count_at(table: &Table, key: &str) -> Result<u64, TextFault>
     ensures { result ≡ count_at key.now (table_view table.now) }
 {
@@ -93,7 +93,7 @@ fn items_of(value: &Value) -> Result<&[Value], TextFault>
     }
 }
 
-/// The items of the list at a key: none where the key is missing.
+/// The items of the list at a key, or none if the key is missing.
 pub fn list_at<'a>(table: &'a Table, key: &str) -> Result<&'a [Value], TextFault>
     ensures { seen (λ items. map view items.now) result
         ≡ list_at key.now (table_view table.entry.now) }

@@ -1,14 +1,14 @@
-//! Definition files: TOML texts that are read as definitions, exactly.
+//! Definition files: TOML texts that contain definitions. A contract states exactly which definition a text contains.
 //!
-//! `docs/FORMATS.md` of the repository has the format. [`read_definition`] decides on the tree that `toml` reads, so
-//! any spelling of the same tree is the same definition.
+//! `docs/FORMATS.md` of the repository has the format. [`read_definition`] uses the tree that `toml` reads, so two
+//! spellings of the same tree are the same definition.
 //!
 //! `TRIP` is such a text:
 //!
 //! ```
 //! match read_definition(alloc, TRIP.as_bytes()) {
 //!     Ok(trip) => Some(trip),
-//!     // The first fault, as the program tells it: bad-key, cycle, ..
+//!     // The first fault, as the program prints it: bad-key, cycle and so on.
 //!     Err(fault) => {
 //!         let _word = fault.word();
 //!         None

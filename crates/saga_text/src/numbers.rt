@@ -1,4 +1,4 @@
-//! Names of steps, and the numbers that they stand for.
+//! Names of steps, and their numbers.
 ghost use Rattle.std.specs.Prelude.{◌≡◌, ◌≤◌, ℕ, List, IfOk, OnOk, ◌++◌, length, map};
 ghost use Rattle.saga_text.specs.Format.{number_of, numbered};
 ghost use Rattle.saga_text.specs.Drafts.{names_of};
@@ -8,7 +8,7 @@ use indexmap::IndexMap;
 use saga_def::{Need, Step};
 use std::alloc::{AllocError, Global};
 
-/// The number of each name: of two steps with the same name the first one's.
+/// The number of each name. If two steps have the same name, it is the number of the first.
 fn numbers_of<'a>(alloc: Global, steps: &'a [Step]) -> Result<IndexMap<&'a str, u32>, AllocError>
     requires { length steps.now ≤ 65536 }
     ensures { IfOk result
@@ -45,7 +45,7 @@ fn push_needs<'a>(
     Ok(())
 }
 
-/// The needs of all steps, with numbers for names.
+/// The needs of all steps, with numbers instead of names.
 pub fn number_needs<'a>(
     alloc: Global,
     steps: &'a [Step],

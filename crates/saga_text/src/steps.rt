@@ -1,4 +1,4 @@
-//! Reading the tables of the list `step`.
+//! Reads the tables of the list `step`.
 ghost use Rattle.std.specs.Prelude.{◌≡◌, map};
 ghost use Rattle.toml.specs.View.{view, table_view};
 ghost use Rattle.saga_bytes.specs.Readings.{each};

@@ -1,4 +1,4 @@
--- What an audit of texts comes to, and what is printed of it.
+-- The result of an audit of texts, and its output.
 use Rattle.std.specs.Prelude.{ℕ, List, [], ◌++◌, codes, decimal, length, Ok, Err, IsTrue, ◌≡◌, ◌<◌, ◌≤◌, ◌↔◌}
 use Rattle.saga_def.specs.Contents.{Contents}
 use Rattle.saga_text.specs.Faults.{word_of as text_word_of}
@@ -16,17 +16,18 @@ use Rattle.saga_texts.specs.declared.audits.AuditConclusion.{AuditConclusion}
 use Rattle.saga_texts.specs.declared.audits.AuditTexts.{AuditTexts}
 use Rattle.saga_texts.specs.declared.audits.AuditConclusion.TheVariants.{TooManyDefinitions, LogTooLong, Log, Definition, Answered}
 use Rattle.saga_texts.specs.declared.outputs.Output.{Output}
-use Rattle.saga_texts.specs.Limits.{max_log, max_shelf}
+use Rattle.saga_texts.specs.Limits.{max_log, max_long_shelf}
 use Rattle.saga_texts.specs.Lines.{line_feed}
 use Rattle.saga_texts.specs.Outputs.{IsOutputWith}
 use Rattle.saga_texts.specs.Shelves.{AreDefinitions, IsFirstFaulty}
 
--- few enough definitions, and a log that is short enough
+-- the numbers of definitions and of bytes of the log are within the limits
 pub record AreWithin (log : List ℕ) (definitions : List (List ℕ)) : Type 0 where
-  pub few : length definitions ≤ max_shelf
+  pub few : length definitions ≤ max_long_shelf
   pub short : length log ≤ max_log
 
--- the texts hold a history and a shelf, and the auditor answers this: yes exactly where the history is legal over it
+-- the texts hold a history and a shelf, and this is the result of the auditor, which is `Yes` exactly if the history is
+-- legal over the shelf
 pub record IsAudited (log : List ℕ) (definitions : List (List ℕ)) (answer : AuditAnswer) : Type 0 where
   pub within : AreWithin log definitions
   pub events : List Event
@@ -36,10 +37,10 @@ pub record IsAudited (log : List ℕ) (definitions : List (List ℕ)) (answer : 
   pub answers : Audits shelf events answer
   pub exact : IsTrue (is_yes answer) ↔ IsLegal shelf (past events)
 
--- the first fault in the order number of definitions, log, definitions; or the auditor's answer
+-- the first fault in the order number of definitions, log, definitions; or the result of the auditor
 abbrev pub AuditsTo : List ℕ → List (List ℕ) → AuditConclusion → Type 0
-AuditsTo log definitions TooManyDefinitions = max_shelf < length definitions
-AuditsTo log definitions LogTooLong = (length definitions ≤ max_shelf) × (max_log < length log)
+AuditsTo log definitions TooManyDefinitions = max_long_shelf < length definitions
+AuditsTo log definitions LogTooLong = (length definitions ≤ max_long_shelf) × (max_log < length log)
 AuditsTo log definitions (Log line why) = AreWithin log definitions × (log_of log ≡ Err (BadLine line why))
 AuditsTo log definitions (Definition place why) =
     AreWithin log definitions × ((events : List Event) × (log_of log ≡ Ok events)) × IsFirstFaulty definitions place why
@@ -51,7 +52,7 @@ pub record HoldAudit (log : List ℕ) (definitions : List (List ℕ)) (texts : A
   pub log_is : log_of log ≡ Ok texts.events.items
   pub shelf_is : AreDefinitions definitions texts.shelf.items
 
--- the first fault of texts that hold none
+-- the first fault of texts that do not hold both
 abbrev pub LackAudit : List ℕ → List (List ℕ) → AuditConclusion → Type 0
 LackAudit log definitions (Answered answer) = ⊥
 LackAudit log definitions conclusion = AuditsTo log definitions conclusion
@@ -82,7 +83,7 @@ abbrev pub status_of : AuditConclusion → ℕ
 status_of (Answered answer) = status_of_answer answer
 status_of conclusion = 3
 
--- the output shows what an audit of the texts comes to
+-- the output is that for the result of an audit of the texts
 pub record IsAuditOutput (log : List ℕ) (definitions : List (List ℕ)) (output : Output) : Type 0 where
   pub conclusion : AuditConclusion
   pub comes : AuditsTo log definitions conclusion

@@ -1,4 +1,4 @@
--- What a question about the case of two texts comes to.
+-- The result of a question about the case of two texts.
 use Rattle.std.specs.Prelude.{ℕ, List, [], ◌∷◌, Option, Some, None, option_map, length, Ok, Err, ◌≡◌, ◌≢◌, ◌<◌, ◌≤◌}
 use Rattle.std.specs.String.{string_bytes}
 use Rattle.saga_def.specs.Contents.{Contents}
@@ -25,7 +25,7 @@ use Rattle.saga_texts.specs.declared.conclusions.Question.TheVariants.{Check, Pl
 use Rattle.saga_texts.specs.declared.drawings.Scene.{Scene}
 use Rattle.saga_texts.specs.declared.drawings.Scene.TheVariants as scene
 
--- a right plan of that cost, which is least: no allowed set costs less
+-- a right plan with the minimum cost, which is this: no allowed set costs less
 pub record IsLeastPlan (c : Situation) (cost : ℕ) (plan : Plan) : Type 0 where
   pub right : IsRightPlan (terms_of c) plan
   pub least : IsLeast (terms_of c) (member plan.kept)
@@ -36,7 +36,7 @@ pub record IsBlocked (c : Situation) (chain : List ℕ) : Type 0 where
   pub right : IsRightChain (terms_of c) chain
   pub none : NoneIsAllowed (terms_of c)
 
--- what the judge says
+-- the verdict of the judge
 abbrev pub JudgesTo : Situation → Answer → Conclusion → Type 0
 JudgesTo c a (Refused fault) = IsFirstFault (terms_of c) a fault
 JudgesTo c (answer.Plan plan) (Least cost) = IsLeastPlan c cost plan
@@ -49,25 +49,26 @@ pub record AreRead (definition case : List ℕ) (d : Contents) (c : Situation) :
   pub short : length case ≤ max_certificate
   pub case_is : ReadsCase d case (Ok c)
 
--- the text is short enough, and holds that answer
+-- the text is within the limit and holds that answer
 pub record HoldsAnswer (text : List ℕ) (a : Answer) : Type 0 where
   pub short : length text ≤ max_certificate
   pub answer_is : ReadsAnswer text (Ok a)
 
--- the first fault of a text that holds none
+-- the first fault of a text that does not hold an answer
 abbrev pub LacksAnswer : List ℕ → Conclusion → Type 0
 LacksAnswer text AnswerTooLong = max_certificate < length text
 LacksAnswer text (AnswerFault fault) =
     (length text ≤ max_certificate) × ReadsAnswer text (Err fault) × (fault ≢ cert.OutOfMemory)
 LacksAnswer text conclusion = ⊥
 
--- what a check of an answer's text comes to: its first fault, or what the judge says of what it holds
+-- the result of a check of an answer's text: its first fault, or the verdict of the judge on its answer
 abbrev pub ChecksTo : List ℕ → Situation → Conclusion → Type 0
 ChecksTo text c AnswerTooLong = LacksAnswer text AnswerTooLong
 ChecksTo text c (AnswerFault fault) = LacksAnswer text (AnswerFault fault)
 ChecksTo text c conclusion = (a : Answer) × HoldsAnswer text a × JudgesTo c a conclusion
 
--- an answer of the planner: right, its plan least and contained in every least set, its chain where no set is allowed
+-- an answer of the planner: it is right; its plan has the minimum cost and is contained in every set with the minimum
+-- cost; its chain shows that no set is allowed
 pub record IsPlanned (c : Situation) (a : Answer) : Type 0 where
   pub right : IsRight (terms_of c) a
   pub settles : Settles (terms_of c) a
@@ -77,23 +78,23 @@ abbrev pub PlansTo : Situation → Conclusion → Type 0
 PlansTo c (Planned a) = IsPlanned c a
 PlansTo c conclusion = ⊥
 
--- a drawing of the case, with what the answer marks, if one is given
+-- a drawing of the case, with the marks of the answer if one is given
 abbrev pub ShowsCase : Situation → Option Answer → Conclusion → Type 0
 ShowsCase c a (Drawn text) = IsDrawing c.definition (Some c.states) a (string_bytes text)
 ShowsCase c a conclusion = ⊥
 
--- the answer is right, so its plan is least, or no set is allowed, and it is drawn
+-- the answer is right, so its plan has the minimum cost or no set is allowed, and the result is the drawing
 pub record ShowsRight (c : Situation) (a : Answer) (conclusion : Conclusion) : Type 0 where
   pub right : IsRight (terms_of c) a
   pub settles : Settles (terms_of c) a
   pub shows : ShowsCase c (Some a) conclusion
 
--- what a drawing of an answer comes to: the judge's first fault, or the drawing of a right one
+-- the result of a drawing of an answer: the first fault found by the judge, or the drawing if the answer is right
 abbrev pub DrawsRight : Situation → Answer → Conclusion → Type 0
 DrawsRight c a (Refused fault) = IsFirstFault (terms_of c) a fault
 DrawsRight c a conclusion = ShowsRight c a conclusion
 
--- what a drawing of a case comes to: the first fault of the answer's text, where one is given, or what follows from what it holds
+-- the result of a drawing of a case: the first fault of the answer's text if one is given, or the result for its answer
 abbrev pub DrawsTo : Option (List ℕ) → Situation → Conclusion → Type 0
 DrawsTo None c conclusion = ShowsCase c None conclusion
 DrawsTo (Some text) c AnswerTooLong = LacksAnswer text AnswerTooLong
@@ -105,14 +106,14 @@ AnswersTo (Check text) c conclusion = ChecksTo text.now c conclusion
 AnswersTo APlan c conclusion = PlansTo c conclusion
 AnswersTo (Draw answer) c conclusion = DrawsTo (option_map (λ t. t.now) answer) c conclusion
 
--- the question is answered about the case that the texts hold
+-- the result answers the question about the case of the texts
 pub record IsAnswered (answers : Situation → Conclusion → Type 0) (definition case : List ℕ) (conclusion : Conclusion) : Type 0 where
   pub contents : Contents
   pub situation : Situation
   pub read : AreRead definition case contents situation
   pub answered : answers situation conclusion
 
--- the first fault in the order definition, case, answer; or what answers the question
+-- the first fault in the order definition, case, answer; or the result of the question
 abbrev pub ComesTo : (Situation → Conclusion → Type 0) → List ℕ → List ℕ → Conclusion → Type 0
 ComesTo answers definition case (Definition fault) = Reads definition (Err fault) × (fault ≢ text.OutOfMemory)
 ComesTo answers definition case CaseTooLong = (d : Contents) × Reads definition (Ok d) × (max_certificate < length case)
@@ -121,19 +122,21 @@ ComesTo answers definition case (Case fault) =
     × (fault ≢ cert.OutOfMemory)
 ComesTo answers definition case conclusion = IsAnswered answers definition case conclusion
 
--- a drawing of the definition of a text: its first fault, or the drawing without states and answer
+-- the result of a drawing of the definition of a text: its first fault, or the drawing without states and without an
+-- answer
 abbrev pub DrawsAlone : List ℕ → Conclusion → Type 0
 DrawsAlone definition (Definition fault) = Reads definition (Err fault) × (fault ≢ text.OutOfMemory)
 DrawsAlone definition (Drawn picture) = (d : Contents) × Reads definition (Ok d) × IsDrawing d None None (string_bytes picture)
 DrawsAlone definition conclusion = ⊥
 
--- the texts beside the definition
+-- the texts in addition to the definition
 abbrev pub beside : Scene → List (List ℕ)
 beside scene.Definition = []
 beside (scene.Case case) = case.now ∷ []
 beside (scene.Answer case answer) = case.now ∷ answer.now ∷ []
 
--- a drawing of a definition with such texts beside it: the first fault in the order definition, case, answer; or the drawing
+-- the result of a drawing of a definition with these additional texts: the first fault in the order definition, case,
+-- answer; or the drawing
 abbrev pub DrawsWith : List (List ℕ) → List ℕ → Conclusion → Type 0
 DrawsWith [] definition = DrawsAlone definition
 DrawsWith (case ∷ []) definition = ComesTo (DrawsTo None) definition case

@@ -1,4 +1,4 @@
--- What is answered to texts.
+-- The commands of the program for texts.
 pub mod Texts
 pub mod Audits
 pub mod Beside

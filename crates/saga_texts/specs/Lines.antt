@@ -1,4 +1,4 @@
--- What is printed of a conclusion, and the status.
+-- The text that is printed for a result, and the exit status.
 use Rattle.std.specs.Prelude.{ℕ, List, [], ◌∷◌, ◌++◌, codes}
 use Rattle.std.specs.Fmt.{decimal}
 use Rattle.std.specs.String.{string_bytes}
@@ -47,7 +47,7 @@ abbrev pub status_of_answer : TheAnswer → ℕ
 status_of_answer (answer.Plan plan) = 0
 status_of_answer (answer.Blocked chain) = 1
 
--- 0 for what is right, 1 for a refused answer, 3 for bad input
+-- 0 for a positive result, 1 for a refused answer, 3 for bad input
 abbrev pub status_of : Conclusion → ℕ
 status_of (Least cost) = 0
 status_of Blocked = 0

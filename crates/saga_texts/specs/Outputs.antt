@@ -1,4 +1,4 @@
--- When an output shows a conclusion.
+-- The relation between a result and its output.
 use Rattle.std.specs.Prelude.{ℕ, List, Ok, ◌≡◌}
 use Rattle.std.specs.String.{string_bytes}
 use Rattle.serde_json.specs.Written.{compact_text}
@@ -14,12 +14,12 @@ pub record Shows (conclusion : Conclusion) (output : Output) : Type 0 where
   pub err : string_bytes output.err ≡ err_of conclusion
   pub status : output.status ≡ status_of conclusion
 
--- the text of an answer that is printed is read as that answer, where it has as many marks as numbers of its flow
+-- the printed text of an answer is read back as that answer, if its flow has as many marks as numbers
 abbrev pub ReadsBack : Conclusion → Type 0
 ReadsBack (Planned a) = IsPaired a → ReadsAnswer (compact_text (answer_form a)) (Ok a)
 ReadsBack conclusion = Unit {0}
 
--- these texts on standard output and standard error, and this status
+-- these texts on standard output and standard error, and this exit status
 pub record IsOutputWith (out err : List ℕ) (status : ℕ) (output : Output) : Type 0 where
   pub out_is : string_bytes output.out ≡ out
   pub err_is : string_bytes output.err ≡ err

@@ -1,4 +1,4 @@
--- What a run of texts comes to, and what is printed of it.
+-- The result of a run of texts, and its output.
 use Rattle.std.specs.Prelude.{ℕ, List, [], ◌++◌, codes, decimal, length, Option, Some, None, Ok, Err, nat_lt, if◌then◌else◌, All, option_map, ◌≡◌, ◌≢◌, ◌<◌, ◌≤◌}
 use Rattle.std.specs.List.{flat_map, range_with_len}
 use Rattle.std.specs.String.{string_bytes}
@@ -33,15 +33,15 @@ use Rattle.saga_texts.specs.Lines.{line_feed}
 use Rattle.saga_texts.specs.Outputs.{IsOutputWith}
 use Rattle.saga_texts.specs.Shelves.{AreDefinitions, IsFirstFaulty}
 
--- the report and the log of books: the log is their histories, one after the other
+-- the report and the log of books; the log has their histories, one after the other
 pub record TellsOf (shelf : List Contents) (books : List Book) (stopped : Option Stop) (account : Account) : Type 0 where
   pub report : IsCountedReport shelf (events_of books) (string_bytes account.report) account.stuck
   pub log : string_bytes account.log ≡ log_text (flat_map (λ (b : Book). b.history) books)
   pub stop : account.stopped ≡ stopped
 
--- what holds of the books of a run: a book for each shard; each definition was opened once, in order, as sagas 0, 1 and so on;
--- each end of a step is what the script tells, and each abort; where nothing stopped, each saga is ended or stuck; and the
--- headline holds of each merge of the histories, which is legal
+-- The properties of the books of a run. There is a book for each shard. Each definition was opened once, in order, as
+-- sagas 0, 1 and so on. Each outcome of a step, and each abort, is that of the script. If the run did not stop, each
+-- saga is ended or stuck. Each merge of the histories is legal, and the main theorem holds of it.
 pub record IsRunOf (shelf : List Contents) (statements : List Statement) (shards : ℕ) (stopped : Option Stop) (books : List Book) : Type 0 where
   pub shards_are : AreOfShards shelf shards books
   pub opened : AreOpenedAsAsked shards (range_with_len 0 (length shelf)) books
@@ -50,14 +50,14 @@ pub record IsRunOf (shelf : List Contents) (statements : List Statement) (shards
   pub legal : MergesAreLegal shelf books
   pub headline : HeadlineHolds shelf books
 
--- the log is read back as a legal history, of which the headline holds
+-- the log is read back as a legal history, and the main theorem holds of this history
 pub record IsHeadlineLog (shelf : List Contents) (log : List ℕ) : Type 0 where
   pub history : List Event
   pub read_back : history_of log ≡ Ok history
   pub legal : IsLegal shelf (past history)
   pub headline : Headline shelf (past history)
 
--- the texts hold a script and a shelf, they were run, and this is what the books tell
+-- the texts hold a script and a shelf, they were run, and this is the report and the log of the books
 pub record IsRan (definitions : List (List ℕ)) (script : List ℕ) (shards : ℕ) (account : Account) : Type 0 where
   pub few : length definitions ≤ max_shelf
   pub statements : List Statement
@@ -69,19 +69,19 @@ pub record IsRan (definitions : List (List ℕ)) (script : List ℕ) (shards : �
   pub tells : TellsOf shelf books account.stopped account
   pub written : IsHeadlineLog shelf (string_bytes account.log)
 
--- a script and a shelf could be read
+-- the script was read
 pub record AreReady (definitions : List (List ℕ)) (script : List ℕ) : Type 0 where
   pub few : length definitions ≤ max_shelf
   pub statements : List Statement
   pub script_is : statements_of script ≡ Ok statements
 
--- a shelf could be read, and a run of each of its definitions, on so many shards, may end in that fault
+-- the shelf was read, and a run of each of its definitions on this number of shards may end with this fault
 pub record MayEndIn (definitions : List (List ℕ)) (shards : ℕ) (why : RunFault) : Type 0 where
   pub shelf : List Contents
   pub shelf_is : AreDefinitions definitions shelf
   pub fault : IsRunFault shards shelf (range_with_len 0 (length shelf)) why
 
--- the first fault in the order number of definitions, script, definitions; or a run
+-- the first fault in the order number of definitions, script, definitions; or the result of a run
 abbrev pub RunsTo : List (List ℕ) → List ℕ → ℕ → RunConclusion → Type 0
 RunsTo definitions script shards TooManyDefinitions = max_shelf < length definitions
 RunsTo definitions script shards (Script why) =
@@ -111,7 +111,7 @@ err_of (Definition place why) = codes "sagas: definition " ++ decimal place ++ c
 err_of (Fault why) = codes "sagas: run: " ++ word_of_run why ++ line_feed
 err_of (Told account) = stop_line account.stopped
 
--- 1 where a saga is stuck; 4 where the run stopped
+-- 1 if a saga is stuck; 4 if the run stopped
 abbrev pub status_told : Option Stop → ℕ → ℕ
 status_told None stuck = if nat_lt 0 stuck then 1 else 0
 status_told (Some why) stuck = 4
@@ -125,12 +125,12 @@ abbrev pub log_of : RunConclusion → Option (List ℕ)
 log_of (Told account) = Some (string_bytes account.log)
 log_of conclusion = None
 
--- the output shows the conclusion, and the log is that of the books
+-- the output is that for the result, and the log is that of the books
 pub record ShowsRun (conclusion : RunConclusion) (shown : RunOutput) : Type 0 where
   pub output : IsOutputWith (out_of conclusion) (err_of conclusion) (status_of conclusion) shown.output
   pub log : option_map string_bytes shown.log ≡ log_of conclusion
 
--- the output and the log show what a run of the texts comes to
+-- the output and the log are those for the result of a run of the texts
 pub record IsRunOutput (definitions : List (List ℕ)) (script : List ℕ) (shards : ℕ) (shown : RunOutput) : Type 0 where
   pub conclusion : RunConclusion
   pub comes : RunsTo definitions script shards conclusion

@@ -8,11 +8,11 @@ use Rattle.saga_text.specs.Reads.{Reads}
 use Rattle.saga_texts.specs.declared.shelves.ShelfFault.{ShelfFault}
 use Rattle.saga_texts.specs.declared.shelves.ShelfFault.TheVariants.{Definition, OutOfMemory}
 
--- each text holds the definition of its place, and there are no others
+-- each text holds the definition at its index, and there are no others
 abbrev pub AreDefinitions : List (List ℕ) → List Contents → Type 0
 AreDefinitions texts shelf = AllZip (λ text d. Reads text (Ok d)) texts shelf
 
--- the text of that place has this first fault, and those before it hold definitions
+-- the text at that index has this first fault, and the texts before it hold definitions
 pub record IsFirstFaulty (texts : List (List ℕ)) (place : ℕ) (why : TextFault) : Type 0 where
   pub text : List ℕ
   pub here : slice_get texts place ≡ Some text
@@ -25,7 +25,7 @@ abbrev pub IsShelfFault : List (List ℕ) → ShelfFault → Type 0
 IsShelfFault texts (Definition place why) = IsFirstFaulty texts place why
 IsShelfFault texts OutOfMemory = Unit {0}
 
--- the fault of the text of a place
+-- the fault of the text at an index
 abbrev pub at_place : ℕ → TextFault → ShelfFault
 at_place place cause.OutOfMemory = OutOfMemory
 at_place place why = Definition place why

@@ -1,4 +1,4 @@
--- What the program answers to texts.
+-- The commands of the program for texts.
 use Rattle.std.specs.Prelude.{ℕ, List, Ok}
 use Rattle.saga_texts.specs.declared.conclusions.Conclusion.{Conclusion}
 use Rattle.saga_texts.specs.declared.outputs.Output.{Output}
@@ -9,25 +9,25 @@ use Rattle.saga_cert.specs.Reads.{ReadsAnswer}
 use Rattle.saga_texts.specs.Conclusions.{ComesTo, ChecksTo, PlansTo, DrawsWith}
 use Rattle.saga_texts.specs.Outputs.{Shows}
 
--- the output shows what a check of the three texts comes to
+-- the output is that for the result of a check of the three texts
 pub record IsCheckOutput (definition case answer : List ℕ) (output : Output) : Type 0 where
   pub conclusion : Conclusion
   pub comes : ComesTo (ChecksTo answer) definition case conclusion
   pub shows : Shows conclusion output
 
--- the text of an answer that is printed is read as that answer
+-- the printed text of an answer is read back as that answer
 abbrev pub IsReadBack : Conclusion → Type 0
 IsReadBack (Planned a) = ReadsAnswer (compact_text (answer_form a)) (Ok a)
 IsReadBack conclusion = Unit {0}
 
--- the output shows what planning for the case of two texts comes to
+-- the output is that for the result of a plan for the case of two texts
 pub record IsPlanOutput (definition case : List ℕ) (output : Output) : Type 0 where
   pub conclusion : Conclusion
   pub comes : ComesTo PlansTo definition case conclusion
   pub shows : Shows conclusion output
   pub read_back : IsReadBack conclusion
 
--- the output shows what a drawing of a definition with these texts beside it comes to
+-- the output is that for the result of a drawing of a definition with these additional texts
 pub record IsDrawOutput (beside : List (List ℕ)) (definition : List ℕ) (output : Output) : Type 0 where
   pub conclusion : Conclusion
   pub comes : DrawsWith beside definition conclusion

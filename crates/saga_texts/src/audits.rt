@@ -1,11 +1,11 @@
-//! What an audit of texts comes to, and the output that shows it.
+//! The result of an audit of texts, and the output for this result.
 ghost use Rattle.std.specs.Prelude.{◌≡◌, ◌++◌, OnOk, IfOk, MatchResult, decimal, map};
 ghost use Rattle.std.specs.String.{string_bytes};
 ghost use Rattle.saga_texts.specs.Audits.{AuditsTo, HoldAudit, LackAudit, answer_line, out_of, err_of, status_of};
 ghost use Rattle.saga_texts.specs.Lines.{line_feed};
 ghost use Rattle.saga_texts.specs.Outputs.{IsOutputWith};
 
-use crate::limits::{AUDITORS, MAX_LOG, MAX_SHELF};
+use crate::limits::{AUDITORS, MAX_LOG, MAX_LONG_SHELF};
 use crate::outputs::Output;
 use crate::shelves::{ShelfFault, read_shelf};
 use saga_audit::{AuditAnswer, audit, audit_with};
@@ -17,27 +17,27 @@ use saga_text::TextFault;
 use std::alloc::{AllocError, Global};
 use std::thread::Threads;
 
-/// What an audit comes to: a fault of a text, or the auditor's answer.
+/// The result of an audit: a fault of a text, or the result of the auditor.
 #[derive(Debug, Drop)]
 pub enum AuditConclusion {
     TooManyDefinitions,
     LogTooLong,
-    /// The first faulty line of the log, from 1.
+    /// The number of the first invalid line of the log, counted from 1.
     Log { line: usize, why: JsonFault },
-    /// The first definition with a fault, from 0.
+    /// The index of the first definition with a fault, counted from 0.
     Definition { place: usize, why: TextFault },
     Answered(AuditAnswer),
 }
 
-/// What the texts of an audit hold.
+/// The history and the shelf of the texts of an audit.
 #[derive(Debug, Drop)]
 pub struct AuditTexts {
     pub events: Vec<Event>,
     pub shelf: Vec<Definition>,
 }
 
-/// The history and the shelf of texts, or what an audit of them comes to where they hold none: the first fault in the order
-/// number of definitions, log, definitions.
+/// Reads the history and the shelf from texts. If this fails, returns the first fault in the order number of
+/// definitions, log, definitions.
 fn texts_of(
     alloc: Global,
     log: &[u8],
@@ -47,7 +47,7 @@ fn texts_of(
         (λ given. MatchResult given (HoldAudit log.now (map (λ t. t.now) definitions.now))
         (LackAudit log.now (map (λ t. t.now) definitions.now))) }
 {
-    if definitions.len() > MAX_SHELF {
+    if definitions.len() > MAX_LONG_SHELF {
         return Ok(Err(AuditConclusion::TooManyDefinitions));
     }
     if log.len() > MAX_LOG {
@@ -68,7 +68,7 @@ fn texts_of(
     Ok(Ok(AuditTexts { events, shelf }))
 }
 
-/// What an audit of a log over the definitions of texts comes to.
+/// Audits the log of a text over the definitions of texts, with several threads.
 #[tactic(auto, using(crate::proofs::AuditLemmas::lacking, crate::proofs::AuditLemmas::answered))]
 pub fn audit_conclusion<R: Threads + Sync>(
     rt: &R,
@@ -90,7 +90,7 @@ pub fn audit_conclusion<R: Threads + Sync>(
     }
 }
 
-/// As [`audit_conclusion`], on the thread that calls.
+/// Returns the result of [`audit_conclusion`], on the calling thread only.
 #[tactic(auto, using(crate::proofs::AuditLemmas::lacking, crate::proofs::AuditLemmas::answered))]
 pub fn audit_conclusion_alone(
     alloc: Global,
@@ -105,14 +105,14 @@ pub fn audit_conclusion_alone(
     }
 }
 
-/// Adds a number, in decimal digits.
+/// Appends a number in decimal digits.
 pub fn push_number(alloc: Global, line: &mut String, number: usize) -> Result<(), AllocError>
     ensures { OnOk result (string_bytes line.new ≡ string_bytes line.old ++ decimal number) }
 {
     line.push_str(format!(in alloc; "{number}")?.as_str())
 }
 
-/// A line of a number and a word.
+/// Returns a line with a number and a word.
 pub fn numbered_line(
     alloc: Global,
     start: &str,
@@ -195,7 +195,7 @@ fn status(conclusion: &AuditConclusion) -> u8
     }
 }
 
-/// The output that shows what an audit comes to.
+/// Returns the output for the result of an audit.
 pub fn output_of_audit(alloc: Global, conclusion: &AuditConclusion) -> Result<Output, AllocError>
     ensures { IfOk result
         (IsOutputWith (out_of conclusion.now) (err_of conclusion.now) (status_of conclusion.now)) }

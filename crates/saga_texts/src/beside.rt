@@ -1,5 +1,5 @@
-//! The file of the definitions that are stored beside a log. A line with its length stands before each, so that it stands there
-//! byte for byte.
+//! The file of the definitions of a log, which is stored next to the log. Each definition follows a line with its
+//! length, so the file contains the definition byte for byte.
 ghost use Rattle.std.specs.Prelude.{◌≡◌, ◌<◌, ◌^◌, ◌++◌, ◌∷◌, ◌↔◌, ℕ, List, IfNone, IfOk, IfSome, IsTrue, OnOk, Some, decimal, length, map};
 ghost use Rattle.std.specs.String.{string_bytes};
 ghost use Rattle.saga_texts.specs.Beside.{HoldsDefinitions, HoldsNone, IsFirstOther, definitions_file, framed, head_line};
@@ -10,14 +10,14 @@ use std::alloc::{AllocError, AllocFailed, Global};
 
 const START: &[u8] = b"definition of ";
 
-/// The line before a definition of so many bytes.
+/// Returns the line before a definition of `count` bytes.
 fn head_line(alloc: Global, count: usize) -> Result<String, AllocError>
     ensures { IfOk result (λ line. string_bytes line ≡ head_line count) }
 {
     numbered_line(alloc, "definition of ", count, " ", "bytes")
 }
 
-/// Adds a definition with the line before it.
+/// Appends a definition with the line before it.
 fn push_framed(alloc: Global, file: &mut Vec<u8>, text: &[u8]) -> Result<(), AllocError>
     ensures { OnOk result (file.new.items ≡ file.old.items ++ framed text.now) }
 {
@@ -28,7 +28,7 @@ fn push_framed(alloc: Global, file: &mut Vec<u8>, text: &[u8]) -> Result<(), All
     Ok(())
 }
 
-/// The file of definitions.
+/// Returns the file of definitions.
 pub fn definitions_file(alloc: Global, texts: &[&[u8]]) -> Result<Vec<u8>, AllocError>
     ensures { IfOk result (λ file. file.items ≡ definitions_file (map (λ t. t.now) texts.now)) }
 {
@@ -39,14 +39,14 @@ pub fn definitions_file(alloc: Global, texts: &[&[u8]]) -> Result<Vec<u8>, Alloc
     Ok(file)
 }
 
-/// Whether two texts are the same.
+/// Returns whether two texts are equal.
 fn is_same(one: &[u8], other: &[u8]) -> bool
     ensures { IsTrue result ↔ (one.now ≡ other.now) }
 {
     one == other
 }
 
-/// The number that stands before a space.
+/// Returns the number before the first space.
 fn number_at(text: &[u8]) -> Option<usize>
     ensures { (n : ℕ) (more : List ℕ) → n < 2 ^ 64 → text.now ≡ decimal n ++ 32 ∷ more → result ≡ Some n }
 {
@@ -63,7 +63,7 @@ fn number_at(text: &[u8]) -> Option<usize>
     }
 }
 
-/// How many bytes the first definition of a file has, where the file begins with one.
+/// Returns the length of the first definition of a file, or `None` if the file does not start with one.
 fn count_at(file: &[u8]) -> Option<usize>
     ensures { (text more : List ℕ) → file.now ≡ framed text ++ more → result ≡ Some (length text) }
 {
@@ -74,7 +74,7 @@ fn count_at(file: &[u8]) -> Option<usize>
     number_at(rest)
 }
 
-/// The first definition of a file, and what follows it; none where the file does not begin with one.
+/// Returns the first definition of a file and the rest, or `None` if the file does not start with a definition.
 fn first_definition<'a>(
     alloc: Global,
     file: &'a [u8],
@@ -105,7 +105,7 @@ fn first_definition<'a>(
     Ok(Some((text, more)))
 }
 
-/// The definitions of a file; none where it is no file of definitions.
+/// Returns the definitions of a file, or `None` if it is not a file of definitions.
 pub fn definitions_of<'a>(
     alloc: Global,
     file: &'a [u8],
@@ -129,7 +129,7 @@ pub fn definitions_of<'a>(
     Ok(Some(texts))
 }
 
-/// The first place where the definitions that are given are not those that are stored; none where they are the same.
+/// Returns the first index at which the given definitions differ from the stored ones, or `None` if they are equal.
 pub fn first_other(stored: &[&[u8]], given: &[&[u8]]) -> Option<usize>
     ensures none { IfNone result (map (λ t. t.now) stored.now ≡ map (λ t. t.now) given.now) }
     ensures other { IfSome result

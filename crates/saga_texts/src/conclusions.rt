@@ -1,4 +1,4 @@
-//! What a question about a case comes to.
+//! The results of questions about a case.
 ghost use Rattle.std.specs.Prelude.{◌↔◌, ◌<◌, IfOk, IsTrue, MatchResult, length, option_map};
 ghost use Rattle.saga_texts.specs.Conclusions.{ComesTo, AnswersTo, ChecksTo, DrawsRight, DrawsTo, HoldsAnswer, JudgesTo, LacksAnswer, ShowsCase};
 ghost use Rattle.saga_texts.specs.Limits.{max_certificate};
@@ -13,18 +13,18 @@ use saga_plan::plan;
 use saga_text::{TextFault, read_definition};
 use std::alloc::{AllocError, Global};
 
-/// What is asked about a case.
+/// A question about a case.
 #[derive(Clone, Copy)]
 pub enum Question<'a> {
-    /// Whether the answer of this text is right.
+    /// Is the answer in this text right?
     Check(&'a [u8]),
-    /// A right answer.
+    /// What is a right answer?
     Plan,
-    /// A drawing, with what the answer of this text marks, if one is given.
+    /// What is the drawing of the case? It has the marks of the answer in this text, if one is given.
     Draw(Option<&'a [u8]>),
 }
 
-/// What a question comes to: a fault of a text, what the judge says of an answer, an answer, or a drawing.
+/// The result of a question: a fault of a text, the verdict of the judge, an answer, or a drawing.
 #[derive(Debug, Drop)]
 pub enum Conclusion {
     Definition(TextFault),
@@ -34,24 +34,24 @@ pub enum Conclusion {
     Answer(JsonFault),
     /// The answer is not right.
     Refused(CheckFault),
-    /// The plan is least, and costs so much.
+    /// The plan is right and has this cost, which is the minimum.
     Least(u64),
     /// No set of steps is allowed.
     Blocked,
-    /// The answer that was asked for.
+    /// The requested answer.
     Planned(Answer),
     /// The text of a drawing.
     Drawn(String),
 }
 
-/// Whether a text has too many bytes for a case or an answer.
+/// Returns whether a text is too long for a case or an answer.
 fn is_too_long(text: &[u8]) -> bool
     ensures { IsTrue result ↔ (max_certificate < length text.now) }
 {
     text.len() > MAX_CERTIFICATE
 }
 
-/// What the judge says of a case and an answer.
+/// Returns the verdict of the judge on an answer to a case.
 fn judged(case: &Case, answer: &Answer) -> Conclusion
     ensures { JudgesTo case.now answer.now result }
 {
@@ -64,7 +64,7 @@ fn judged(case: &Case, answer: &Answer) -> Conclusion
     }
 }
 
-/// The answer of a text, or what a question about it comes to where it holds none.
+/// Reads an answer from a text. If this fails, returns the result with the fault.
 fn answer_of(alloc: Global, text: &[u8]) -> Result<Result<Answer, Conclusion>, AllocError>
     ensures { IfOk result
         (λ given. MatchResult given (HoldsAnswer text.now) (LacksAnswer text.now)) }
@@ -79,7 +79,7 @@ fn answer_of(alloc: Global, text: &[u8]) -> Result<Result<Answer, Conclusion>, A
     }
 }
 
-/// What a check of the answer of a text comes to.
+/// Returns the result of a check of the answer in a text.
 fn checked(alloc: Global, case: &Case, answer: &[u8]) -> Result<Conclusion, AllocError>
     ensures { IfOk result (ChecksTo answer.now case.now) }
 {
@@ -89,7 +89,7 @@ fn checked(alloc: Global, case: &Case, answer: &[u8]) -> Result<Conclusion, Allo
     }
 }
 
-/// The drawing of a case, with what an answer marks, if one is given.
+/// Returns the drawing of a case, with the marks of an answer if one is given.
 fn shown(alloc: Global, case: &Case, answer: Option<&Answer>) -> Result<Conclusion, AllocError>
     ensures { IfOk result (ShowsCase case.now (option_map (λ a. a.now) answer.entry)) }
 {
@@ -97,7 +97,7 @@ fn shown(alloc: Global, case: &Case, answer: Option<&Answer>) -> Result<Conclusi
     Ok(Conclusion::Drawn(text))
 }
 
-/// The drawing of a case with what an answer marks, where the answer is right.
+/// Returns the drawing of a case with the marks of an answer, if the answer is right.
 fn shown_if_right(alloc: Global, case: &Case, answer: &Answer) -> Result<Conclusion, AllocError>
     ensures { IfOk result (DrawsRight case.now answer.now) }
 {
@@ -107,7 +107,7 @@ fn shown_if_right(alloc: Global, case: &Case, answer: &Answer) -> Result<Conclus
     }
 }
 
-/// What a drawing of a case comes to.
+/// Returns the result of the drawing of a case.
 fn drawn(alloc: Global, case: &Case, answer: Option<&[u8]>) -> Result<Conclusion, AllocError>
     ensures { IfOk result (DrawsTo (option_map (λ t. t.now) answer.entry) case.now) }
 {
@@ -120,7 +120,7 @@ fn drawn(alloc: Global, case: &Case, answer: Option<&[u8]>) -> Result<Conclusion
     }
 }
 
-/// What a question about a case comes to.
+/// Returns the result of a question about a case.
 fn answered(alloc: Global, case: &Case, question: Question<'_>) -> Result<Conclusion, AllocError>
     ensures { IfOk result (AnswersTo question.entry case.now) }
 {
@@ -131,8 +131,8 @@ fn answered(alloc: Global, case: &Case, question: Question<'_>) -> Result<Conclu
     }
 }
 
-/// What a question about the case of two texts comes to: the first fault in the order definition, case, answer, each
-/// length judged with its own text.
+/// Returns the result of a question about the case of two texts. A fault is the first in the order definition, case,
+/// answer. The limit for the length of a text is checked together with that text.
 pub fn conclusion_of(
     alloc: Global,
     definition: &[u8],

@@ -1,4 +1,4 @@
-//! What a drawing of texts comes to.
+//! The results of drawings of texts.
 ghost use Rattle.std.specs.Prelude.{IfOk};
 ghost use Rattle.saga_texts.specs.Conclusions.{DrawsAlone, DrawsWith, beside};
 
@@ -7,18 +7,19 @@ use saga_draw::draw;
 use saga_text::{TextFault, read_definition};
 use std::alloc::{AllocError, Global};
 
-/// What is drawn of a saga.
+/// The content of a drawing of a saga.
 #[derive(Clone, Copy)]
 pub enum Scene<'a> {
-    /// Its definition alone.
+    /// Only its definition.
     Definition,
-    /// Also the states of the case of this text.
+    /// The definition, and the states of the case in this text.
     Case(&'a [u8]),
-    /// Also what the answer of the second text marks, where it is right for the case of the first.
+    /// The definition, the states of the case in the first text, and the marks of the answer in the second text. The
+    /// answer must be right for the case.
     Answer(&'a [u8], &'a [u8]),
 }
 
-/// What a drawing of the definition of a text comes to.
+/// Returns the result of a drawing of the definition in a text.
 fn drawn_alone(alloc: Global, definition: &[u8]) -> Result<Conclusion, AllocError>
     ensures { IfOk result (DrawsAlone definition.now) }
 {
@@ -29,8 +30,8 @@ fn drawn_alone(alloc: Global, definition: &[u8]) -> Result<Conclusion, AllocErro
     }
 }
 
-/// What a drawing of texts comes to: the first fault in the order definition, case, answer, each length judged with its own
-/// text.
+/// Returns the result of a drawing of texts. A fault is the first in the order definition, case, answer. The limit for
+/// the length of a text is checked together with that text.
 pub fn drawing_of(
     alloc: Global,
     definition: &[u8],

@@ -1,13 +1,16 @@
-//! The limits of texts; the limit of a definition is `saga_text`'s.
+//! The limits of texts. The limit of a definition is in `saga_text`.
 
-/// The most bytes of a case or answer.
+/// The maximum number of bytes of a case or an answer.
 pub const MAX_CERTIFICATE: usize = 67_108_864;
 
-/// The most bytes of a log.
-pub const MAX_LOG: usize = 536_870_912;
+/// The maximum number of bytes of a log.
+pub const MAX_LOG: usize = 671_088_640;
 
-/// The most definitions of an audit.
+/// The maximum number of definitions of a run, and of a `drive` that writes its log.
 pub const MAX_SHELF: usize = 64;
 
-/// How many threads audit.
+/// The maximum number of definitions of an audit, and of a `drive` that prints its log lines.
+pub const MAX_LONG_SHELF: usize = 1000;
+
+/// The number of threads of an audit.
 pub const AUDITORS: u32 = 4;

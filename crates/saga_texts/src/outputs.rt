@@ -1,4 +1,4 @@
-//! What the program prints, and its status.
+//! The output of the program, and its exit status.
 ghost use Rattle.std.specs.Prelude.{◌≡◌, ◌++◌, IfOk, Ok};
 ghost use Rattle.std.specs.String.{string_bytes};
 ghost use Rattle.serde_json.specs.Written.{compact_text};
@@ -13,7 +13,7 @@ use saga_cert::write_answer;
 use saga_json::JsonFault;
 use std::alloc::{AllocError, Global};
 
-/// What goes to standard output and to standard error, and the status.
+/// The texts for standard output and standard error, and the exit status.
 #[derive(Debug, Drop)]
 pub struct Output {
     pub out: String,
@@ -21,7 +21,7 @@ pub struct Output {
     pub status: u8,
 }
 
-/// The line of an answer that was asked for.
+/// Returns the line of a requested answer.
 fn answer_line(alloc: Global, answer: &Answer) -> Result<String, AllocError>
     ensures line { IfOk result
         (λ text. string_bytes text ≡ compact_text (answer_form answer.now) ++ line_feed) }
@@ -51,7 +51,7 @@ fn out(alloc: Global, conclusion: &Conclusion) -> Result<String, AllocError>
     }
 }
 
-/// The number of a busy step, which follows its word.
+/// Returns the number of a busy step, which follows its word.
 fn step_text(alloc: Global, fault: &JsonFault) -> Result<String, AllocError>
     ensures { IfOk result (λ text. string_bytes text ≡ step_text fault.now) }
 {
@@ -102,7 +102,7 @@ fn status(conclusion: &Conclusion) -> u8
     }
 }
 
-/// The output that shows a conclusion.
+/// Returns the output for a result.
 pub fn output_of(alloc: Global, conclusion: &Conclusion) -> Result<Output, AllocError>
     ensures shows { IfOk result (Shows conclusion.now) }
     ensures read_back { IfOk result (λ output. ReadsBack conclusion.now) }

@@ -1,4 +1,4 @@
-//! What a run of texts comes to, and what is shown of it.
+//! The result of a run of texts, and the output for this result.
 ghost use Rattle.std.specs.Prelude.{◌≡◌, ◌<◌, ◌≤◌, ◌++◌, IfOk, Ok, length, map, option_map};
 ghost use Rattle.std.specs.List.{flat_map, range_with_len};
 ghost use Rattle.std.specs.String.{string_bytes};
@@ -27,31 +27,31 @@ use std::alloc::{AllocError, Global};
 use std::sync::Wait;
 use std::thread::Threads;
 
-/// What the books of a run tell.
+/// The report and the log of the books of a run.
 #[derive(Drop)]
 pub struct Account {
     pub report: String,
-    /// How many sagas are stuck.
+    /// The number of stuck sagas.
     pub stuck: usize,
-    /// The histories of the books, one after the other.
+    /// The log of the histories of the books, one after the other.
     pub log: String,
-    /// Why the run stopped before each saga was ended or stuck, if it did.
+    /// Why the run stopped before each saga was ended or stuck; `None` if it did not.
     pub stopped: Option<Stop>,
 }
 
-/// What a run comes to: a fault of a text, why there are no books, or what the books tell.
+/// The result of a run: a fault of a text, why there are no books, or the report and the log of the books.
 #[derive(Drop)]
 pub enum RunConclusion {
     TooManyDefinitions,
     Script(ScriptFault),
-    /// The first definition with a fault, from 0.
+    /// The index of the first definition with a fault, counted from 0.
     Definition { place: usize, why: TextFault },
     /// There are no books.
     Fault(RunFault),
     Told(Account),
 }
 
-/// The places of a shelf, each once.
+/// Returns the indices of a shelf, each once.
 fn places_of(alloc: Global, shelf: &[Definition]) -> Result<Vec<u32>, AllocError>
     requires { length shelf.now ≤ max_shelf }
     ensures { IfOk result (λ places. places.items ≡ range_with_len 0 (length shelf.now)) }
@@ -63,7 +63,7 @@ fn places_of(alloc: Global, shelf: &[Definition]) -> Result<Vec<u32>, AllocError
     Ok(places)
 }
 
-/// The histories of books, borrowed.
+/// Returns the histories of books, borrowed.
 fn histories_of<'a>(alloc: Global, books: &'a [Book<'_>]) -> Result<Vec<&'a [Event]>, AllocError>
     ensures { IfOk result
         (λ histories. map (λ h. h.now) histories.items ≡ events_of books.entry.now) }
@@ -75,7 +75,7 @@ fn histories_of<'a>(alloc: Global, books: &'a [Book<'_>]) -> Result<Vec<&'a [Eve
     Ok(histories)
 }
 
-/// The histories of books, one after the other.
+/// Returns the histories of books, one after the other.
 fn joined(alloc: Global, books: Vec<Book<'_>>) -> Result<Vec<Event>, AllocError>
     ensures { IfOk result (λ events. events.items ≡ flat_map (λ b. b.history) books.entry.items) }
 {
@@ -87,7 +87,7 @@ fn joined(alloc: Global, books: Vec<Book<'_>>) -> Result<Vec<Event>, AllocError>
     Ok(events)
 }
 
-/// The report of books.
+/// Returns the report of books.
 fn report_of(
     alloc: Global,
     shelf: &[Definition],
@@ -100,7 +100,7 @@ fn report_of(
     report_counted(alloc, shelf, &histories)
 }
 
-/// What the books of a run tell.
+/// Returns the report and the log of the books of a run.
 fn account_of(alloc: Global, shelf: &[Definition], run: Run<'_>) -> Result<Account, AllocError>
     ensures tells { IfOk result (TellsOf shelf.now run.entry.books.items run.entry.stopped) }
     ensures read_back { IfOk result (λ account.
@@ -120,7 +120,7 @@ fn account_of(alloc: Global, shelf: &[Definition], run: Run<'_>) -> Result<Accou
     })
 }
 
-/// What a run by a script of the definitions of texts comes to: the first fault in the order number of definitions, script,
+/// Runs the definitions of texts with a script. A fault is the first in the order number of definitions, script,
 /// definitions.
 pub fn run_conclusion<R: Threads + Wait + Sync>(
     rt: &R,
@@ -172,7 +172,7 @@ fn script_line(alloc: Global, fault: ScriptFault) -> Result<String, AllocError>
     }
 }
 
-/// A line of one word.
+/// Returns a line with one word.
 fn word_line(alloc: Global, start: &str, word: &str) -> Result<String, AllocError>
     ensures { IfOk result (λ text. string_bytes text ≡ start.now ++ word.now ++ line_feed) }
 {
@@ -227,14 +227,14 @@ fn status(conclusion: &RunConclusion) -> u8
     }
 }
 
-/// The output to a run, and the log of its books, where it has any.
+/// The output of a run, and the log of its books if there are books.
 #[derive(Drop)]
 pub struct RunOutput {
     pub output: Output,
     pub log: Option<String>,
 }
 
-/// The report and the log of the books, where there are any.
+/// Returns the report and the log of the books, if there are books.
 fn told(alloc: Global, conclusion: RunConclusion) -> (String, Option<String>)
     ensures report { string_bytes result.0 ≡ out_of conclusion }
     ensures log { option_map string_bytes result.1 ≡ log_of conclusion }
@@ -251,7 +251,7 @@ fn told(alloc: Global, conclusion: RunConclusion) -> (String, Option<String>)
     }
 }
 
-/// The output that shows what a run comes to, and the log.
+/// Returns the output for the result of a run, and the log.
 pub fn output_of_run(alloc: Global, conclusion: RunConclusion) -> Result<RunOutput, AllocError>
     ensures { IfOk result (ShowsRun conclusion) }
 {

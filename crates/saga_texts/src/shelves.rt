@@ -1,4 +1,4 @@
-//! The definitions of several texts.
+//! The reader of the definitions of several texts.
 ghost use Rattle.std.specs.Prelude.{◌≡◌, IfErr, IfOk, map};
 ghost use Rattle.saga_texts.specs.Shelves.{AreDefinitions, IsShelfFault, at_place};
 
@@ -7,10 +7,10 @@ use saga_text::{TextFault, read_definition};
 use std::alloc::{AllocError, AllocFailed, Global};
 use std::convert::From;
 
-/// Why texts hold no shelf.
+/// Why texts do not give a shelf.
 #[derive(Debug, Drop)]
 pub enum ShelfFault {
-    /// The first text with a fault, by its place from 0, and its first fault, which is none of memory.
+    /// The index of the first text with a fault, counted from 0, and its first fault, which is not lack of memory.
     Definition { place: usize, why: TextFault },
     OutOfMemory,
 }
@@ -26,7 +26,7 @@ impl<T: Drop> From<AllocFailed<T>> for ShelfFault {
     }
 }
 
-/// The fault of the text of a place.
+/// Returns the fault of the text at an index.
 fn at_place(place: usize, why: TextFault) -> ShelfFault
     ensures { result ≡ at_place place why }
 {
@@ -36,7 +36,7 @@ fn at_place(place: usize, why: TextFault) -> ShelfFault
     }
 }
 
-/// The definitions that texts hold, in their order.
+/// Returns the definitions of texts, in the same order.
 pub fn read_shelf(alloc: Global, texts: &[&[u8]]) -> Result<Vec<Definition>, ShelfFault>
     ensures shelf { IfOk result (λ shelf. AreDefinitions (map (λ t. t.now) texts.now) shelf.items) }
     ensures fault { IfErr result (IsShelfFault (map (λ t. t.now) texts.now)) }

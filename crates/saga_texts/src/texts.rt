@@ -1,4 +1,4 @@
-//! What is answered to texts.
+//! The commands of the program for texts.
 ghost use Rattle.std.specs.Prelude.{◌<◌, ◌≤◌, IfOk, map};
 ghost use Rattle.saga_texts.specs.Texts.{IsCheckOutput, IsDrawOutput, IsPlanOutput};
 ghost use Rattle.saga_texts.specs.Audits.{IsAuditOutput};
@@ -14,8 +14,9 @@ use std::alloc::{AllocError, Global};
 use std::sync::Wait;
 use std::thread::Threads;
 
-/// Judges an answer to a case of a definition: `least N` where the plan is least and costs `N`, `blocked` where no set
-/// of steps is allowed, `no FAULT` where the answer is not right; a fault of a text goes to standard error.
+/// Verifies an answer to a case of a definition. The output is `least N` if the plan has the minimum cost `N`,
+/// `blocked` if no set of steps is allowed, and `no FAULT` if the answer is not right. A fault of a text goes to
+/// standard error.
 pub fn check_text(
     alloc: Global,
     definition: &[u8],
@@ -28,8 +29,8 @@ pub fn check_text(
     output_of(alloc, &conclusion)
 }
 
-/// Plans how a case of a definition shall end: the text of a right answer, with status 0 for a plan and 1 for a chain; a
-/// fault of a text goes to standard error. `check_text` finds the answer right.
+/// Makes an answer to a case of a definition. The output is the text of a right answer, with status 0 for a plan and 1
+/// for a chain. A fault of a text goes to standard error. It is proved that `check_text` accepts the answer.
 pub fn plan_text(alloc: Global, definition: &[u8], case: &[u8]) -> Result<Output, AllocError>
     ensures { IfOk result (IsPlanOutput definition.now case.now) }
 {
@@ -37,9 +38,9 @@ pub fn plan_text(alloc: Global, definition: &[u8], case: &[u8]) -> Result<Output
     output_of(alloc, &conclusion)
 }
 
-/// Draws a saga: the text of its picture in Graphviz's language, with its states and what an answer marks where they are
-/// given. An answer that is not right for its case is told as [`check_text`] tells it; a fault of a text goes to standard
-/// error.
+/// Draws a saga. The output is a drawing in the DOT language of Graphviz, with the states and the marks of an answer if
+/// they are given. If the answer is not right for its case, the output is that of [`check_text`]. A fault of a text
+/// goes to standard error.
 pub fn draw_text(alloc: Global, definition: &[u8], scene: Scene<'_>) -> Result<Output, AllocError>
     ensures { IfOk result (IsDrawOutput (beside scene.entry) definition.now) }
 {
@@ -47,8 +48,9 @@ pub fn draw_text(alloc: Global, definition: &[u8], scene: Scene<'_>) -> Result<O
     output_of(alloc, &conclusion)
 }
 
-/// Audits a log over a shelf of definitions: `yes` with numbers where its history is legal, else `no` with the place, from
-/// 0, of the first event that was not allowed, and why; a fault of a text goes to standard error.
+/// Audits a log over a shelf of definitions. The output is `yes` with counts if the history is legal. Otherwise it is
+/// `no` with the index, from 0, of the first event that was not allowed, and the reason. A fault of a text goes to
+/// standard error.
 pub fn audit_text<R: Threads + Sync>(
     rt: &R,
     alloc: Global,
@@ -61,9 +63,10 @@ pub fn audit_text<R: Threads + Sync>(
     output_of_audit(alloc, &conclusion)
 }
 
-/// Runs each definition once, in order, as sagas 0, 1 and so on, by a script that tells how actions and compensations end:
-/// the report, with status 1 where a saga is stuck, and the log of the histories, one after the other. A fault of a text goes
-/// to standard error, and then nothing is run; a run that stopped tells so there, with status 4, beside its report.
+/// Runs each definition once, in order, as sagas 0, 1 and so on, with a script that gives the outcomes of actions and
+/// compensations. The output is the report, with status 1 if a saga is stuck, and the log of the histories, one after
+/// the other. If a text has a fault, the fault goes to standard error and nothing runs. If the run stops, the reason
+/// goes to standard error with status 4, in addition to the report.
 pub fn run_text<R: Threads + Wait + Sync>(
     rt: &R,
     alloc: Global,
@@ -80,7 +83,7 @@ pub fn run_text<R: Threads + Wait + Sync>(
     output_of_run(alloc, conclusion)
 }
 
-/// As [`audit_text`], on the thread that calls.
+/// Returns the output of [`audit_text`], on the calling thread only.
 pub fn audit_text_alone(
     alloc: Global,
     log: &[u8],

@@ -12,8 +12,8 @@ use Rattle.saga_tool.specs.declared.forms.Form.{Form}
 use Rattle.saga_tool.specs.declared.forms.Name.{Name}
 use Rattle.saga_tool.specs.declared.forms.Name.TheVariants.{Check, Plan, Run, Audit, Draw, Drive}
 
--- a required file, one that may be left out, any number of files, an option without a value, one with a path, one with a number from 1 to 16,
--- by default 1
+-- a required file, an optional file, any number of files, a flag, an option with a path, or an option with a number
+-- from 1 to 16 (default: 1)
 abbrev pub rule_by : Kind → Text → Rule
 rule_by File name = record (new_rule name) { required = true; action = Some Set; value_names = 1 }
 rule_by Optional name = record (new_rule name) { action = Some Set; value_names = 1 }
@@ -28,7 +28,7 @@ rule_by Number name = record (new_rule name) {
   defaults = codes "1" ∷ [];
 }
 
--- what an argument is, and its name
+-- the kind and the name of an argument
 pub record Argument : Type 0 where
   pub kind : Kind
   pub name : Text

@@ -1,4 +1,4 @@
--- What the words of a command give.
+-- The parsed arguments of a command.
 use Rattle.std.specs.Prelude.{ℕ, List, [], ◌∷◌, Option, Some, None, Bool, true, false, option_map, ◌&&◌, ◌≡◌, ◌≤◌, ◌+◌, ⊤, length, map, flat_map, codes, unwrap_or, if◌then◌else◌}
 use Rattle.std.specs.List.{All, list_any}
 use Rattle.std.specs.Str.{bytes_eq}
@@ -12,7 +12,7 @@ use Rattle.saga_tool.specs.declared.forms.Kind.TheVariants.{File, Optional, File
 use Rattle.saga_tool.specs.declared.arguments.Given.{Given}
 use Rattle.saga_tool.specs.Forms.{Argument, Outline, app_by}
 
--- what matches have of an argument: a file is there, and a number is from 1 to 16
+-- the property of an argument that the matches guarantee: a required file is present, and a number is from 1 to 16
 abbrev pub HoldsBy : Kind → Text → List Row → Type 0
 HoldsBy File name rows = (path : Text) × (first_of name rows ≡ Some path)
 HoldsBy Number name rows = (text : Text) × (one_of name rows ≡ Some text) × IsUnsignedIn 1 max_number text
@@ -39,7 +39,7 @@ abbrev pub files_wanted : Kind → ℕ
 files_wanted File = 1
 files_wanted _ = 0
 
--- how many files a command wants at least
+-- the minimum number of files of a command
 abbrev pub wanted : List Argument → ℕ
 wanted [] = 0
 wanted (a ∷ args) = files_wanted a.kind + wanted args
@@ -49,7 +49,7 @@ files_room File = 1
 files_room Optional = 1
 files_room _ = 0
 
--- how many it has names for
+-- the number of files for which the command has named arguments
 abbrev pub room : List Argument → ℕ
 room [] = 0
 room (a ∷ args) = files_room a.kind + room args
@@ -58,7 +58,8 @@ abbrev pub takes_more : Kind → Bool
 takes_more Files = true
 takes_more _ = false
 
--- as many files as are wanted, and no more than there are names for, but where the command takes any number more
+-- the number of files is at least the minimum, and at most the number of named arguments unless the command accepts any
+-- number of further files
 pub record IsCount (args : List Argument) (n : ℕ) : Type 0 where
   pub enough : wanted args ≤ n
   pub few : list_any (λ a. takes_more a.kind) args ≡ false → n ≤ room args
@@ -70,20 +71,20 @@ is_number _ = false
 abbrev pub has_number : Text → List Argument → Bool
 has_number name args = list_any (λ a. is_number a.kind && bytes_eq a.name name) args
 
--- the number of a text that is one
+-- the value of a text that is a number
 abbrev pub number_of : Text → ℕ
 number_of text = digits_value 10 (without_leading_plus text)
 
--- the number of that name, 1 where the command takes none
+-- the value of the numeric option with this name, or 1 if the command has no such option
 abbrev pub IsNumber : List Argument → List Row → Text → ℕ → Type 0
 IsNumber args rows name n = Some n ≡ (if has_number name args then option_map number_of (one_of name rows) else Some 1)
 
--- whether a flag is given: where it is, its text is `true`
+-- whether a flag is given; `clap` represents a given flag by the text `true`
 abbrev pub is_set : Option Text → Bool
 is_set None = false
 is_set (Some text) = bytes_eq text (codes "true")
 
--- `clap` finds no fault among the words, and what is given is what its matches say
+-- `clap` finds no fault among the words, and the arguments are those of its matches
 pub record IsGiven (o : Outline) (words : List Text) (given : Given) : Type 0 where
   pub taken : fault_of (app_by o) words ≡ []
   pub files : map (λ s. s.now) given.files.items ≡ files_in (matches_of (app_by o) words) o.arguments

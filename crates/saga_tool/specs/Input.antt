@@ -1,4 +1,4 @@
--- What the program answers to standard input.
+-- The response of the program to standard input.
 use Rattle.std.specs.Prelude.{ℕ, List, [], ◌++◌, codes, length, ◌≡◌, ◌<◌, ◌≤◌, ◌⊎◌}
 use Rattle.std.specs.String.{string_bytes}
 use Rattle.saga_tool.specs.Limits.{max_input}
@@ -13,7 +13,7 @@ pub record IsBadInput (line : List ℕ) (output : Output) : Type 0 where
   pub err : string_bytes output.err ≡ line
   pub status : output.status ≡ 3
 
--- an input that is too long, or has no parts
+-- an input that is too long, or does not have three parts
 pub record IsTooLong (input : List ℕ) (output : Output) : Type 0 where
   pub long : max_input < length input
   pub says : IsBadInput (codes "sagas: input: too-long" ++ line_feed) output

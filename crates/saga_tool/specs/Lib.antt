@@ -1,4 +1,4 @@
--- What the program answers to words and texts.
+-- The responses of the program to words and texts.
 pub mod Parts
 pub mod Limits
 pub mod Forms

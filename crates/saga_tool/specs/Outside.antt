@@ -1,4 +1,4 @@
--- The world outside, as the program sees it.
+-- The outside world, as the program sees it.
 use Rattle.std.specs.Prelude.{ℕ, Bool, List, Option, Result, IfOk, ⊤, length, ◌≤◌, ◌+◌}
 use Rattle.std.specs.declared.io.ErrorKind.{ErrorKind}
 use Rattle.std.specs.declared.io.ErrorKind.TheVariants as kind
@@ -13,22 +13,22 @@ use Rattle.saga_texts.specs.declared.outputs.Output.{Output}
 abbrev pub Text : Type 0
 Text = List ℕ
 
--- what reading standard input, or a file, up to a limit may give
+-- the results that a read of standard input, or of a file, up to a limit may give
 abbrev pub InputGives : Type 1
 InputGives = ℕ → Result Text FileFault → Type 0
 
 abbrev pub FileGives : Type 1
 FileGives = Text → InputGives
 
--- a text went to standard output, or could not be written
+-- a text was written to standard output, or could not be written
 abbrev pub Prints : Type 1
 Prints = Text → Bool → Type 0
 
--- a text went to standard error, as far as that could be written
+-- a text was sent to standard error; a failure of that is ignored
 abbrev pub Complains : Type 1
 Complains = Text → Type 0
 
--- a log may be written to the file of a path, which has not changed; or, where not, another process holds it
+-- the log at a path may be written, and its file is unchanged; or another process has locked it
 abbrev pub Claims : Type 1
 Claims = Text → Bool → Type 0
 
@@ -36,7 +36,7 @@ Claims = Text → Bool → Type 0
 abbrev pub Writes : Type 1
 Writes = Text → Text → Bool → Type 0
 
--- what the world outside may answer
+-- the answers that the outside world may give
 pub record World : Type 1 where
   pub file_gives : FileGives
   pub input_gives : InputGives
@@ -46,25 +46,26 @@ pub record World : Type 1 where
   pub complains : Complains
   pub claims : Claims
   pub writes : Writes
-  -- what it may answer a drive
+  -- the answers that it may give to a drive
   pub drive : DriveWorld
 
--- how a drive may end in the one world, it may in the other: with a log or without one, and where it shows its lines
+-- each end of a drive that is possible in the first world is possible in the second: with or without a log, and with
+-- printed log lines
 pub record DrivesWithin (seen world : DriveWorld) : Type 0 where
   pub drives : (log : Option Text) (texts : List Text) (output : Output) → IsDriveOutput seen log texts output → IsDriveOutput world log texts output
   pub shows : (text : Text) (texts : List Text) (output : Output) → IsLinesOutput seen text texts output → IsLinesOutput world text texts output
 
--- want of memory is told apart from every other error
+-- lack of memory is distinguished from every other error
 abbrev pub file_fault_of : ErrorKind → FileFault
 file_fault_of kind.OutOfMemory = OutOfMemory
 file_fault_of _ = Unreadable
 
--- the same of a log
+-- the same for a log
 abbrev pub open_fault_of : FileFault → OpenFault
 open_fault_of OutOfMemory = opening.OutOfMemory
 open_fault_of Unreadable = opening.Unreadable
 
--- of the system nothing is known but that no more than one byte past a limit is read
+-- the only assumption about the system: it reads at most one byte past a limit
 abbrev pub IsWithin : {E : Type 0} → ℕ → Result Text E → Type 0
 IsWithin limit given = IfOk given (λ text. length text ≤ limit + 1)
 

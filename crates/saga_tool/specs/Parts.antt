@@ -1,22 +1,22 @@
--- Standard input in three parts.
+-- The three parts of standard input.
 use Rattle.std.specs.Prelude.{ℕ, List, length, take, drop, slice_index, ◌≡◌, ◌<◌, ◌≤◌, ◌+◌, ◌-◌, ◌⊎◌}
 
--- a line begins at a place: it is the first, or follows a line feed
+-- a line starts at an index: the index is 0, or follows a line feed
 abbrev pub BeginsLine : List ℕ → ℕ → Type 0
 BeginsLine input at = (at ≡ 0) ⊎ (slice_index input (at - 1) ≡ 10)
 
--- a line that is exactly three hyphens begins there; the last line may lack its line feed
+-- a line that is exactly three hyphens starts at this index; the last line may lack its line feed
 pub record IsSeparator (input : List ℕ) (at : ℕ) : Type 0 where
   pub begins : BeginsLine input at
   pub within : at + 3 ≤ length input
   pub hyphens : (k : ℕ) → k < 3 → slice_index input (at + k) ≡ 45
   pub ends : (length input ≡ at + 3) ⊎ (slice_index input (at + 3) ≡ 10)
 
--- no such line from a place on
+-- there is no such line from an index on
 abbrev pub HasNoSeparator : List ℕ → ℕ → Type 0
 HasNoSeparator input from = (k : ℕ) → from ≤ k → IsSeparator input k → ⊥
 
--- the first such line from a place on
+-- the first such line from an index on
 pub record IsFirstSeparator (input : List ℕ) (from at : ℕ) : Type 0 where
   pub after : from ≤ at
   pub separates : IsSeparator input at

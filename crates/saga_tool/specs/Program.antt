@@ -1,4 +1,4 @@
--- The program over any outside: which texts are read, what is replied, and what is shown.
+-- The program over any outside world: which texts are read, the response, and how the response is shown.
 use Rattle.std.specs.Prelude.{ℕ, Bool, List, [], ◌∷◌, ◌++◌, true, false, Option, Some, None, option_map, take, slice_get, Result, Ok, Err, ⊤, MatchBool, codes, map, ◌≡◌, ◌≢◌, ◌⊎◌}
 use Rattle.std.specs.List.{AllZip}
 use Rattle.std.specs.Str.{bytes_eq}
@@ -43,7 +43,7 @@ pub record IsUnreadable (path : Text) (output : Output) : Type 0 where
   pub err : string_bytes output.err ≡ codes "sagas: cannot read " ++ path ++ line_feed
   pub status : output.status ≡ 4
 
--- a text is read, from which the output follows; or it cannot be read, and the output says so
+-- a text is read, and the output follows from it; or it cannot be read, and the output says so
 abbrev pub AfterReading : InputGives → Text → ℕ → (Text → Response → Type 0) → Response → Type 0
 AfterReading gives path limit Follows response =
     ((text : Text) × gives limit (Ok text) × Follows text response)
@@ -56,7 +56,7 @@ AfterFile gives path limit Follows response = AfterReading (gives path) path lim
 abbrev pub AreGiven : FileGives → ℕ → List Text → List Text → Type 0
 AreGiven gives limit paths texts = AllZip (λ path text. gives path limit (Ok text)) paths texts
 
--- the file of some place cannot be read, while those before it gave texts, and the output says so
+-- the file at an index cannot be read, the files before it gave texts, and the output names the file
 pub record IsFirstUnreadable (gives : FileGives) (limit : ℕ) (paths : List Text) (response : Response) : Type 0 where
   pub place : ℕ
   pub path : Text
@@ -66,7 +66,7 @@ pub record IsFirstUnreadable (gives : FileGives) (limit : ℕ) (paths : List Tex
   pub fails : gives path limit (Err file.Unreadable)
   pub says : IsAlone (IsUnreadable path) response
 
--- the files are read in order, and the output follows from their texts, or says which is the first that cannot be read
+-- the files are read in order, and the output follows from their texts or names the first file that cannot be read
 abbrev pub AfterFiles : FileGives → List Text → ℕ → (List Text → Response → Type 0) → Response → Type 0
 AfterFiles gives paths limit Follows response =
     ((texts : List Text) × AreGiven gives limit paths texts × Follows texts response) ⊎ IsFirstUnreadable gives limit paths response
@@ -83,23 +83,23 @@ pub record IsNoDefinitions (output : Output) : Type 0 where
   pub err : string_bytes output.err ≡ codes "sagas: log: bad-definitions" ++ line_feed
   pub status : output.status ≡ 3
 
--- the file beside a log has these definitions
+-- the definitions file beside a log has these definitions
 abbrev pub AreBeside : FileGives → Text → List Text → Type 0
 AreBeside gives log texts = (found : Text) × gives (beside log) max_beside (Ok found) × HoldsDefinitions found texts
 
--- the file beside a log cannot be read, or has no definitions, and the output says so
+-- the definitions file beside a log cannot be read or has no definitions, and the output says so
 abbrev pub IsBesideUnread : FileGives → Text → Response → Type 0
 IsBesideUnread gives log response =
     (gives (beside log) max_beside (Err file.Unreadable) × IsAlone (IsUnreadable (beside log)) response)
     ⊎ ((found : Text) × gives (beside log) max_beside (Ok found) × HoldsNone found × IsAlone IsNoDefinitions response)
 
--- the definitions of these files; or without any, those that are stored beside the log, where there is one
+-- the definitions of these files; or without files, those that are stored beside the log, if there is one
 abbrev pub AreFor : FileGives → Option Text → List Text → List Text → Type 0
 AreFor gives None [] texts = ⊥
 AreFor gives (Some log) [] texts = AreBeside gives log texts
 AreFor gives log (def ∷ more) texts = AreGiven gives max_definition (def ∷ more) texts
 
--- there are none that can be read, and the output says so
+-- the definitions cannot be read, and the output says so
 abbrev pub IsUnreadFor : FileGives → Option Text → List Text → Response → Type 0
 IsUnreadFor gives None [] response = IsAlone (IsMisused (codes "error: the argument '<DEF>' is required where no '--log <F>' is given")) response
 IsUnreadFor gives (Some log) [] response = IsBesideUnread gives log response
@@ -110,7 +110,7 @@ abbrev pub AfterDefinitions : FileGives → Option Text → List Text → (List 
 AfterDefinitions gives log defs Follows response =
     ((texts : List Text) × AreFor gives log defs texts × Follows texts response) ⊎ IsUnreadFor gives log defs response
 
--- the text of a file that may be left out: then it is empty
+-- the text of an optional file, which is empty without a path
 abbrev pub IsOptional : FileGives → Option Text → ℕ → Text → Type 0
 IsOptional gives None limit text = text ≡ []
 IsOptional gives (Some path) limit text = gives path limit (Ok text)
@@ -123,7 +123,7 @@ abbrev pub AfterOptional : FileGives → Option Text → ℕ → (Text → Respo
 AfterOptional gives path limit Follows response =
     ((text : Text) × IsOptional gives path limit text × Follows text response) ⊎ IsOptionalUnreadable gives path limit response
 
--- the files are read in order, each up to its limit, and the output is that to their texts
+-- the files are read in order, each up to its limit, and the output is the response to their texts
 abbrev pub ChecksFiles : FileGives → Text → Text → Text → Response → Type 0
 ChecksFiles gives def case answer =
     AfterFile gives def max_definition (λ definition. AfterFile gives case max_certificate (λ states.
@@ -133,7 +133,7 @@ abbrev pub PlansFiles : FileGives → Text → Text → Response → Type 0
 PlansFiles gives def case =
     AfterFile gives def max_definition (λ definition. AfterFile gives case max_certificate (λ states. IsAlone (IsPlanOutput definition states)))
 
--- the definition, the case where one is given, and then the answer where one is given
+-- the definition is read first, then the case and the answer if they are given
 abbrev pub DrawsDefinition : FileGives → Text → Response → Type 0
 DrawsDefinition gives def =
     AfterFile gives def max_definition (λ definition. IsAlone (IsDrawOutput [] definition))
@@ -148,30 +148,30 @@ DrawsAnswer gives def case answer =
     AfterFile gives def max_definition (λ definition. AfterFile gives case max_certificate (λ states.
     AfterFile gives answer max_certificate (λ judged. IsAlone (IsDrawOutput (states ∷ judged ∷ []) definition))))
 
--- the log before the definitions
+-- the log is read before the definitions
 abbrev pub AuditsFiles : FileGives → Text → List Text → Response → Type 0
 AuditsFiles gives log defs =
     AfterFile gives log max_log (λ history. AfterDefinitions gives (Some log) defs (λ texts. IsAlone (IsAuditOutput history texts)))
 
--- what reading standard input may give, or else a file
+-- the results that a read of standard input or of a file may give
 abbrev pub reading_gives : Bool → World → Text → InputGives
 reading_gives true world path = world.input_gives
 reading_gives false world path = world.file_gives path
 
--- what reading a record may give: `-` is standard input
+-- the results that a read of a record may give; `-` is standard input
 abbrev pub record_gives : World → Text → InputGives
 record_gives world path = reading_gives (bytes_eq path (codes "-")) world path
 
 abbrev pub AuditsRecord : World → Text → Response → Type 0
 AuditsRecord world path = AfterReading (record_gives world path) path max_record (λ text. IsAlone (IsRecordOutput text))
 
--- whether a record is audited, which has no definitions
+-- whether the file is a record; an audit of a record takes no definitions
 abbrev pub AuditsBy : World → Bool → Text → List Text → Response → Type 0
 AuditsBy world false log defs = AuditsFiles world.file_gives log defs
 AuditsBy world true path [] = AuditsRecord world path
 AuditsBy world true path (def ∷ more) = IsAlone (IsMisused (codes "error: the argument '--fleet' cannot be used with '[DEF]...'"))
 
--- the output to a run of texts, and its log, where it has one, for the file of a path, where there is one
+-- the response to a run of texts: its output, and its log if it has one and a path is given
 pub record IsRunResponse (definitions : List Text) (script : Text) (shards : ℕ) (path : Option Text) (response : Response) : Type 0 where
   pub shown : RunOutput
   pub runs : IsRunOutput definitions script shards shown
@@ -184,47 +184,48 @@ pub record IsLocked (output : Output) : Type 0 where
   pub err : string_bytes output.err ≡ codes "sagas: log: locked" ++ line_feed
   pub status : output.status ≡ 4
 
--- a log may be written to the file of a path, where there is one
+-- a log may be written to the file of a path, if a path is given
 abbrev pub IsFree : World → Option Text → Type 0
 IsFree world None = ⊤
 IsFree world (Some path) = world.claims path true
 
--- another process holds the log of a path
+-- another process has locked the log of a path
 abbrev pub IsHeld : World → Option Text → Type 0
 IsHeld world None = ⊥
 IsHeld world (Some path) = world.claims path false
 
--- the log is asked for before anything is run: where another process holds it, nothing is run and no log is written
+-- the log is locked before anything is executed; if another process has locked it, nothing is executed and no log is
+-- written
 abbrev pub RunsUnlessHeld : World → List Text → Text → ℕ → Option Text → Response → Type 0
 RunsUnlessHeld world texts lines shards log response =
     (IsFree world log × IsRunResponse texts lines shards log response) ⊎ (IsHeld world log × IsAlone IsLocked response)
 
--- the script before the definitions, and both before the log
+-- the script is read before the definitions, and both before the log is locked
 abbrev pub RunsFiles : World → Option Text → List Text → ℕ → Option Text → Response → Type 0
 RunsFiles world script defs shards log =
     AfterOptional world.file_gives script max_script (λ lines.
     AfterFiles world.file_gives defs max_definition (λ texts. RunsUnlessHeld world texts lines shards log))
 
--- the definitions before the log, which is opened once they hold a shelf
+-- the definitions are read before the log, which is opened only if the definitions form a shelf
 abbrev pub DrivesFiles : World → Option Text → List Text → Response → Type 0
 DrivesFiles world log defs =
     AfterDefinitions world.file_gives log defs (λ texts. IsAlone (IsDriveOutput world.drive log texts))
 
--- the definitions before the log that is only read
+-- the definitions are read before the log, which is not written
 abbrev pub ShowsFiles : World → Option Text → List Text → Response → Type 0
 ShowsFiles world from defs =
     AfterDefinitions world.file_gives None defs (λ texts.
     AfterOptional world.file_gives from max_log (λ text. IsAlone (IsLinesOutput world.drive text texts)))
 
--- whether lines are shown, the log that is written, and that which is only read: lines are shown where no log is written, and a log is
--- only read where lines are shown
+-- whether log lines are printed, the log that is written, and the log that is only read; log lines are printed only if
+-- no log is written, and a log is only read if log lines are printed
 abbrev pub DrivesBy : World → Bool → Option Text → Option Text → List Text → Response → Type 0
 DrivesBy world true (Some log) from defs = IsAlone (IsMisused (codes "error: the argument '--lines' cannot be used with '--log <F>'"))
 DrivesBy world true None from defs = ShowsFiles world from defs
 DrivesBy world false log (Some from) defs = IsAlone (IsMisused (codes "error: the argument '--from <F>' cannot be used without '--lines'"))
 DrivesBy world false log None defs = DrivesFiles world log defs
 
--- a command's output to its files, and what else its words give
+-- the output of a command for its files and its other arguments
 abbrev pub CommandReplies : World → Given → Name → List Text → Response → Type 0
 CommandReplies world given Check (def ∷ case ∷ answer ∷ []) response = ChecksFiles world.file_gives def case answer response
 CommandReplies world given Plan (def ∷ case ∷ []) response = PlansFiles world.file_gives def case response
@@ -238,11 +239,11 @@ CommandReplies world given Drive defs response =
 CommandReplies world given Audit (log ∷ defs) response = AuditsBy world given.fleet log defs response
 CommandReplies world given name files response = ⊥
 
--- what is made of want of memory
+-- the result for a lack of memory
 abbrev pub IsOutOfMemory : AllocError → Unread → Type 0
 IsOutOfMemory error given = given ≡ unread.OutOfMemory
 
--- where want of memory does not end it, a response
+-- a response, unless there was a lack of memory
 abbrev pub Ends : (Response → Type 0) → Result Response Unread → Type 0
 Ends Replies (Ok response) = Replies response
 Ends Replies (Err (unread.Unreadable response)) = Replies response
@@ -275,7 +276,7 @@ pub record IsCommandResponse (world : World) (words : List Text) (response : Res
   pub is : IsCommand words found
   pub replies : CommandReplies world found.given found.name (map (λ s. s.now) found.given.files.items) response
 
--- what is told of words that give none
+-- the output for words that do not give a command
 pub record IsFaultResponse (words : List Text) (response : Response) : Type 0 where
   pub fault : WordsFault
   pub is : IsWordsFault words fault
@@ -287,17 +288,17 @@ RepliesToWords world words response = IsCommandResponse world words response ⊎
 abbrev pub RepliesToInput : InputGives → Response → Type 0
 RepliesToInput gives response = AfterReading gives (codes "-") max_input (λ input. IsAlone (AnswersInput input)) response
 
--- without words standard input is read, and where that is a terminal, help is given
+-- without words the program reads standard input, or shows help if standard input is a terminal
 abbrev pub Replies : World → List Text → Response → Type 0
 Replies world [] response =
     MatchBool world.has_terminal (IsAlone IsHelp response) (RepliesToInput world.input_gives response)
 Replies world words response = RepliesToWords world words response
 
--- standard output took the text, where there is any
+-- standard output has the text, if the text is not empty
 abbrev pub IsPrinted : World → Text → Type 0
 IsPrinted world text = (text ≡ []) ⊎ world.prints text true
 
--- the file took the log, where there is one
+-- the file has the log, if there is one
 abbrev pub IsLogged : World → Option Log → Type 0
 IsLogged world None = ⊤
 IsLogged world (Some log) = world.writes (string_bytes log.path) (string_bytes log.text) true
@@ -306,7 +307,7 @@ pub record IsWritten (world : World) (response : Response) : Type 0 where
   pub printed : IsPrinted world (string_bytes response.output.out)
   pub logged : IsLogged world response.log
 
--- there is text, and standard output takes no more
+-- the text is not empty, and standard output cannot be written
 pub record IsUnprinted (world : World) (text : Text) : Type 0 where
   pub some : text ≢ []
   pub printed : world.prints text false
@@ -319,25 +320,25 @@ pub record IsUnlogged (world : World) (response : Response) (path : Text) : Type
   pub path_is : path ≡ string_bytes log.path
   pub logged : world.writes path (string_bytes log.text) false
 
--- all is written; or what is at a path cannot be
+-- everything is written, or the output at this path cannot be written
 abbrev pub WritesBut : World → Response → Option Text → Type 0
 WritesBut world response None = IsWritten world response
 WritesBut world response (Some path) =
     (IsUnprinted world (string_bytes response.output.out) × (path ≡ codes "-")) ⊎ IsUnlogged world response path
 
--- a line of the output's own goes to standard error, whatever could be written
+-- the output's own line goes to standard error, whether or not the rest could be written
 pub record TellsOwn (world : World) (output : Output) (status : ℕ) : Type 0 where
   pub some : string_bytes output.err ≢ []
   pub told : world.complains (string_bytes output.err)
   pub status_is : status ≡ output.status
 
--- where it has none, what cannot be written is told, and the status is 4
+-- if the output has no such line, a message names what cannot be written, and the status is 4
 pub record TellsUnwritten (world : World) (output : Output) (path : Text) (status : ℕ) : Type 0 where
   pub none : string_bytes output.err ≡ []
   pub told : world.complains (codes "sagas: cannot write " ++ path ++ line_feed)
   pub status_is : status ≡ 4
 
--- nothing is told
+-- no message is written
 pub record TellsNothing (output : Output) (status : ℕ) : Type 0 where
   pub none : string_bytes output.err ≡ []
   pub status_is : status ≡ output.status
@@ -346,13 +347,13 @@ abbrev pub Tells : World → Output → Option Text → ℕ → Type 0
 Tells world output None status = TellsOwn world output status ⊎ TellsNothing output status
 Tells world output (Some path) status = TellsOwn world output status ⊎ TellsUnwritten world output path status
 
--- a response is shown: its text, its log, and one line at most on standard error
+-- a response is shown: its text, its log, and at most one line on standard error
 pub record IsShown (world : World) (response : Response) (status : ℕ) : Type 0 where
   pub unwritten : Option Text
   pub written : WritesBut world response unwritten
   pub told : Tells world response.output unwritten status
 
--- the line and the status of want of memory
+-- the message and the status for a lack of memory
 pub record TellsOutOfMemory (world : World) (status : ℕ) : Type 0 where
   pub told : world.complains (codes "sagas: out of memory" ++ line_feed)
   pub status_is : status ≡ 4
@@ -367,12 +368,12 @@ pub record ShowsResponse (world : World) (words : List Text) (status : ℕ) : Ty
 abbrev pub IsRun : World → List Text → ℕ → Type 0
 IsRun world words status = ShowsResponse world words status ⊎ TellsOutOfMemory world status
 
--- a word that is not UTF-8 is usage
+-- a word that is not UTF-8 is a usage error
 pub record TellsBadWord (world : World) (status : ℕ) : Type 0 where
   pub told : world.complains (codes "error: invalid UTF-8 was detected in one or more arguments" ++ line_feed)
   pub status_is : status ≡ 2
 
--- why there are no words
+-- the reason why there are no words
 abbrev pub TellsNoWords : World → FileFault → ℕ → Type 0
 TellsNoWords world file.OutOfMemory status = TellsOutOfMemory world status
 TellsNoWords world file.Unreadable status = TellsBadWord world status

@@ -1,4 +1,4 @@
--- What is printed of a record of many nodes.
+-- The output for a record of many nodes.
 use Rattle.std.specs.Prelude.{ℕ, Bool, List, [], ◌++◌, codes, decimal, Ok, Err, ◌≡◌, ◌+◌, ◌⊎◌}
 use Rattle.saga_fleet.specs.declared.answers.RecordAnswer.{RecordAnswer}
 use Rattle.saga_fleet.specs.declared.answers.RecordAnswer.TheVariants.{Yes, No}
@@ -12,7 +12,7 @@ use Rattle.saga_texts.specs.declared.outputs.Output.{Output}
 use Rattle.saga_texts.specs.Lines.{line_feed}
 use Rattle.saga_texts.specs.Outputs.{IsOutputWith}
 
--- lines have numbers from 1, and the first event stands in the second
+-- lines are numbered from 1, and the first event is on the second line
 abbrev pub answer_line : RecordAnswer → List ℕ
 answer_line (Yes sessions chunks failovers events) =
     codes "yes sessions " ++ decimal sessions ++ codes " chunks " ++ decimal chunks ++ codes " failovers " ++ decimal failovers
@@ -30,13 +30,13 @@ fault_line BadHeader = codes "sagas: record: no-header" ++ line_feed
 fault_line (BadLine line) = codes "sagas: record: line " ++ decimal line ++ codes ": " ++ codes "not-an-event" ++ line_feed
 fault_line OutOfMemory = []
 
--- the text is no record, and its first fault is told
+-- the text is not a record, and the output has its first fault
 pub record IsRefused (text : List ℕ) (output : Output) : Type 0 where
   pub fault : LineFault
   pub faulty : record_of text ≡ Err fault
   pub shows : IsOutputWith [] (fault_line fault) 3 output
 
--- the text is a record, and it is told whether it is one of a run that is allowed
+-- the text is a record, and the output says whether it is one of an allowed run
 pub record IsJudged (text : List ℕ) (output : Output) : Type 0 where
   pub synchronous : Bool
   pub events : List Event

@@ -1,4 +1,5 @@
-//! The words after a command's name, read by `clap` as the command's row says: one reader for all rows.
+//! Parsing of the words after a command's name with `clap`. One parser serves all commands: the command's row in the
+//! table defines its arguments.
 ghost use Rattle.std.specs.Prelude.{◌≡◌, ◌≤◌, ◌++◌, [], IfErr, OnOk, IfOk, false, map, true};
 ghost use Rattle.std.specs.List.{All};
 ghost use Rattle.clap.specs.Words.{rule_of, app_of, rows_of, found_of, first_of, matches_of, fault_of, HasKind};
@@ -13,11 +14,11 @@ use clap::builder::ValueParser;
 use clap::{Arg, ArgAction, ArgMatches, Command, Error};
 use std::alloc::{AllocError, Global};
 
-/// What stands at the end of each help.
+/// The last lines of each help text.
 pub const STATUSES: &str =
     "Status: 0 a right answer, a plan, a drawing, or a run in which each saga ended; 1 a refused answer, a planned chain, or a stuck saga; 2 usage; 3 bad input; 4 a file, memory, or a run that stopped.";
 
-/// An argument as `clap` takes it.
+/// The `clap` argument for a parameter.
 fn arg_of<'a>(alloc: Global, parameter: &Parameter<'a>) -> Arg<'a>
     ensures rule { rule_of result ≡ rule_for (argument_of parameter.now) }
     ensures own { result.global ≡ false }
@@ -42,7 +43,7 @@ fn arg_of<'a>(alloc: Global, parameter: &Parameter<'a>) -> Arg<'a>
     }
 }
 
-/// The command of a row, which is given the words after its name.
+/// The `clap` command for a row. Its input is the words after the command's name.
 fn command_of<'a>(alloc: Global, form: &Form<'a>) -> Result<Command<'a>, AllocError>
     ensures { IfOk result (λ command. app_of command ≡ app_by (outline_of form.now)) }
 {
@@ -56,7 +57,7 @@ fn command_of<'a>(alloc: Global, form: &Form<'a>) -> Result<Command<'a>, AllocEr
     Ok(command)
 }
 
-/// What `clap` finds among words for the arguments of a row.
+/// Parses words with `clap` by the arguments of a row.
 fn matches_by<'a>(
     alloc: Global,
     form: &Form<'a>,
@@ -76,22 +77,22 @@ fn matches_by<'a>(
     command.try_get_matches_from_mut(words)
 }
 
-/// What the words after a command's name give.
+/// The result of parsing the words after a command's name.
 #[derive(Debug, Drop)]
 pub struct Given<'a> {
-    /// In the order of the command's row.
+    /// The paths, in the order of the command's row.
     pub files: Vec<&'a str>,
     pub script: Option<&'a str>,
     pub log: Option<&'a str>,
     pub lines: bool,
     pub from: Option<&'a str>,
     pub fleet: bool,
-    /// From 1 to 16, and 1 where the command takes no such number; likewise the shards.
+    /// From 1 to 16. It is 1 if the command has no such option; the same holds for `shards`.
     pub workers: usize,
     pub shards: usize,
 }
 
-/// Adds the files that matches have of one argument.
+/// Adds the files of one argument from the matches.
 fn push_files<'a>(
     parameter: &Parameter<'_>,
     matches: &ArgMatches<'a>,
@@ -118,7 +119,7 @@ fn push_files<'a>(
     Ok(())
 }
 
-/// The files that matches have, in the order of the row.
+/// Returns the files from the matches, in the order of the row.
 fn files_of<'a>(
     alloc: Global,
     form: &Form<'_>,
@@ -134,7 +135,7 @@ fn files_of<'a>(
     Ok(files)
 }
 
-/// Whether matches have a flag of that name.
+/// Returns whether the flag with this name is set.
 fn has_flag(matches: &ArgMatches<'_>, name: &str) -> bool
     ensures { result ≡ is_set (first_of name.now (rows_of (found_of matches.now))) }
 {
@@ -144,7 +145,7 @@ fn has_flag(matches: &ArgMatches<'_>, name: &str) -> bool
     }
 }
 
-/// Whether the row has a number of that name.
+/// Returns whether the row has a numeric option with this name.
 fn has_number(form: &Form<'_>, name: &str) -> bool
     ensures { result ≡ has_number name.now (outline_of form.now).arguments }
 {
@@ -156,7 +157,7 @@ fn has_number(form: &Form<'_>, name: &str) -> bool
     false
 }
 
-/// The number of that name, which is 1 where the row has none.
+/// Returns the value of the numeric option with this name, or 1 if the row has no such option.
 fn number_of(form: &Form<'_>, matches: &ArgMatches<'_>, name: &str) -> usize
     requires holds { All (Holds (rows_of (found_of matches.now))) (outline_of form.now).arguments }
     ensures number { IsNumber (outline_of form.now).arguments (rows_of (found_of matches.now))
@@ -172,8 +173,8 @@ fn number_of(form: &Form<'_>, matches: &ArgMatches<'_>, name: &str) -> usize
     }
 }
 
-/// What the words after a command's name give, as its row says. A `clap` command of any row whose names are apart, and
-/// none of them `help` or `version`, is suited.
+/// Parses the words after a command's name, by the command's row. The precondition `suited` holds for a row if the
+/// names of its arguments are distinct and none of them is `help` or `version`.
 pub fn read_by<'a>(alloc: Global, form: &Form<'a>, words: &'a [&'a str]) -> Result<Given<'a>, Error>
     requires suited { is_suited (app_by (outline_of form.now)) ≡ true }
     ensures given { IfOk result

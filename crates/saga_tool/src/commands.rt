@@ -1,4 +1,4 @@
-//! What each command replies to its files.
+//! Execution of each command on its files.
 ghost use Rattle.std.specs.Prelude.{◌≡◌, ◌<◌, ◌≤◌, ◌^◌, Ok, Err, IfErr, IfOk, false, map, option_map, true};
 ghost use Rattle.saga_fleet.specs.Limits.{max_record};
 ghost use Rattle.saga_tool.specs.Command.{IsCommand};
@@ -83,7 +83,7 @@ fn draw_case<W: Outside>(
     Ok(alone(draw_text(alloc, &definition, Scene::Case(&case))?))
 }
 
-/// Draws a definition with the states of a case, and what an answer marks.
+/// Draws a definition with the states of a case and the marks of an answer.
 fn draw_answer<W: Outside>(
     outside: &W,
     alloc: Global,
@@ -100,7 +100,7 @@ fn draw_answer<W: Outside>(
     Ok(alone(draw_text(alloc, &definition, Scene::Answer(&case, &answer))?))
 }
 
-/// The texts, borrowed.
+/// The texts as slices.
 fn slices_of<'a>(alloc: Global, texts: &'a [Vec<u8>]) -> Result<Vec<&'a [u8]>, AllocError>
     ensures { IfOk result
         (λ slices. map (λ t. t.now) slices.items ≡ map (λ t. t.items) texts.entry.now) }
@@ -128,7 +128,7 @@ fn audit<R: Threads + Wait + Sync, W: Outside>(
     Ok(alone(audit_text(rt, alloc, &history, &definitions)?))
 }
 
-/// The text of standard input, up to one byte past the limit of a record. What cannot be read is named by the path.
+/// The text of standard input, up to one byte past the limit of a record. If reading fails, the message names the path.
 fn input_of<W: Outside>(outside: &W, alloc: Global, path: &str) -> Result<Vec<u8>, Unread>
     ensures text { IfOk result (λ text.
         (W.world outside.now).input_gives max_record (Ok text.items)) }
@@ -143,7 +143,8 @@ fn input_of<W: Outside>(outside: &W, alloc: Global, path: &str) -> Result<Vec<u8
     }
 }
 
-/// The text of a record, up to one byte past its limit: that of a file, or of standard input where the path is `-`.
+/// The text of a record, up to one byte past its limit. It is read from a file, or from standard input if the path is
+/// `-`.
 fn record_of<W: Outside>(outside: &W, alloc: Global, path: &str) -> Result<Vec<u8>, Unread>
     ensures text { IfOk result (λ text.
         record_gives (W.world outside.now) path.now max_record (Ok text.items)) }
@@ -165,7 +166,7 @@ fn audit_fleet<W: Outside>(outside: &W, alloc: Global, path: &str) -> Result<Res
     Ok(alone(judge_record(alloc, &text)?))
 }
 
-/// What is replied to a command that audits, by whether it is a record that is audited.
+/// The response to the command `audit`. The flag says whether the file is a record of many nodes.
 #[tactic(auto, using(crate::proofs::ReplyLemmas::log_audited, crate::proofs::ReplyLemmas::record_audited))]
 fn audit_by<R: Threads + Wait + Sync, W: Outside>(
     rt: &R,
@@ -188,7 +189,7 @@ fn audit_by<R: Threads + Wait + Sync, W: Outside>(
     }
 }
 
-/// The text of a file that may be left out: then it is empty.
+/// The text of an optional file. Without a path the text is empty.
 fn text_if_any<W: Outside>(
     outside: &W,
     alloc: Global,
@@ -210,7 +211,7 @@ fn text_if_any<W: Outside>(
     }
 }
 
-/// Holds the log of a run, where there is one, and whether it may be written: another process may hold it.
+/// Locks the log of a run, if there is one. Returns false if another process has locked the log.
 fn may_log<W: Outside>(outside: &W, log: Option<&str>, held: &mut Option<W::Held>) -> bool
     ensures free { result ≡ true
         → IsFree (W.world outside.now) (option_map (λ s. s.now) log.entry) }
@@ -229,7 +230,7 @@ fn may_log<W: Outside>(outside: &W, log: Option<&str>, held: &mut Option<W::Held
     }
 }
 
-/// What is told where another process holds the log.
+/// The output if another process has locked the log.
 fn locked(alloc: Global) -> Result<Output, AllocError>
     ensures { IfOk result IsLocked }
 {
@@ -240,7 +241,7 @@ fn locked(alloc: Global) -> Result<Output, AllocError>
     })
 }
 
-/// What is replied to a command that runs sagas, by what its words give. The log is held before anything is run.
+/// The response to the command `run`. The log is locked before anything is executed.
 fn run_sagas<R: Threads + Wait + Sync, W: Outside>(
     rt: &R,
     outside: &W,
@@ -269,7 +270,7 @@ fn run_sagas<R: Threads + Wait + Sync, W: Outside>(
     })
 }
 
-/// Drives sagas for another program, by what the words of the command give; the output is what is said in the end.
+/// Runs the command `drive` with the options that were given. The output is the last message.
 fn drive_sagas<R: Wait, W: Outside>(
     rt: &R,
     outside: &W,
@@ -285,7 +286,7 @@ fn drive_sagas<R: Wait, W: Outside>(
     Ok(alone(output))
 }
 
-/// Drives sagas for another program that writes their log itself; the output is what is said in the end.
+/// Runs `drive --lines`, for a program that writes the log itself. The output is the last message.
 fn show_sagas<R: Wait, W: Outside>(
     rt: &R,
     outside: &W,
@@ -302,7 +303,7 @@ fn show_sagas<R: Wait, W: Outside>(
     Ok(alone(output))
 }
 
-/// What is replied to a command that drives sagas, by what its words give.
+/// The response to the command `drive`.
 fn drive<R: Wait, W: Outside>(
     rt: &R,
     outside: &W,
@@ -321,7 +322,7 @@ fn drive<R: Wait, W: Outside>(
     }
 }
 
-/// What is replied to a command that words gave.
+/// Returns the response to a command.
 pub fn on_command<R: Threads + Wait + Sync, W: Outside>(
     rt: &R,
     outside: &W,

@@ -1,4 +1,4 @@
-//! The texts of files, read in order.
+//! Reads the texts of files in order.
 ghost use Rattle.std.specs.Prelude.{◌≡◌, ◌<◌, ◌^◌, Ok, Err, IfErr, IfOk, map, option_map};
 ghost use Rattle.saga_tool.specs.Program.{IsUnreadable, AreFor, AreGiven, AreBeside, IsFirstUnreadable, IsBesideUnread, IsMisused, IsNoDefinitions, IsUnreadFor, StopsBy, IsOutOfMemory, IsResponseOf};
 ghost use Rattle.saga_tool.specs.Responses.{IsAlone};
@@ -12,7 +12,7 @@ use std::alloc::{AllocError, AllocFailed, Global};
 
 const NO_DEFINITION: &str = "error: the argument '<DEF>' is required where no '--log <F>' is given";
 
-/// Why files give no texts: one of them cannot be read, and the output says so, or want of memory.
+/// Why texts could not be read: a file is unreadable, with the output that says so; or lack of memory.
 #[derive(Drop)]
 pub enum Unread {
     Unreadable(Response),
@@ -38,7 +38,7 @@ impl<T: Drop> From<AllocFailed<T>> for Unread {
     }
 }
 
-/// The output where a file cannot be read.
+/// The output if a file cannot be read.
 pub fn unreadable(alloc: Global, path: &str) -> Result<Response, AllocError>
     ensures { IfOk result (IsAlone (IsUnreadable path.now)) }
 {
@@ -70,7 +70,7 @@ pub fn text_of<W: Outside>(
     }
 }
 
-/// The texts of files, in their order, each up to one byte past the limit.
+/// The texts of files, in order, each up to one byte past the limit.
 pub fn texts_of<W: Outside>(
     outside: &W,
     alloc: Global,
@@ -91,7 +91,7 @@ pub fn texts_of<W: Outside>(
     Ok(texts)
 }
 
-/// The output where options do not go together.
+/// The output if options conflict.
 pub fn misused(alloc: Global, line: &str) -> Result<Output, AllocError>
     ensures { IfOk result (IsMisused line.now) }
 {
@@ -102,7 +102,7 @@ pub fn misused(alloc: Global, line: &str) -> Result<Output, AllocError>
     })
 }
 
-/// The output where a file beside a log has no definitions.
+/// The output if the definitions file beside a log has no definitions.
 fn no_definitions(alloc: Global) -> Result<Output, AllocError>
     ensures { IfOk result IsNoDefinitions }
 {
@@ -113,7 +113,7 @@ fn no_definitions(alloc: Global) -> Result<Output, AllocError>
     })
 }
 
-/// The texts, each on its own.
+/// Copies of the texts.
 fn owned(alloc: Global, texts: &[&[u8]]) -> Result<Vec<Vec<u8>>, AllocError>
     ensures { IfOk result (λ owned. map (λ t. t.items) owned.items ≡ map (λ t. t.now) texts.now) }
 {
@@ -124,7 +124,7 @@ fn owned(alloc: Global, texts: &[&[u8]]) -> Result<Vec<Vec<u8>>, AllocError>
     Ok(owned)
 }
 
-/// The texts of the definitions that are stored beside a log.
+/// The texts of the definitions in the file beside a log.
 fn texts_beside<W: Outside>(outside: &W, alloc: Global, log: &str) -> Result<Vec<Vec<u8>>, Unread>
     ensures texts { IfOk result (λ texts. AreBeside (W.world outside.now).file_gives log.now
         (map (λ t. t.items) texts.items)) }
@@ -138,7 +138,8 @@ fn texts_beside<W: Outside>(outside: &W, alloc: Global, log: &str) -> Result<Vec
     Ok(owned(alloc, &stored)?)
 }
 
-/// The texts of definitions: those of the files, or without any, those that are stored beside the log, where there is one.
+/// The texts of definitions: those of the files; or without files, those that are stored beside the log, if there is
+/// one.
 pub fn texts_for<W: Outside>(
     outside: &W,
     alloc: Global,
@@ -160,7 +161,7 @@ pub fn texts_for<W: Outside>(
     }
 }
 
-/// The response, also where a file cannot be read.
+/// The response, which is also present if a file cannot be read.
 pub fn settled(ended: Result<Response, Unread>) -> Result<Response, AllocError>
     ensures { IfOk result (IsResponseOf ended) }
 {

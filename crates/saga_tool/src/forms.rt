@@ -1,13 +1,13 @@
-//! The commands as data: one row each, with its arguments and what it is for.
+//! The table of commands: one row for each, with its arguments and its purpose.
 ghost use Rattle.std.specs.Prelude.{◌≡◌, IfNone, IfSome};
 ghost use Rattle.saga_tool.specs.Forms.{outline_of, outline_for, word_for};
 
-/// What an argument of a command is.
+/// The kind of an argument.
 #[derive(Clone, Copy, Debug, PartialEq, Eq)]
 pub enum Kind {
-    /// A file that has to be given.
+    /// A required file.
     File,
-    /// A file that may be left out.
+    /// An optional file.
     Optional,
     /// Any number of further files.
     Files,
@@ -23,9 +23,9 @@ pub enum Kind {
 #[derive(Clone, Copy, Debug)]
 pub struct Parameter<'a> {
     pub kind: Kind,
-    /// The name that tells it from the others; of an option, what stands behind `--`.
+    /// The unique name of the argument. For an option, it is the text after `--`.
     pub name: &'a str,
-    /// What stands for its value in the usage; of a flag nothing.
+    /// The placeholder for the value in the usage text. It is empty for a flag.
     pub shown: &'a str,
     pub help: &'a str,
 }
@@ -41,7 +41,7 @@ pub enum Name {
     Drive,
 }
 
-/// The commands, as help lists them.
+/// The commands, in the order of the help text.
 pub const NAMES: [Name; 6] = [
     Name::Check,
     Name::Plan,
@@ -51,16 +51,16 @@ pub const NAMES: [Name; 6] = [
     Name::Drive,
 ];
 
-/// A row of the table.
+/// A row of the table of commands.
 #[derive(Clone, Copy, Debug)]
 pub struct Form<'a> {
     pub word: &'a str,
-    /// The program's name and the word.
+    /// The program's name and the command's name.
     pub title: &'a str,
-    /// What the command is for, in a few words.
+    /// A short description of the command.
     pub brief: &'a str,
     pub about: &'a str,
-    /// Files are read in this order.
+    /// The parameters. Files are read in this order.
     pub parameters: &'a [Parameter<'a>],
 }
 
@@ -85,7 +85,7 @@ const ANSWER: Parameter<'static> = Parameter {
     help: "the plan or the chain, a JSON file",
 };
 
-/// For a command that takes them or not.
+/// The optional case of a command.
 const CASE_IF_ANY: Parameter<'static> = Parameter {
     kind: Kind::Optional,
     ..CASE
@@ -166,7 +166,7 @@ const FIRST: Parameter<'static> = Parameter {
     help: "the first definition of the shelf, a TOML file",
 };
 
-/// For a log, beside which they may be stored.
+/// Definitions of a command that may find them beside its log.
 const ANY: Parameter<'static> = Parameter {
     kind: Kind::Files,
     name: "DEF",
@@ -232,7 +232,7 @@ pub fn form_of(name: Name) -> Form<'static>
     }
 }
 
-/// The command that a word names.
+/// The command with this name.
 pub fn named(word: &str) -> Option<Name>
     ensures some { IfSome result (λ name. word.now ≡ word_for name) }
     ensures none { IfNone result ((name : _) → word.now ≡ word_for name → ⊥) }

@@ -1,4 +1,4 @@
-//! What is answered to standard input.
+//! The response to standard input.
 ghost use Rattle.std.specs.Prelude.{◌↔◌, ◌<◌, IfOk, IsTrue, length};
 ghost use Rattle.saga_tool.specs.Input.{AnswersInput, IsBadInput};
 ghost use Rattle.saga_tool.specs.Limits.{max_input};
@@ -24,7 +24,7 @@ fn bad_input(alloc: Global, err: &str) -> Result<Output, AllocError>
     })
 }
 
-/// As [`check_text`], with the three texts in one input, between lines that are exactly `---`.
+/// Returns the result of [`check_text`] for three texts in one input, which lines that are exactly `---` separate.
 pub fn check_input(alloc: Global, input: &[u8]) -> Result<Output, AllocError>
     ensures { IfOk result (AnswersInput input.now) }
 {

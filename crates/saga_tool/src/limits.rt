@@ -1,7 +1,7 @@
-//! The limits of words and of standard input; those of texts and logs are those of the crates that read them.
+//! The limits of arguments and of standard input. The crates that read texts and logs define the limits of those.
 
-/// The most bytes of standard input.
+/// The maximum number of bytes of standard input.
 pub const MAX_INPUT: usize = 1_048_576;
 
-/// The most workers, and the most shards, of a run.
+/// The maximum number of workers, and of shards, of a run.
 pub const MAX_NUMBER: u64 = 16;

@@ -1,7 +1,8 @@
-//! The program `sagas`: runs sagas, finds the cheapest way to end one in which a step has failed, and judges such plans.
+//! The program `sagas`: runs sagas, finds a minimum-cost plan for a saga in which a step has failed, and checks such
+//! plans.
 //!
-//! The work is done by functions over bytes, and by `run` over whatever outside it is given. `main` hands it the system
-//! and the words.
+//! Functions over bytes do the work, and `run` connects them to an abstract outside world. `main` calls `run` with the
+//! system and the arguments.
 #![tactic(auto)]
 
 mod arguments;
@@ -30,7 +31,7 @@ use std::process::ExitCode;
 use std::sync::Wait;
 use std::thread::Threads;
 
-/// The words after the program's name.
+/// The arguments after the program's name.
 fn words_of(rt: &HostRuntime) -> io::Result<Vec<String>> {
     let mut words = Vec::new(rt.alloc());
     for word in env::args(rt)?.skip(1) {
@@ -39,7 +40,7 @@ fn words_of(rt: &HostRuntime) -> io::Result<Vec<String>> {
     Ok(words)
 }
 
-/// The status of a run on the words of the command line.
+/// The exit status of a run with the arguments of the command line.
 fn status_of<R: Threads + Wait + Sync>(
     rt: &R,
     outside: &impl Outside,

@@ -1,10 +1,10 @@
-//! Standard input in three parts.
+//! Splits standard input into three parts.
 ghost use Rattle.std.specs.Prelude.{◌≡◌, ◌↔◌, ◌<◌, ◌≤◌, ◌+◌, IsTrue, IfSome, IfNone, length, MatchOption};
 ghost use Rattle.saga_tool.specs.Parts.{IsSeparator, IsFirstSeparator, HasNoSeparator, AreParts, HasNoParts};
 
 const SEPARATOR: &[u8] = b"---";
 
-/// A definition, a case and an answer, as texts.
+/// The texts of a definition, a case and an answer.
 #[derive(Clone, Copy)]
 pub struct Parts<'a> {
     pub definition: &'a [u8],
@@ -12,7 +12,7 @@ pub struct Parts<'a> {
     pub answer: &'a [u8],
 }
 
-/// Whether a line that is exactly `---` begins at a place.
+/// Returns whether a line that is exactly `---` starts at an index.
 fn is_separator(input: &[u8], at: usize) -> bool
     requires { at < length input.now }
     ensures { IsTrue result ↔ IsSeparator input.now at }
@@ -25,7 +25,7 @@ fn is_separator(input: &[u8], at: usize) -> bool
     is_marked && (input.len() == at + 3 || input[at + 3] == b'\n')
 }
 
-/// The first line that is exactly `---`, from a place on.
+/// The first line that is exactly `---`, from an index on.
 fn next_separator(input: &[u8], from: usize) -> Option<usize>
     ensures none { IfNone result (HasNoSeparator input.now from) }
     ensures some { IfSome result (λ at. IsFirstSeparator input.now from at) }
@@ -39,7 +39,7 @@ fn next_separator(input: &[u8], from: usize) -> Option<usize>
 }
 
 /// The three parts of an input, which the first two lines that are exactly `---` separate. A part keeps the line feed
-/// before a separator; what follows the separator's own line feed is the next part.
+/// before a separator. The next part starts after the separator's own line feed.
 pub fn parts_of<'a>(input: &'a [u8]) -> Option<Parts<'a>>
     ensures none { IfNone result (HasNoParts input.entry.now) }
     ensures some { IfSome result

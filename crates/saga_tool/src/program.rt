@@ -1,4 +1,5 @@
-//! The program over any outside: which texts are read and in which order, what is replied, and what is shown.
+//! The program over any outside world: which texts are read and in which order, the response, and how the response is
+//! shown.
 ghost use Rattle.std.specs.Prelude.{◌≡◌, IfOk, map};
 ghost use Rattle.std.specs.IoError.{error_kind};
 ghost use Rattle.saga_tool.specs.Outside.{file_fault_of};
@@ -20,7 +21,7 @@ use std::io;
 use std::sync::Wait;
 use std::thread::Threads;
 
-/// What `clap` has to say: help, or why the words are not of the form.
+/// The output for an error of `clap`: help, or the usage error.
 fn told(alloc: Global, fault: &WordsFault) -> Result<Output, AllocError>
     ensures { IfOk result (IsTold fault.now) }
 {
@@ -39,7 +40,7 @@ fn told(alloc: Global, fault: &WordsFault) -> Result<Output, AllocError>
     }
 }
 
-/// What is replied to words.
+/// The response to arguments.
 fn on_words<'a, R: Threads + Wait + Sync, W: Outside>(
     rt: &R,
     outside: &W,
@@ -56,7 +57,7 @@ fn on_words<'a, R: Threads + Wait + Sync, W: Outside>(
     }
 }
 
-/// What is replied to a call for help.
+/// The response that shows the help.
 fn help<R: Threads + Wait + Sync, W: Outside>(
     rt: &R,
     outside: &W,
@@ -68,7 +69,7 @@ fn help<R: Threads + Wait + Sync, W: Outside>(
     on_words(rt, outside, alloc, ["--help"].as_slice(), held)
 }
 
-/// What is replied to standard input.
+/// The response to standard input.
 fn on_input<W: Outside>(outside: &W, alloc: Global) -> Result<Response, AllocError>
     ensures { IfOk result (RepliesToInput (W.world outside.now).input_gives) }
 {
@@ -79,8 +80,9 @@ fn on_input<W: Outside>(outside: &W, alloc: Global) -> Result<Response, AllocErr
     }
 }
 
-/// What is replied to the words after the program's name, and what is held of the log that it has: the output to the texts that they name, read in order; help or
-/// usage; without words, the output to standard input, and help where that is a terminal.
+/// The response to the words after the program's name. It depends on the texts of the files that they name, which are
+/// read in order; or it is help or a usage error. Without words, the response is that to standard input, or help if
+/// standard input is a terminal. `held` gets the locked log of the run, if there is one.
 pub fn respond<'a, R: Threads + Wait + Sync, W: Outside>(
     rt: &R,
     outside: &W,
@@ -106,7 +108,7 @@ fn out_of_memory<W: Outside>(outside: &W) -> u8
     4
 }
 
-/// Shows what is replied to the words after the program's name; gives the status.
+/// Computes and shows the response to the words after the program's name. Returns the status.
 fn respond_and_show<'a, R: Threads + Wait + Sync, W: Outside>(
     rt: &R,
     outside: &W,
@@ -120,7 +122,8 @@ fn respond_and_show<'a, R: Threads + Wait + Sync, W: Outside>(
     show(outside, alloc, &response, &mut held)
 }
 
-/// Replies to the words after the program's name, and shows the output; gives the status of the program.
+/// Computes and shows the response to the words after the program's name. Returns the exit status, also if there is a
+/// lack of memory.
 pub fn run<'a, R: Threads + Wait + Sync, W: Outside>(
     rt: &R,
     outside: &W,
@@ -135,7 +138,7 @@ pub fn run<'a, R: Threads + Wait + Sync, W: Outside>(
     }
 }
 
-/// Tells why there are no words: want of memory, or a word that is not UTF-8. Gives the status.
+/// Reports why there are no words: lack of memory, or a word that is not UTF-8. Returns the status.
 pub fn without_words<W: Outside>(outside: &W, error: &io::Error) -> u8
     ensures { TellsNoWords (W.world outside.now) (file_fault_of (error_kind error.now)) result }
 {

@@ -1,4 +1,4 @@
-//! What is answered to a record of many nodes.
+//! The response to a record of many nodes.
 ghost use Rattle.std.specs.Prelude.{◌≡◌, ◌++◌, Bool, IfOk, OnOk, Ok, Err, decimal};
 ghost use Rattle.std.specs.String.{string_bytes};
 ghost use Rattle.saga_fleet.specs.Lines.{record_of};
@@ -9,7 +9,7 @@ use saga_fleet::{Event, LineFault, Record, RecordAnswer, audit_record, read_reco
 use saga_texts::{Output, numbered_line};
 use std::alloc::{AllocError, Global};
 
-/// Adds a word and a number.
+/// Appends a word and a number.
 fn push_count(alloc: Global, line: &mut String, word: &str, count: usize) -> Result<(), AllocError>
     ensures { OnOk result
         (string_bytes line.new ≡ string_bytes line.old ++ word.now ++ decimal count) }
@@ -18,7 +18,7 @@ fn push_count(alloc: Global, line: &mut String, word: &str, count: usize) -> Res
     line.push_str(format!(in alloc; "{count}")?.as_str())
 }
 
-/// The line of an answer to these events, the first of which stands in the second line of its record.
+/// The line for the result of an audit of these events. The first event is on the second line of the record.
 fn answer_line(alloc: Global, events: &[Event], answer: RecordAnswer) -> Result<String, AllocError>
     requires { (synchronous : Bool) × IsAnswer synchronous events.now answer }
     ensures { IfOk result (λ text. string_bytes text ≡ answer_line answer) }
@@ -67,7 +67,7 @@ fn fault_line(alloc: Global, fault: LineFault) -> Result<String, AllocError>
     }
 }
 
-/// What is answered to a text that is no record.
+/// The response to a text that is not a record.
 fn refuse(alloc: Global, fault: LineFault) -> Result<Output, AllocError>
     ensures { (text : _) → record_of text ≡ Err fault → IfOk result (IsRefused text) }
 {
@@ -78,7 +78,7 @@ fn refuse(alloc: Global, fault: LineFault) -> Result<Output, AllocError>
     })
 }
 
-/// What is answered to a record.
+/// The response to a record.
 fn judge(alloc: Global, held: &Record) -> Result<Output, AllocError>
     ensures { (text : _)
         → record_of text ≡ Ok (held.now.is_synchronous, held.now.events.items)
@@ -93,8 +93,8 @@ fn judge(alloc: Global, held: &Record) -> Result<Output, AllocError>
     })
 }
 
-/// Whether a record is one of a run that is allowed, as an output: the first line that is not is told by its number, from 1,
-/// with the reason. In time and memory linear in the text.
+/// Audits a record. The output says whether the record is one of an allowed run. Otherwise it has the number, from 1,
+/// of the first line that is not allowed, and the reason. Takes time and memory linear in the text.
 pub fn judge_record(alloc: Global, text: &[u8]) -> Result<Output, AllocError>
     ensures { IfOk result (IsRecordOutput text.now) }
 {

@@ -1,4 +1,4 @@
-//! What the program answers to words: an output, and the log of a run with the file that it is for.
+//! The response of the program to arguments: an output, and the log of a run with the path of its file.
 ghost use Rattle.std.specs.Prelude.{◌≡◌, IfOk, option_map};
 ghost use Rattle.std.specs.String.{string_bytes};
 ghost use Rattle.saga_tool.specs.Responses.{alone, IsLogFor};
@@ -6,14 +6,14 @@ ghost use Rattle.saga_tool.specs.Responses.{alone, IsLogFor};
 use saga_texts::Output;
 use std::alloc::{AllocError, Global};
 
-/// A log, and the path of the file that it is written to.
+/// A log, and the path of its file.
 #[derive(Debug, Drop)]
 pub struct Log {
     pub path: String,
     pub text: String,
 }
 
-/// An output, and the log to write once the output's text is printed.
+/// An output, and the log that is written after the text of the output is printed.
 #[derive(Debug, Drop)]
 pub struct Response {
     pub output: Output,
@@ -27,7 +27,7 @@ pub fn alone(output: Output) -> Response
     Response { output, log: None }
 }
 
-/// The log for a file, where there are both.
+/// The log with its path, if both are present.
 pub fn log_for(
     alloc: Global,
     path: Option<&str>,

@@ -1,4 +1,4 @@
-//! Showing a response: on standard output, in the file of its log, and on standard error.
+//! Shows a response: writes to standard output, to the file of the log, and to standard error.
 ghost use Rattle.std.specs.Prelude.{◌≡◌, ◌≢◌, [], IfOk, false, option_map, true};
 ghost use Rattle.std.specs.String.{string_bytes};
 ghost use Rattle.saga_tool.specs.Program.{IsPrinted, IsUnprinted, WritesBut, IsShown};
@@ -8,7 +8,7 @@ use crate::responses::Response;
 use saga_texts::Output;
 use std::alloc::{AllocError, Global};
 
-/// Prints a text, where there is any; false where standard output takes no more.
+/// Prints a text that is not empty. Returns false if standard output cannot be written.
 fn print<W: Outside>(outside: &W, text: &str) -> bool
     ensures done { result ≡ true → IsPrinted (W.world outside.now) text.now }
     ensures failed { result ≡ false → IsUnprinted (W.world outside.now) text.now }
@@ -16,8 +16,8 @@ fn print<W: Outside>(outside: &W, text: &str) -> bool
     text.is_empty() || outside.print(text)
 }
 
-/// Prints what a response has for standard output, and then writes its log. Gives the path of what cannot be written, which
-/// is `-` for standard output, and then no log is written.
+/// Prints the text of a response to standard output, and then writes its log. Returns the path of the first that cannot
+/// be written. This path is `-` for standard output, and then no log is written.
 fn write<'a, W: Outside>(
     outside: &W,
     response: &'a Response,
@@ -36,7 +36,7 @@ fn write<'a, W: Outside>(
     }
 }
 
-/// Whether an output has a line for standard error.
+/// Returns whether an output has a line for standard error.
 fn has_line(output: &Output) -> bool
     ensures some { result ≡ true → string_bytes output.now.err ≢ [] }
     ensures none { result ≡ false → string_bytes output.now.err ≡ [] }
@@ -44,8 +44,8 @@ fn has_line(output: &Output) -> bool
     !output.err.is_empty()
 }
 
-/// Shows a response: what it has for standard output is printed, then its log is written, then one line at most goes to
-/// standard error: the output's own, or what cannot be written. Gives the status.
+/// Shows a response. First its text is printed to standard output, then its log is written. Then at most one line goes
+/// to standard error: the line of the output, or a message about what cannot be written. Returns the status.
 pub fn show<W: Outside>(
     outside: &W,
     alloc: Global,

@@ -1,4 +1,4 @@
-//! The words of the command line, read by `clap`.
+//! Parsing of the command line with `clap`.
 ghost use Rattle.std.specs.Prelude.{◌≡◌, [], IfErr, IfOk, map};
 ghost use Rattle.clap.specs.Words.{app_of};
 ghost use Rattle.saga_tool.specs.Command.{IsCommand, IsTaken, IsMadeOf, IsWordsFault, IsOther, may_be_option, sagas_app};
@@ -19,21 +19,21 @@ Without words, a definition, a case and an answer are read from standard input, 
 
 const NO_SUCH_COMMAND: &str = "no such command";
 
-/// A command with what its words give.
+/// A command with its parsed arguments.
 #[derive(Debug, Drop)]
 pub struct Words<'a> {
     pub name: Name,
     pub given: Given<'a>,
 }
 
-/// Why words give no command: `clap`'s error, by its kind.
+/// Why words give no command: the error of `clap`, by its kind.
 #[derive(Drop)]
 pub enum WordsFault {
-    /// The words are not of the form; the error has the text for standard error.
+    /// A usage error, with the text for standard error.
     Usage(Error),
-    /// Help or the version is asked for; the error has the text for standard output.
+    /// A request for help or the version, with the text for standard output.
     Help(Error),
-    /// A growth of memory was refused.
+    /// A memory allocation failed.
     OutOfMemory,
 }
 
@@ -49,7 +49,7 @@ impl From<Error> for WordsFault {
     }
 }
 
-/// Adds a line on a command: its words, and what it is for.
+/// Appends the help line of a command: its usage and its description.
 fn push_line(lines: &mut String, form: &Form<'_>) -> Result<(), AllocError> {
     lines.push_str(form.word)?;
     for parameter in form.parameters {
@@ -87,7 +87,7 @@ fn push_line(lines: &mut String, form: &Form<'_>) -> Result<(), AllocError> {
     lines.push_str("\n")
 }
 
-/// A line for each command.
+/// The help lines of all commands.
 fn commands(alloc: Global) -> Result<String, AllocError> {
     let mut lines = String::new(alloc);
     for name in &NAMES {
@@ -97,7 +97,7 @@ fn commands(alloc: Global) -> Result<String, AllocError> {
     Ok(lines)
 }
 
-/// The program, which wants one of the commands.
+/// The `clap` command of the program, which requires one of its commands.
 fn sagas<'a>(alloc: Global, commands: &'a str) -> Result<Command<'a>, AllocError>
     ensures { IfOk result (λ command. app_of command ≡ sagas_app) }
 {
@@ -113,7 +113,7 @@ fn sagas<'a>(alloc: Global, commands: &'a str) -> Result<Command<'a>, AllocError
         .arg(command)
 }
 
-/// Whether there is no word, or one that begins with a hyphen.
+/// Returns whether there is no word, or the word starts with a hyphen.
 fn may_be_option(first: &[&str]) -> bool
     ensures { result ≡ may_be_option (map (λ s. s.now) first.now) }
 {
@@ -123,12 +123,13 @@ fn may_be_option(first: &[&str]) -> bool
     }
 }
 
-/// Why no command is known: there is no word, or the first asks for help or the version, or is none of the commands.
+/// The error if no command is named: there is no word, or the first word asks for help or the version, or it is not the
+/// name of a command.
 fn without_command(alloc: Global, first: &[&str]) -> Result<Error, AllocError>
     ensures { IfOk result (λ error. IsOther (map (λ s. s.now) first.now) error) }
 {
     let commands = commands(alloc)?;
-    // at the lifetime of the list
+    // with the lifetime of the list
     let first: &[&str] = first;
     let mut sagas = sagas(alloc, commands.as_str())?;
     if !may_be_option(first) {
@@ -140,8 +141,8 @@ fn without_command(alloc: Global, first: &[&str]) -> Result<Error, AllocError>
     }
 }
 
-/// The command that the words after the program's name give: its files and options are what `clap` finds among the words
-/// after the first. `--workers` and `--shards` are 1 where they are not given.
+/// Parses the words after the program's name. The first word names the command. `clap` parses the others as its files
+/// and options. `--workers` and `--shards` are 1 by default.
 pub fn read_words<'a>(alloc: Global, words: &'a [&'a str]) -> Result<Words<'a>, WordsFault>
     ensures command { IfOk result (IsCommand (map (λ s. s.now) words.entry.now)) }
     ensures fault { IfErr result (IsWordsFault (map (λ s. s.now) words.entry.now)) }

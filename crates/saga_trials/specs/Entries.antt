@@ -1,4 +1,4 @@
--- What the service notes of the events of a history.
+-- The entries of the service for the events of a history.
 use Rattle.std.specs.Prelude.{◌≡◌, ◌++◌, List, Option, Some, None}
 use Rattle.std.specs.List.{filter_map}
 use Rattle.saga_core.specs.Book.{Book}
@@ -7,7 +7,7 @@ use Rattle.saga_history.specs.declared.events.Event.TheVariants as event
 use Rattle.saga_trials.specs.declared.trips.Entry.{Entry}
 use Rattle.saga_trials.specs.declared.trips.Entry.TheVariants.{Booked, Refused, Cancelled}
 
--- the end of an action makes an entry, and so does that of a compensation, which never fails here
+-- the end of an action has an entry, and so has the end of a compensation, which never fails here
 abbrev pub entry_of : Event → Option Entry
 entry_of (event.Open i k) = None
 entry_of (event.StartRun i s) = None
@@ -26,6 +26,6 @@ entry_of (event.Abort i) = None
 abbrev pub entries_of : List Event → List Entry
 entries_of h = filter_map entry_of h
 
--- what happened to a book makes these entries
+-- the new events of a book have these entries
 abbrev pub AreNoted : Book → Book → List Entry → Type 0
 AreNoted old new entries = entries_of new.history ≡ entries_of old.history ++ entries

@@ -1,4 +1,4 @@
--- A tour is booked for a trip only where it has a seat.
+-- A tour is booked for a trip only if it has a seat for the trip.
 use Rattle.std.specs.Prelude.{◌≡◌, ℕ, ◌<◌, All, false, Some, slice_get}
 use Rattle.saga_core.specs.Book.{Book}
 use Rattle.saga_desk.specs.Job.{Job}
@@ -15,11 +15,11 @@ use Rattle.saga_trials.specs.Entries.{entries_of}
 abbrev pub HasSeat : Agency → ℕ → ℕ → Type 0
 HasSeat agency trip step = slice_get agency.services.items step ≡ Some Tour → trip < SEATS
 
--- what the agency may answer to a job
+-- the outcomes that the agency may return for a job
 abbrev pub MayAnswer : Agency → Job → Outcome → Type 0
 MayAnswer agency job outcome = outcome ≡ Done → job.is_undo ≡ false → HasSeat agency job.saga job.step
 
--- what is booked has its seat
+-- a booked step has its seat
 abbrev pub EntryHasSeat : Agency → Entry → Type 0
 EntryHasSeat agency (Booked i s) = HasSeat agency i s
 EntryHasSeat agency (Refused i s) = Unit {0}

@@ -1,4 +1,4 @@
-//! The agency, which books and cancels.
+//! The agency, which books and cancels the steps of trips.
 use anyhow::{Result, bail};
 use saga_def::Definition;
 use saga_desk::Job;
@@ -6,10 +6,10 @@ use saga_history::Outcome;
 use saga_work::Actor;
 use std::alloc::Global;
 
-/// How many seats the tour has, for the first trips.
+/// The number of seats of the tour. The first trips get them.
 pub const SEATS: u32 = 2;
 
-/// What can be booked.
+/// The services that can be booked.
 #[derive(Clone, Copy, Debug)]
 pub enum Service {
     Flight,
@@ -17,7 +17,7 @@ pub enum Service {
     Tour,
 }
 
-/// Books the steps of trips, each by its service.
+/// The agency. It books each step of a trip with the service of the step.
 #[derive(Debug, Drop)]
 pub struct Agency {
     pub services: Vec<Service>,
@@ -28,7 +28,7 @@ impl Agency {
     ghost use Rattle.saga_history.specs.declared.tasks.Outcome.{Outcome};
     ghost use Rattle.saga_trials.specs.Seats.{HasSeat};
 
-    /// The agency for trips of that definition, each step of which has the name of a service.
+    /// The agency for trips with this definition. The name of each step is that of a service.
     pub fn of(alloc: Global, trip: &Definition) -> Result<Agency> {
         let mut services = Vec::new(alloc);
         for step in trip.all_steps() {
@@ -42,7 +42,7 @@ impl Agency {
         Ok(Agency { services })
     }
 
-    /// Books a step of a trip. A hotel answers at the second attempt.
+    /// Books a step of a trip. A hotel succeeds at the second attempt.
     pub fn book(&self, trip: u32, step: u16, attempt: u64) -> Outcome
         ensures { result ≡ Outcome.Done → HasSeat self.now trip step }
     {

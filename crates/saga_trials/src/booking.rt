@@ -1,7 +1,7 @@
-//! A booking service, as a program of its own may have it: it drives sagas.
+//! An example of a program that embeds the crates: a booking service that executes sagas.
 //!
-//! Standard input has the definition of a trip. The service books trips by it, first one task after another by itself, and
-//! then with four workers. `docs/EMBEDDING.md` walks through it.
+//! Standard input has the definition of a trip. The service first books the trips in one thread, one task after
+//! another, and then with four workers. `docs/EMBEDDING.md` describes the program.
 use crate::agency::Agency;
 use crate::trips::{Entry, drive, drive_by_workers};
 use anyhow::{Result, bail, ensure};
@@ -12,10 +12,10 @@ use saga_text::read_definition;
 use std::sync::Wait;
 use std::thread::Threads;
 
-/// The trips that are booked, each by the first definition of the shelf.
+/// The trips to book. Each has the first definition of the shelf.
 const TRIPS: [u32; 3] = [0, 0, 0];
 
-/// The shelf of the definition of standard input.
+/// A shelf with the definition from standard input.
 fn shelf(rt: &HostRuntime) -> Result<Vec<Definition>> {
     let text = std::io::read_to_string(rt.alloc(), rt.reader())?;
     let mut shelf = Vec::new(rt.alloc());
@@ -26,7 +26,7 @@ fn shelf(rt: &HostRuntime) -> Result<Vec<Definition>> {
     Ok(shelf)
 }
 
-/// Books the trips by itself, and gives what was done.
+/// Books the trips in one thread, and returns the entries of what was done.
 fn booked(rt: &HostRuntime, agency: &Agency, shelf: &[Definition]) -> Result<Vec<Entry>> {
     let mut book = Book::new(rt.alloc(), shelf, 0, 1);
     for place in TRIPS {
@@ -35,7 +35,7 @@ fn booked(rt: &HostRuntime, agency: &Agency, shelf: &[Definition]) -> Result<Vec
     drive(rt.alloc(), agency, &mut book)
 }
 
-/// Has workers book the trips, and prints the report.
+/// Books the trips with workers, and prints the report.
 fn report_of_workers<R: Threads + Wait + Sync>(
     threads: &R,
     rt: &HostRuntime,
@@ -48,7 +48,7 @@ fn report_of_workers<R: Threads + Wait + Sync>(
     Ok(())
 }
 
-/// Books the trips both ways.
+/// Books the trips in both ways.
 pub fn run<R: Threads + Wait + Sync>(threads: &R, rt: &HostRuntime) -> Result<()> {
     let shelf = shelf(rt)?;
     let Some(trip) = shelf.first() else {

@@ -1,5 +1,5 @@
-//! Trials of a book's calls: scripts of calls, of which those that begin something may be refused memory, and those that end it
-//! are made where each growth is refused.
+//! Trials of a book's calls, as scripts of calls. The calls that start something may be refused memory. The calls that
+//! end something are made while every memory allocation is refused.
 use crate::samples::{self, FAILED, FREE, RETRIED, Sample};
 use crate::trial::Trial;
 use anyhow::{Context, Result, ensure};
@@ -12,19 +12,21 @@ use saga_def::Definition;
 use saga_history::{Outcome, Phase, Task, first_not_allowed};
 use std::alloc::Global;
 
-/// A trial: the example, the calls that are made before, and those that are tried.
+/// A trial: the example, the calls that prepare it, and the calls under test.
 ///
-/// A call is a word, with a number behind a colon: `open` a saga of that number; `run` or `undo` a step, which `did`, `miss`,
-/// `undid` or `lost`; `plan` (which gives the example's case, as `present` does), `adopt` (of another definition: `stale`), `drop`;
-/// plan and drop so often: `drops`; `abort` a saga. `no-run`, `no-step`, `no-saga` and `no-plan` are refused. Then so many `events`
-/// there are, and `to-run`, `to-undo` or `to-plan` is next, or `none`.
+/// A call is a word, optionally with a number after a colon. `open` opens a saga, which must get this number. `run` and
+/// `undo` start a step's action or compensation, which `did`, `miss`, `undid` and `lost` end. `plan` starts a plan and
+/// must return the example's case, like `present`. `adopt` and `drop` end a plan, and `stale` offers a verdict for
+/// another definition. `drops` starts and drops a plan this number of times. `abort` aborts a saga. `no-run`,
+/// `no-step`, `no-saga` and `no-plan` are refused. `events` checks the number of events. `to-run`, `to-undo`, `to-plan`
+/// and `none` check the next task.
 #[derive(Clone, Copy)]
 pub struct Script(Sample, &'static str, &'static str);
 
 /// The trip's last step has failed.
 const FAIL: &str = "open run:0 did:0 run:1 did:1 run:2 miss:2";
 
-/// The second of the steps that are tried often has failed, and the first is to be compensated.
+/// The second step of the definition with many tries has failed, and the first is to be compensated.
 const RETRY: &str = "open run:0 did:0 run:1 miss:1 plan adopt";
 
 const OPENS: &str =
@@ -49,7 +51,7 @@ const ADOPTS: &str = "plan stale adopt no-plan events:9 to-undo:1";
 
 const END: &str = "plan adopt undo:1 undid:1 undo:0 undid:0 events:13 none";
 
-/// The last plan is dropped, and then adopted, and compensations are reported, behind more than 4,096 events.
+/// Plans are dropped often, one is adopted, and compensations are reported, after more than 4,096 events.
 const LONG_END: &str = "drops:2050 plan adopt undo:1 undid:1 undo:0 undid:0 events:4113 none";
 
 pub const OPEN: Script = Script(FAILED, "", OPENS);
@@ -78,7 +80,7 @@ pub const HISTORY: Script = Script(FAILED, FAIL, END);
 
 pub const LONG: Script = Script(FAILED, FAIL, LONG_END);
 
-/// A call and its number, by the word of a script.
+/// Splits a word of a script into a call and its number.
 pub fn call_of(word: &str) -> Result<(&str, u16)> {
     match word.split_once(':') {
         Some((verb, number)) => Ok((verb, number.parse::<u16>().context("a number")?)),
@@ -86,7 +88,8 @@ pub fn call_of(word: &str) -> Result<(&str, u16)> {
     }
 }
 
-/// What is seen of a book: how many events and sagas it has, what is next, and of saga 0 the phase and the states.
+/// The observed state of a book: the numbers of events and sagas, the next task, and the phase and the states of saga
+/// 0.
 type Look = (
     usize,
     usize,
@@ -111,7 +114,8 @@ fn is_same(case: &Case<'_>, expected: &Case<'_>) -> bool {
     case.is_of(expected.definition(), expected.states(), false)
 }
 
-/// Makes a call that begins something, and tells whether it gave what is expected; none where it found no memory.
+/// Makes a call that starts something, and returns whether the result is as expected. Returns `None` if memory was
+/// lacking.
 fn begin(book: &mut Book<'_>, case: &Case<'_>, verb: &str, number: u16) -> Option<bool> {
     let saga = u32::from(number);
     match verb {
@@ -142,12 +146,13 @@ fn begin(book: &mut Book<'_>, case: &Case<'_>, verb: &str, number: u16) -> Optio
     }
 }
 
-/// Nothing where a call found no memory; else it is not right that it was refused.
+/// Returns `None` if a call lacked memory. Any other refusal is wrong.
 pub fn unless(is_for_memory: bool) -> Option<bool> {
     if is_for_memory { None } else { Some(false) }
 }
 
-/// Makes a call that begins something, and again where memory was refused: what is seen of the book is then as before.
+/// Makes a call that starts something, and repeats it if memory was refused: the observed state of the book must then
+/// be unchanged.
 fn begin_twice(
     trial: &mut Trial<'_>,
     book: &mut Book<'_>,
@@ -168,7 +173,7 @@ fn begin_twice(
     Ok(begin(book, case, verb, number) == Some(true))
 }
 
-/// The cause of a refused adoption, which hands the verdict back.
+/// The cause of a refused adoption, which returns the verdict.
 fn why_not<'d>(book: &mut Book<'d>, verdict: Verdict<'d>) -> Option<AdoptRefusal> {
     match book.adopt(0, verdict) {
         Ok(()) => None,
@@ -176,13 +181,13 @@ fn why_not<'d>(book: &mut Book<'d>, verdict: Verdict<'d>) -> Option<AdoptRefusal
     }
 }
 
-/// Whether reports of a saga and a step are refused so.
+/// Whether reports for a saga and a step are refused with this cause.
 fn is_refused(book: &mut Book<'_>, saga: u32, step: u16, why: ReportRefusal) -> bool {
     book.report_run(saga, step, Outcome::Done) == Err(why)
         && book.report_undo(saga, step, Outcome::Done) == Err(why)
 }
 
-/// A call that ends something, or is refused, or looks: whether it answers what is expected.
+/// Makes a call that ends something, is refused or reads, and returns whether the result is as expected.
 fn ends(book: &mut Book<'_>, verb: &str, number: u16) -> bool {
     match verb {
         "did" => book.report_run(0, number, Outcome::Done).is_ok(),
@@ -203,7 +208,7 @@ fn ends(book: &mut Book<'_>, verb: &str, number: u16) -> bool {
     }
 }
 
-/// Offers an answer to a case where each growth is refused, and gives the cause of a refusal.
+/// Offers an answer to a case while every allocation is refused, and returns the cause of a refusal.
 fn offer<'d>(
     trial: &Trial<'_>,
     book: &mut Book<'d>,
@@ -217,7 +222,8 @@ fn offer<'d>(
     Ok(why)
 }
 
-/// Begins a plan and drops it so often, each time where each growth is refused, and tells whether that was done.
+/// Starts a plan and drops it this number of times, with every allocation refused for each drop, and returns whether
+/// that succeeded.
 fn drop_often(trial: &Trial<'_>, book: &mut Book<'_>, times: u16) -> bool {
     for _ in 0..times {
         if book.take_plan(0).is_err() {
@@ -232,7 +238,8 @@ fn drop_often(trial: &Trial<'_>, book: &mut Book<'_>, times: u16) -> bool {
     true
 }
 
-/// Makes a call, where each growth is refused if it ends something, and tells whether it was as expected.
+/// Makes a call, with every allocation refused if the call ends something, and returns whether the result is as
+/// expected.
 fn make_one<'d>(
     trial: &mut Trial<'_>,
     book: &mut Book<'d>,
@@ -254,7 +261,7 @@ fn make_one<'d>(
     }
 }
 
-/// Makes calls one after the other.
+/// Makes calls one after another.
 fn make<'d>(
     trial: &mut Trial<'_>,
     book: &mut Book<'d>,
@@ -269,7 +276,7 @@ fn make<'d>(
     Ok(())
 }
 
-/// What is offered to a book: the example's definition and case, and another definition.
+/// The arguments for calls on a book: the example's definition and case, and another definition.
 #[derive(Clone, Copy)]
 struct Offered<'d> {
     texts: Sample,
@@ -278,7 +285,7 @@ struct Offered<'d> {
     other: &'d Definition,
 }
 
-/// Makes the calls that come before, with ample memory, and then those that are tried.
+/// Makes the calls that prepare the trial, with ample memory, and then the calls under test.
 fn make_all<'d>(
     trial: &mut Trial<'_>,
     book: &mut Book<'d>,
@@ -293,7 +300,7 @@ fn make_all<'d>(
     make(trial, book, on, tried)
 }
 
-/// Makes a trial on the example's shelf, and another definition.
+/// Makes a trial with the example's shelf and another definition.
 fn run_on(
     trial: &mut Trial<'_>,
     script: Script,

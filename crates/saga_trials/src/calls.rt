@@ -1,4 +1,4 @@
-//! Trials of the calls that no command of the program makes. Each has to give what is expected.
+//! Trials of calls that no command of the program makes. Each must return the expected result.
 use crate::samples::{self, DROPPED_LOG, TRIP, TRIP_ANSWER, TRIP_CASE, TRIP_LOG, TRIP_REPORT};
 use crate::trial::Trial;
 use anyhow::{Result, ensure};
@@ -25,7 +25,7 @@ pub enum Call {
     WriteCase,
     Report,
     NotAllowed,
-    /// The same of a history without an adopted plan.
+    /// The same for a history without an adopted plan.
     NoneAdopted,
     AuditText,
     Trail,
@@ -33,7 +33,7 @@ pub enum Call {
     Laws,
 }
 
-/// What a call is made on: the trip, its case, and its history.
+/// The arguments of the calls: the trip, its case, and its history.
 #[derive(Clone, Copy)]
 struct On<'a, 'd> {
     shelf: &'d [Definition],
@@ -44,7 +44,8 @@ struct On<'a, 'd> {
     book: &'a Book<'d>,
 }
 
-/// Makes a trial of a call: each growth may be refused in turn, or where it takes no memory each is.
+/// Makes a trial of a call. If the call takes memory, each allocation may be refused in turn. If it takes none, every
+/// allocation is refused.
 pub fn run(trial: &mut Trial<'_>, call: Call) -> Result<()> {
     let alloc = trial.alloc();
     let shelf = samples::shelf(alloc, TRIP)?;
@@ -53,7 +54,7 @@ pub fn run(trial: &mut Trial<'_>, call: Call) -> Result<()> {
     run_on(trial, call, &shelf, &book)
 }
 
-/// Makes it on a shelf and a book.
+/// Makes the trial with a shelf and a book.
 fn run_on(trial: &mut Trial<'_>, call: Call, shelf: &[Definition], book: &Book<'_>) -> Result<()> {
     let alloc = trial.alloc();
     let definition = samples::first(shelf)?;
@@ -75,7 +76,7 @@ fn run_on(trial: &mut Trial<'_>, call: Call, shelf: &[Definition], book: &Book<'
     call_twice(trial, call, on)
 }
 
-/// Makes the call, and again where memory was refused.
+/// Makes the call, and repeats it if memory was refused.
 fn call_twice(trial: &mut Trial<'_>, call: Call, on: On<'_, '_>) -> Result<()> {
     let alloc = trial.alloc();
     if trial.refuses {
@@ -93,7 +94,7 @@ fn call_twice(trial: &mut Trial<'_>, call: Call, on: On<'_, '_>) -> Result<()> {
     Ok(())
 }
 
-/// What an audit of the trip answers.
+/// The result of an audit of the trip.
 const YES: AuditAnswer = AuditAnswer::Yes {
     sagas: 1,
     ended: 1,
@@ -101,7 +102,7 @@ const YES: AuditAnswer = AuditAnswer::Yes {
     events: 13,
 };
 
-/// Whether a call gives what is expected.
+/// Whether a call returns the expected result.
 fn is_right(alloc: Global, on: On<'_, '_>, call: Call) -> Result<bool, AllocError> {
     Ok(match call {
         Call::Order => is_line(&Order::of(alloc, on.definition)?),
@@ -126,7 +127,7 @@ fn is_right(alloc: Global, on: On<'_, '_>, call: Call) -> Result<bool, AllocErro
     })
 }
 
-/// A commit that a synchronous standby has before it is answered.
+/// A record in which a commit is answered after a synchronous standby has it.
 const RECORD: &str = "fleet 1 sync
 took 1 0 0
 heard 0
@@ -137,7 +138,7 @@ heard 0
 told 0 1
 ";
 
-/// One that is answered before.
+/// A record in which a commit is answered before a synchronous standby has it.
 const EARLY_RECORD: &str = "fleet 1 sync
 took 1 0 0
 heard 0
@@ -158,7 +159,7 @@ const ANSWERED_EARLY: RecordAnswer = RecordAnswer::No {
     reason: Reason::NotShipped,
 };
 
-/// What an audit of a record answers; nothing where the text is none.
+/// The result of an audit of a record, or `None` if the text is not a record.
 fn judged(alloc: Global, text: &str) -> Result<Option<RecordAnswer>, AllocError> {
     match read_record(alloc, text.as_bytes()) {
         Ok(record) => {
@@ -179,7 +180,7 @@ fn is_line(order: &Order<'_>) -> bool {
         && order.rank(2) == 2
 }
 
-/// The laws, which look at nothing.
+/// Calls the functions whose contracts are laws. They read nothing.
 fn laws(on: On<'_, '_>) -> bool {
     saga_def::fault_laws();
     saga_def::limit_laws();

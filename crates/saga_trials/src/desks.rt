@@ -1,5 +1,5 @@
-//! Trials of the calls of a desk and of a shard: scripts of calls, of which those that open, claim and abort may be refused memory,
-//! and those that end what was claimed are made where each growth is refused.
+//! Trials of the calls of a desk and of a shard, as scripts of calls. The calls that open, claim and abort may be
+//! refused memory. The calls that end a claim are made while every memory allocation is refused.
 use crate::books::{call_of, is_legal, unless};
 use crate::samples::{self, FAILED, RETRIED, STUCK, Sample, TRIP, TRIP_SCRIPT};
 use crate::trial::Trial;
@@ -14,11 +14,14 @@ use saga_work::{Bell, Stop, work};
 use std::alloc::{AllocError, Global};
 use std::sync::Wait;
 
-/// A trial: the example, whether a shard is called and not a desk, the calls that are made before, and those that are tried.
+/// A trial: the example, whether the calls are made on a shard and not on a desk, the calls that prepare it, and the
+/// calls under test.
 ///
-/// A call is a word, with a number behind a colon: `open` a saga (of a definition that is not there: `other`); claim an action or a
-/// compensation, which `did` or `miss`; claim a plan and `give-back`, or `adopt` the example's answer; claim nothing, since all is
-/// `settled`; each of these so often; `abort` a saga, which cannot be done `again`. Then so many `events` there are.
+/// A call is a word, optionally with a number after a colon. `open` opens a saga, and `other` one with a definition
+/// that does not exist. `did` and `miss` claim an action or a compensation and end it. `give-back` and `adopt` claim a
+/// plan and end it; `adopt` offers the example's answer. `settled` claims nothing, because each saga is settled. The
+/// number after these says how often. `abort` aborts a saga, and `again` checks that it cannot be aborted twice.
+/// `events` checks the number of events, by the receipts of the seat.
 #[derive(Clone, Copy)]
 pub struct Script(Sample, bool, &'static str, &'static str);
 
@@ -32,7 +35,7 @@ const CLAIMS: &str = "did did miss give-back adopt did did settled events:15";
 
 const MISSES: &str = "miss miss miss miss miss miss miss miss miss events:19";
 
-/// The same, with a plan that is given back so often that what follows stands behind more than 4,096 events.
+/// The same, with a plan that is given back so often that the later calls come after more than 4,096 events.
 const LONG_CLAIMS: &str = "open did did miss give-back:2050 adopt did did settled events:4113";
 
 const REPORTS: &str = "settled other open did did did settled events:7";
@@ -63,7 +66,7 @@ pub const LONG: Script = Script(FAILED, false, "", LONG_CLAIMS);
 
 pub const SHARD: Script = Script(STUCK, true, "", STOPS);
 
-/// A desk of one seat, and a shard beside it: one of them is called.
+/// A desk with one seat, and a shard. The calls are made on one of them.
 #[derive(Drop)]
 struct At<'d> {
     desk: Desk<'d>,
@@ -72,7 +75,7 @@ struct At<'d> {
     seat: Seat,
 }
 
-/// How what is claimed is ended.
+/// How a claim is ended.
 #[derive(Clone, Copy)]
 enum End {
     Done,
@@ -82,7 +85,7 @@ enum End {
     Settled,
 }
 
-/// An end by its word.
+/// The end for a word.
 fn end_of(verb: &str) -> Result<End> {
     match verb {
         "did" => Ok(End::Done),
@@ -94,7 +97,7 @@ fn end_of(verb: &str) -> Result<End> {
     }
 }
 
-/// The first seat alone.
+/// The only seat of a desk.
 pub fn only(seats: Vec<Seat>) -> Result<Seat> {
     for seat in seats {
         return Ok(seat);
@@ -102,7 +105,8 @@ pub fn only(seats: Vec<Seat>) -> Result<Seat> {
     bail!("no seat")
 }
 
-/// What is seen: how many receipts there are, and how many events of the shard, which has none where the desk is called.
+/// The observed state: the number of receipts, and the number of events of the shard, which is 0 if the calls are made
+/// on the desk.
 fn seen(at: &At<'_>) -> (usize, usize) {
     (at.seat.receipts().len(), at.shard.history().len())
 }
@@ -128,7 +132,7 @@ fn open_at<R: Wait>(rt: &R, at: &mut At<'_>, definition: u32) -> Result<u32, Ope
     }
 }
 
-/// Claims what there is on a shard, where nothing left is as settled.
+/// Claims on a shard. If there is no task, the result is as for a settled desk.
 fn claim_on<'d>(shard: &mut Shard<'d>, seat: &mut Seat) -> Result<Claim<'d>, AllocError> {
     match shard.claim(seat)? {
         Some(claim) => Ok(claim),
@@ -176,7 +180,7 @@ fn abort_at<R: Wait>(rt: &R, at: &mut At<'_>, saga: u32) -> Result<(), SagaRefus
     }
 }
 
-/// Adopts an answer to a case, and tells whether it was adopted.
+/// Adopts an answer to a case, and returns whether it was adopted.
 fn adopt_answer<'d, R: Wait>(
     rt: &R,
     at: &mut At<'d>,
@@ -190,7 +194,8 @@ fn adopt_answer<'d, R: Wait>(
     }
 }
 
-/// Ends a plan where each growth is refused, by the example's answer, and tells whether it was as expected.
+/// Ends a plan with the example's answer while every allocation is refused, and returns whether the result is as
+/// expected.
 fn end_plan<'d, R: Wait>(
     rt: &R,
     trial: &Trial<'_>,
@@ -213,7 +218,7 @@ fn end_plan<'d, R: Wait>(
     }
 }
 
-/// Ends a job where each growth is refused, and tells whether it was as expected.
+/// Ends a job while every allocation is refused, and returns whether the result is as expected.
 fn end_job<'d, R: Wait>(
     rt: &R,
     trial: &Trial<'_>,
@@ -229,7 +234,7 @@ fn end_job<'d, R: Wait>(
     }
 }
 
-/// Ends what was claimed, and tells whether it was as expected.
+/// Ends a claim, and returns whether the result is as expected.
 fn end_claim<'d, R: Wait>(
     rt: &R,
     trial: &Trial<'_>,
@@ -245,7 +250,7 @@ fn end_claim<'d, R: Wait>(
     }
 }
 
-/// Claims what there is, and again where memory was refused.
+/// Claims, and repeats that if memory was refused.
 fn claim_twice<'d, R: Wait>(rt: &R, trial: &mut Trial<'_>, at: &mut At<'d>) -> Result<Claim<'d>> {
     let before = seen(at);
     trial.each();
@@ -262,7 +267,7 @@ fn claim_twice<'d, R: Wait>(rt: &R, trial: &mut Trial<'_>, at: &mut At<'d>) -> R
     }
 }
 
-/// Claims what there is so often, and ends it each time. Tells whether each was as expected.
+/// Claims this number of times, and ends each claim. Returns whether each result was as expected.
 fn claim_and_end<R: Wait>(
     rt: &R,
     trial: &mut Trial<'_>,
@@ -281,7 +286,7 @@ fn claim_and_end<R: Wait>(
     Ok(true)
 }
 
-/// Opens or aborts a saga, and tells whether that was done; none where there was no memory.
+/// Opens or aborts a saga, and returns whether that succeeded. Returns `None` if memory was lacking.
 fn begin<R: Wait>(rt: &R, at: &mut At<'_>, opens: bool, saga: u32) -> Option<bool> {
     if opens {
         match open_at(rt, at, 0) {
@@ -296,7 +301,7 @@ fn begin<R: Wait>(rt: &R, at: &mut At<'_>, opens: bool, saga: u32) -> Option<boo
     }
 }
 
-/// Makes such a call, and again where memory was refused: what is seen is then as before.
+/// Makes such a call, and repeats it if memory was refused: the observed state must then be unchanged.
 fn begin_twice<R: Wait>(
     rt: &R,
     trial: &mut Trial<'_>,
@@ -316,7 +321,7 @@ fn begin_twice<R: Wait>(
     Ok(begin(rt, at, opens, saga) == Some(true))
 }
 
-/// Makes a call, and tells whether it was as expected.
+/// Makes a call, and returns whether the result is as expected.
 fn make_one<R: Wait>(
     rt: &R,
     trial: &mut Trial<'_>,
@@ -336,7 +341,7 @@ fn make_one<R: Wait>(
     }
 }
 
-/// Makes calls one after the other.
+/// Makes calls one after another.
 fn make<R: Wait>(
     rt: &R,
     trial: &mut Trial<'_>,
@@ -351,7 +356,7 @@ fn make<R: Wait>(
     Ok(())
 }
 
-/// How many events books have.
+/// The number of events of books.
 pub fn events_in(books: &[Book<'_>]) -> usize {
     let mut events = 0usize;
     for book in books {
@@ -360,7 +365,7 @@ pub fn events_in(books: &[Book<'_>]) -> usize {
     events
 }
 
-/// How many receipts seats have.
+/// The number of receipts of seats.
 pub fn receipts_in(seats: &[Seat]) -> usize {
     let mut receipts = 0usize;
     for seat in seats {
@@ -369,7 +374,7 @@ pub fn receipts_in(seats: &[Seat]) -> usize {
     receipts
 }
 
-/// The books that a desk of one seat leaves.
+/// The books that a desk with one seat returns at its end.
 fn books_of<'d>(alloc: Global, desk: Desk<'d>, seat: Seat) -> Result<Vec<Book<'d>>> {
     match desk.finish(vec![in alloc; seat]?) {
         Ok(books) => Ok(books),
@@ -377,7 +382,7 @@ fn books_of<'d>(alloc: Global, desk: Desk<'d>, seat: Seat) -> Result<Vec<Book<'d
     }
 }
 
-/// How many events there are in the end.
+/// The number of events at the end.
 fn events_at(alloc: Global, at: At<'_>) -> Result<usize> {
     let At {
         desk,
@@ -392,7 +397,7 @@ fn events_at(alloc: Global, at: At<'_>) -> Result<usize> {
     Ok(events_in(&books))
 }
 
-/// A place on which nothing has happened.
+/// A new desk with one seat, and a new shard.
 fn make_place<'d>(alloc: Global, shelf: &'d [Definition], is_shard: bool) -> Result<At<'d>> {
     let (desk, seats) = Desk::open(alloc, shelf, 1, 1)?;
     let seat = only(seats)?;
@@ -404,7 +409,8 @@ fn make_place<'d>(alloc: Global, shelf: &'d [Definition], is_shard: bool) -> Res
     })
 }
 
-/// Makes the calls that come before, with ample memory, and then those that are tried. Tells how many receipts there are then.
+/// Makes the calls that prepare the trial, with ample memory, and then the calls under test. Returns the number of
+/// receipts after them.
 fn make_all<R: Wait>(
     rt: &R,
     trial: &mut Trial<'_>,
@@ -431,7 +437,7 @@ pub fn run<R: Wait>(rt: &R, trial: &mut Trial<'_>, script: Script) -> Result<()>
     Ok(())
 }
 
-/// A desk that is opened, and again where memory was refused.
+/// Opens a desk, and repeats that if memory was refused.
 pub fn open(trial: &mut Trial<'_>) -> Result<()> {
     let alloc = trial.alloc();
     let shelf = samples::shelf(alloc, TRIP)?;
@@ -447,7 +453,7 @@ pub fn open(trial: &mut Trial<'_>) -> Result<()> {
     Ok(())
 }
 
-/// Ends a desk again that found no memory: desk and seats came back as they were.
+/// Ends a desk again after a lack of memory: the call returned desk and seats unchanged.
 fn finish_again<'d>(refused: FinishRefused<'d>, count: usize) -> Result<Vec<Book<'d>>> {
     let FinishRefused::OutOfMemory(desk, seats) = refused else {
         bail!("another fault than want of memory");
@@ -462,7 +468,7 @@ fn finish_again<'d>(refused: FinishRefused<'d>, count: usize) -> Result<Vec<Book
     }
 }
 
-/// Opens a saga of each seat on each shard.
+/// Opens a saga on each shard with each seat.
 fn open_each<R: Wait>(rt: &R, desk: &Desk<'_>, seats: &mut Vec<Seat>) -> Result<()> {
     for seat in seats {
         for shard in 0..desk.shards() {
@@ -472,7 +478,7 @@ fn open_each<R: Wait>(rt: &R, desk: &Desk<'_>, seats: &mut Vec<Seat>) -> Result<
     Ok(())
 }
 
-/// Ends a desk, and again where memory was refused.
+/// Ends a desk, and repeats that if memory was refused.
 fn finish_twice<'d>(
     trial: &mut Trial<'_>,
     desk: Desk<'d>,
@@ -490,7 +496,7 @@ fn finish_twice<'d>(
     }
 }
 
-/// A desk of two seats and two shards that is ended.
+/// Opens a desk with two seats and two shards, and ends it.
 pub fn finish<R: Wait>(rt: &R, trial: &mut Trial<'_>) -> Result<()> {
     let alloc = trial.alloc();
     let shelf = samples::shelf(alloc, TRIP)?;
@@ -501,7 +507,7 @@ pub fn finish<R: Wait>(rt: &R, trial: &mut Trial<'_>) -> Result<()> {
     Ok(())
 }
 
-/// The book that a desk of one seat leaves.
+/// The book that a desk with one seat returns at its end.
 fn book_of<'d>(alloc: Global, desk: Desk<'d>, seat: Seat) -> Result<Book<'d>> {
     for book in books_of(alloc, desk, seat)? {
         return Ok(book);
@@ -509,7 +515,7 @@ fn book_of<'d>(alloc: Global, desk: Desk<'d>, seat: Seat) -> Result<Book<'d>> {
     bail!("no book")
 }
 
-/// Works, and goes on from there where a worker that found no memory gave its seat back.
+/// Runs a worker. If it lacks memory and returns its seat, runs it again from there.
 fn work_twice<R: Wait>(
     rt: &R,
     trial: &mut Trial<'_>,
@@ -530,7 +536,7 @@ fn work_twice<R: Wait>(
     Ok(seat)
 }
 
-/// Opens a saga, and works until it is ended.
+/// Opens a saga, and runs a worker until the saga is ended.
 fn work_one<R: Wait>(
     rt: &R,
     trial: &mut Trial<'_>,
@@ -542,12 +548,12 @@ fn work_one<R: Wait>(
     work_twice(rt, trial, desk, seat, &script)
 }
 
-/// Whether the saga is ended, in a legal history of so many events.
+/// Whether the saga is ended, with a legal history of this number of events.
 fn is_ended(alloc: Global, book: &Book<'_>, events: usize) -> bool {
     book.phase(0) == Some(Phase::Ended) && book.history().len() == events && is_legal(alloc, book)
 }
 
-/// A worker that found no memory gives its seat back, and goes on from there.
+/// Checks that a worker that lacks memory returns its seat, and can continue from there.
 pub fn work_alone<R: Wait>(rt: &R, trial: &mut Trial<'_>) -> Result<()> {
     let alloc = trial.alloc();
     let shelf = samples::shelf(alloc, TRIP)?;

@@ -1,4 +1,4 @@
-//! Calls that take memory, at the greatest sizes and with ample memory: none gives up.
+//! Calls that take memory, with inputs of the maximum size and with ample memory: none fails.
 use crate::nets::{Link, U, net};
 use crate::trial::Trial;
 use anyhow::{Result, bail, ensure};
@@ -25,11 +25,11 @@ pub fn run(trial: &mut Trial<'_>, which: Size) -> Result<()> {
     }
 }
 
-/// How many steps there are.
+/// The number of steps.
 const STEPS: u32 = MAX_STEPS as u32;
 
-/// How many of the nearest steps before it a step needs: eight, and so many steps nine that there are as many needs as
-/// there may be.
+/// The number of steps directly before it that a step needs. It is eight for most steps, and nine for so many that the
+/// number of needs is the maximum.
 fn needs_of(step: u32) -> u32 {
     let most = if step < 45 { 9 } else { 8 };
     step.min(most)
@@ -47,7 +47,7 @@ fn all_needs(alloc: Global) -> Result<Vec<Need>> {
     Ok(needs)
 }
 
-/// The greatest definition: each step costs 1 to undo and 2 to keep.
+/// The definition of maximum size: each step costs 1 to undo and 2 to keep.
 fn greatest(alloc: Global) -> Result<Definition> {
     let mut steps = Vec::new(alloc);
     for step in 0..STEPS {
@@ -99,7 +99,8 @@ fn flow(trial: &mut Trial<'_>) -> Result<()> {
     Ok(())
 }
 
-/// The plan of a case in which the last step has failed: nothing is kept, in as many rounds as there are steps.
+/// Whether the plan is correct for a case in which the last step has failed: it keeps no step, and takes as many rounds
+/// as there are steps.
 fn is_planned(alloc: Global, case: &Case<'_>) -> Result<bool> {
     let (answer, rounds) = plan_counted(alloc, case)?;
     let right = judge(case, &answer).is_ok();

@@ -1,14 +1,17 @@
-//! Trials of public calls where memory is refused that no command of the program shows: those of a book, a shard and a desk, and
-//! those that no command makes. Beside them stand what `bench/` times, and a booking service that embeds the crates.
+//! Trials of public calls under refused memory that no command of the program makes: the calls of a book, a shard and a
+//! desk, and others. The program also has tests of what only a caller of the crates can cause, what `bench/` times, and
+//! a booking service that embeds the crates.
 //!
-//! `names` prints how each trial is made, and its name: with `each` growth refused in turn, with `none` granted, or with `ample`
-//! memory at the greatest sizes. `try NAME` makes a trial: the call, and where memory was refused the same call again; it prints
-//! `refused` or `whole`, or what is wrong. `time` has the words of [`timing`], and `book` books the trips of [`booking`], by the
-//! definition of standard input. Without words each trial is made once, with ample memory, the flow of a small network is timed,
-//! and the trips are booked.
+//! `names` prints the kind and the name of each trial. The kind is `each` if one allocation after another is refused,
+//! `none` if every allocation is refused, and `ample` for inputs of the maximum size with ample memory. `try NAME`
+//! makes a trial: it makes the call, and repeats it if memory was refused. It prints `refused` or `whole`, or what is
+//! wrong. `tests` prints the name of each test of [`tests`], and `test NAME` runs one. `time` takes the words of
+//! [`timing`], and `book` books the trips of [`booking`] with the definition from standard input. Without words, the
+//! program makes each trial once with ample memory, runs each test, times the flow of a small network, and books the
+//! trips. If a trial or a test finds a difference, the program prints it and ends with status 1.
 //!
-//! The program refuses no memory itself. It tells on standard error where the calls begin and end, for a library that is
-//! loaded before the C library and refuses growths there (`tests/memory.py`).
+//! The program itself refuses no memory. It prints on standard error where the calls start and end. A library that is
+//! loaded before the C library reads that and refuses allocations there (`tests/memory.py`).
 #![tactic(auto)]
 
 mod agency;
@@ -19,6 +22,7 @@ mod desks;
 mod greatest;
 mod nets;
 mod samples;
+mod tests;
 mod timing;
 mod trial;
 mod trips;
@@ -33,7 +37,7 @@ use std::env;
 use std::sync::Wait;
 use std::thread::Threads;
 
-/// What is tried: calls of a book, or of a shard or a desk, by the name of their script, or a call alone.
+/// What is tried: calls of a book, or of a shard or a desk, given by a script, or a single call.
 #[derive(Clone, Copy)]
 enum Tried {
     Book(books::Script),
@@ -46,7 +50,7 @@ enum Tried {
     Great(Size),
 }
 
-/// The trials: how each is made, its name, and what is tried.
+/// The trials: the kind and the name of each, and what is tried.
 const TRIALS: &[(&str, Tried)] = &[
     ("each saga_core::Book::open", Book(books::OPEN)),
     ("each saga_core::Book::take_run", Book(books::RUN)),
@@ -99,7 +103,7 @@ const TRIALS: &[(&str, Tried)] = &[
     ("ample saga_plan::plan,greatest", Great(Size::Plan)),
 ];
 
-/// The trials, by a call: whatever names the constant itself is checked with all its rows.
+/// Returns the trials. A use of the constant itself would be checked with all its rows.
 fn trials() -> &'static [(&'static str, Tried)] {
     TRIALS
 }
@@ -119,7 +123,7 @@ fn run<R: Wait>(rt: &R, trial: &mut Trial<'_>, how: &str, tried: Tried) -> Resul
     }
 }
 
-/// Makes the trials of a name, or all, and tells how many there were.
+/// Makes the trials with a name, or all, and returns their number.
 fn run_named<R: Wait>(rt: &R, trial: &mut Trial<'_>, wanted: Option<&str>) -> Result<usize> {
     let mut count = 0usize;
     for (row, tried) in trials() {
@@ -132,7 +136,7 @@ fn run_named<R: Wait>(rt: &R, trial: &mut Trial<'_>, wanted: Option<&str>) -> Re
     Ok(count)
 }
 
-/// Makes the trial of a name.
+/// Makes the trial with a name.
 fn try_named<R: Wait>(waits: &R, rt: &HostRuntime, name: Option<String>) -> Result<()> {
     let name = name.context("a name is missing")?;
     let mut trial = Trial::new(rt);
@@ -142,16 +146,39 @@ fn try_named<R: Wait>(waits: &R, rt: &HostRuntime, name: Option<String>) -> Resu
     Ok(())
 }
 
-/// Makes each trial, times a flow, and books trips.
+/// Runs the test with a name.
+fn test_named<R: Threads + Wait + Sync>(
+    threads: &R,
+    rt: &HostRuntime,
+    name: Option<String>,
+) -> Result<()> {
+    let name = name.context("a name is missing")?;
+    let count = tests::run_named(threads, rt, Some(name.as_str()))?;
+    ensure!(count == 1, "no test {name}");
+    println!(rt; "passed")?;
+    Ok(())
+}
+
+/// Prints the name of each test.
+fn print_tests(rt: &HostRuntime) -> Result<()> {
+    for (name, _) in tests::tests() {
+        println!(rt; "{name}")?;
+    }
+    Ok(())
+}
+
+/// Makes each trial, runs each test, times a flow, and books trips.
 fn run_all<R: Threads + Wait + Sync>(threads: &R, rt: &HostRuntime) -> Result<()> {
     let mut trial = Trial::new(rt);
     let count = run_named(threads, &mut trial, None)?;
     println!(rt; "trials {count} whole")?;
+    let count = tests::run_named(threads, rt, None)?;
+    println!(rt; "tests {count} passed")?;
     timing::sample(rt)?;
     booking::run(threads, rt)
 }
 
-/// Prints how each trial is made, and its name.
+/// Prints the kind and the name of each trial.
 fn print_names(rt: &HostRuntime) -> Result<()> {
     for (row, _) in trials() {
         println!(rt; "{row}")?;
@@ -167,8 +194,10 @@ fn main(rt: HostRuntime) -> Result<()> {
     match what.as_str() {
         "names" => print_names(&rt),
         "try" => try_named(&rt, &rt, words.next()),
+        "tests" => print_tests(&rt),
+        "test" => test_named(&rt, &rt, words.next()),
         "time" => timing::run(&rt, &rt, &mut words),
         "book" => booking::run(&rt, &rt),
-        _ => bail!("names, try, time or book?"),
+        _ => bail!("names, try, tests, test, time or book?"),
     }
 }

@@ -1,10 +1,11 @@
-//! Trials of the calls on nets, by nets whose greatest flows are known.
+//! Trials of the calls on networks, with networks whose maximum flows are known.
 use crate::trial::Trial;
 use anyhow::{Result, ensure};
 use saga_flow::{Arc, Cap, Net, largest, largest_counted, reach, unbounded_path};
 use std::alloc::{AllocError, Global};
 
-/// A call on a net: whether it has a path without a bound, its greatest flow (with the rounds), and what its residual network reaches.
+/// A call on a network: whether it has an unbounded path, its maximum flow, optionally with the number of rounds, and
+/// what its residual network reaches.
 #[derive(Clone, Copy)]
 pub enum Flow {
     Path,
@@ -16,11 +17,11 @@ pub enum Flow {
 /// An arc: from, to and capacity.
 pub type Link = (u32, u32, u64);
 
-/// The capacity of an arc without a bound.
+/// The unbounded capacity.
 pub const U: u64 = u64::MAX;
 
-/// A net, its greatest flow, the most rounds in which it is found, the flow on each arc where there is but one, and which nodes its
-/// residual network reaches from the source.
+/// A network with its maximum flow and the maximum number of rounds. `on` has the amount on each arc if only one
+/// maximum flow exists. `reached` has the nodes that its residual network reaches from the source.
 struct Known {
     nodes: u32,
     links: &'static [Link],
@@ -30,8 +31,8 @@ struct Known {
     reached: &'static [bool],
 }
 
-/// The nets. The third stands in a textbook (Cormen, Leiserson, Rivest, Stein); the fifth has loops, arcs side by side,
-/// into the source and out of the sink; the last has a path without a bound, so no greatest flow.
+/// The networks. The third is from a textbook (Cormen, Leiserson, Rivest, Stein). The fifth has loops, parallel arcs,
+/// and arcs into the source and out of the sink. The last has an unbounded path, so it has no maximum flow.
 const KNOWN: &[Known] = &[
     Known {
         nodes: 4,
@@ -93,7 +94,7 @@ const KNOWN: &[Known] = &[
     },
 ];
 
-/// The net of arcs.
+/// The network with these arcs.
 pub fn net(alloc: Global, nodes: u32, links: &[Link]) -> Result<Net> {
     let mut arcs = Vec::new(alloc);
     for (from, to, cap) in links {
@@ -111,7 +112,7 @@ pub fn net(alloc: Global, nodes: u32, links: &[Link]) -> Result<Net> {
     Ok(Net::new(nodes, arcs))
 }
 
-/// Makes a trial of a call on each net, and again where memory was refused.
+/// Makes a trial of a call on each network, and repeats the call if memory was refused.
 pub fn run(trial: &mut Trial<'_>, call: Flow) -> Result<()> {
     let alloc = trial.alloc();
     for known in KNOWN {
@@ -128,7 +129,7 @@ pub fn run(trial: &mut Trial<'_>, call: Flow) -> Result<()> {
     Ok(())
 }
 
-/// Whether the call on a net gives what is known.
+/// Whether the call on a network returns the known result.
 fn is_right(alloc: Global, net: &Net, known: &Known, call: Flow) -> Result<bool, AllocError> {
     if let Some(nodes) = unbounded_path(alloc, net)? {
         return Ok(known.value == U && nodes.as_slice() == [0, 3, 1].as_slice());

@@ -1,4 +1,4 @@
-//! Definitions, cases, answers, scripts and logs as texts, and what is read of them.
+//! Definitions, cases, answers, scripts and logs as texts, and functions that read them.
 use anyhow::{Result, bail};
 use saga_case::{Answer, Case};
 use saga_cert::{read_answer, read_case, write_answer};
@@ -11,7 +11,7 @@ use saga_script::Script;
 use saga_text::read_definition;
 use std::alloc::Global;
 
-/// Three steps, of which each needs the one before it.
+/// Three steps, each of which needs the one before it.
 pub const TRIP: &str = "\
 format = 1
 name = \"trip\"
@@ -22,7 +22,7 @@ step = [
 ]
 ";
 
-/// The same steps, which cost nothing.
+/// The same steps, with all costs 0.
 pub const FREE_TRIP: &str = "\
 format = 1
 name = \"trip\"
@@ -33,21 +33,21 @@ step = [
 ]
 ";
 
-/// The last of them has failed.
+/// The case in which the last step has failed.
 pub const TRIP_CASE: &str = "{\"states\":[\"committed\",\"committed\",\"failed\"]}";
 
-/// Nothing is kept.
+/// The plan that keeps no step.
 pub const TRIP_ANSWER: &str =
     "{\"cost\":3,\"kept\":[],\"kind\":\"plan\",\"leave\":[1,2,0],\"links\":[0,0],\"stand\":[1,2,0]}";
 
-/// Where they cost nothing.
+/// The same plan if all costs are 0.
 pub const FREE_ANSWER: &str =
     "{\"cost\":0,\"kept\":[],\"kind\":\"plan\",\"leave\":[0,0,0],\"links\":[0,0],\"stand\":[0,0,0]}";
 
-/// The last of them fails.
+/// The script in which the last step fails.
 pub const TRIP_SCRIPT: &str = "0 c run fail\n";
 
-/// What happens then.
+/// The log of that run.
 pub const TRIP_LOG: &str = "\
 {\"def\":0,\"event\":\"open\",\"saga\":0}
 {\"event\":\"start_run\",\"saga\":0,\"step\":0}
@@ -64,7 +64,7 @@ pub const TRIP_LOG: &str = "\
 {\"event\":\"undone\",\"saga\":0,\"step\":0}
 ";
 
-/// The report of that.
+/// The report of that run.
 pub const TRIP_REPORT: &str = "\
 saga 0 trip ended
    0 undone    a
@@ -74,7 +74,7 @@ plans 1 cost 3
 sagas 1 ended 1 stuck 0 events 13
 ";
 
-/// Where no plan is adopted.
+/// A log in which no plan is adopted.
 pub const DROPPED_LOG: &str = "\
 {\"format\":2}
 {\"def\":0,\"event\":\"open\",\"saga\":0}
@@ -88,27 +88,27 @@ pub const DROPPED_LOG: &str = "\
 {\"event\":\"start_plan\",\"saga\":0}
 ";
 
-/// One step that must not be left out.
+/// A definition with one step, which must not be left out.
 pub const FORCED: &str =
     "format = 1\nname = \"one\"\nstep = [{ name = \"a\", skip = \"never\" }]\n";
 
-/// It has failed.
+/// The case in which this step has failed.
 pub const FORCED_CASE: &str = "{\"states\":[\"failed\"]}";
 
-/// So no set of steps is allowed.
+/// The answer that no set of steps is allowed.
 pub const FORCED_ANSWER: &str = "{\"chain\":[0],\"kind\":\"blocked\"}";
 
-/// Two steps, of which the second needs the first. The first, and its compensation, is tried nine times.
+/// Two steps, of which the second needs the first. The first step has nine tries, and so has its compensation.
 pub const STUBBORN: &str = "\
 format = 2
 name = \"stubborn\"
 step = [{ name = \"a\", tries = 9, undo_tries = 9 }, { name = \"b\", needs = [\"a\"] }]
 ";
 
-/// The second has failed.
+/// The case in which the second step has failed.
 pub const STUBBORN_CASE: &str = "{\"states\":[\"committed\",\"failed\"]}";
 
-/// Nothing is kept, for nothing.
+/// The plan that keeps no step and costs 0.
 pub const STUBBORN_ANSWER: &str =
     "{\"cost\":0,\"kept\":[],\"kind\":\"plan\",\"leave\":[0,0],\"links\":[0],\"stand\":[0,0]}";
 
@@ -127,7 +127,7 @@ pub const FAILED: Sample = Sample {
     answer: TRIP_ANSWER,
 };
 
-/// The same for nothing.
+/// The same with all costs 0.
 pub const FREE: Sample = Sample {
     definition: FREE_TRIP,
     answer: FREE_ANSWER,
@@ -141,7 +141,7 @@ pub const STUCK: Sample = Sample {
     answer: FORCED_ANSWER,
 };
 
-/// The steps that are tried often.
+/// The steps with many tries.
 pub const RETRIED: Sample = Sample {
     definition: STUBBORN,
     case: STUBBORN_CASE,
@@ -156,7 +156,7 @@ pub fn definition(alloc: Global, text: &str) -> Result<Definition> {
     }
 }
 
-/// A shelf of that definition alone.
+/// A shelf with only this definition.
 pub fn shelf(alloc: Global, text: &str) -> Result<Vec<Definition>> {
     let mut shelf = Vec::new(alloc);
     shelf.push(definition(alloc, text)?)?;

@@ -1,21 +1,30 @@
-//! Times the building of a definition, its order, the flow, the planner, the book and logs, each on the text of a file.
+//! Times the building of a definition, its order, the flow, the planner, the book and logs, each with the text of a
+//! file.
 //!
-//! The first word says what: `flow` takes a network in DIMACS form and prints the value of a greatest flow and the
-//! rounds in which it was found; `plan` takes a case and prints the cost of a least plan and the rounds, or `blocked`;
-//! `build` and `order` take a case as well and print how many needs it has, and the longest chain of them; `book` takes a
-//! case, whose states it does not look at, how many sagas of its definition are driven, and which step of each fails, if
-//! any, and prints how many events that made; `audit` takes the same and between them the number of workers and how often
-//! each step is missed before, and prints how many events were audited and how many sagas are ended; `replay` takes the same
-//! as `book`, and prints how many events were made into a book again; `desk`
-//! takes a case and how many sagas are driven by 16 seats on 16 shards, and prints how many receipts their end compares;
-//! `run` takes a case, how many sagas of its definition are run, by how many workers, on how many shards, and the word `log`
-//! where their log is written and audited, or how many microseconds each step takes, and prints how many events that made;
-//! `log` takes a log and prints how many events it has. The second word is the file. On standard error stand the seconds that
-//! each of many runs took, a line a run; of a log, those of
-//! reading, of writing, and of reading the lines to JSON values alone, a line each; of an audit, those of the book's calls,
-//! of one thread and of the workers, a line each; of a replay, those of an audit of the same history and of the replay, a line
-//! each; of a run, those of a book alone, of the run, and, where there is a log, of
-//! writing it, and of reading and auditing it, a line each.
+//! The first word is the subject, and the second word is the file. Further words are parameters:
+//!
+//! - `flow` takes a network in DIMACS format. It prints the value of a maximum flow and the number of rounds.
+//! - `plan` takes a case. It prints the cost of a minimum-cost plan and the number of rounds, or `blocked`.
+//! - `build` and `order` take a case. They print the number of its needs, and the length of the longest chain of needs.
+//! - `book` takes a case and ignores its states. It takes the number of sagas of its definition, and which step of each
+//!   saga fails, if any. It prints the number of events.
+//! - `audit` takes the same as `book`, and in between the number of workers and how often each step is missed before.
+//!   It prints the number of audited events and the number of ended sagas.
+//! - `replay` takes the same as `book`. It prints the number of events from which a book was rebuilt.
+//! - `desk` takes a case and the number of sagas that 16 seats on 16 shards execute. It prints the number of receipts
+//!   that their end compares.
+//! - `run` takes a case, the number of sagas of its definition, the number of workers and the number of shards. The
+//!   last word is `log` if the log is written and audited, or the number of microseconds that each step takes. It
+//!   prints the number of events.
+//! - `log` takes a log. It prints the number of its events.
+//!
+//! Standard error gets the seconds of each of many runs, one line for each run. For some subjects, each run has several
+//! lines:
+//!
+//! - `log`: reading, writing, and parsing the lines to JSON values.
+//! - `audit`: the book's calls, the audit with one thread, and the audit with the workers.
+//! - `replay`: an audit of the same history, and the replay.
+//! - `run`: a book in one thread, the run, and if there is a log, writing it, and reading and auditing it.
 mod audits;
 mod cases;
 mod dimacs;
@@ -45,13 +54,13 @@ use std::thread::Threads;
 use std::time::{Duration, Instant};
 use std::{fs, io};
 
-/// How often each thing is done: each run has a line.
+/// The number of runs. Each run has a line.
 const TIMES: u32 = 101;
 
-/// How often a book is driven.
+/// The number of runs of a book.
 const BOOK_TIMES: u32 = 5;
 
-/// A network of which each run of the program finds the greatest flow: two paths, and an arc between them.
+/// A network whose maximum flow each run of the program computes: two paths, and an arc between them.
 const NETWORK: &str = "\
 p max 4 5
 n 1 s
@@ -63,25 +72,25 @@ a 2 3 1
 a 3 4 1
 ";
 
-/// The words behind the name of the program.
+/// The words after the name of the program.
 pub type Words = Skip<Args<Global>>;
 
-/// Writes the seconds that a run took.
+/// Prints the seconds of a run.
 fn show(rt: &HostRuntime, took: Duration) -> io::Result<()> {
     eprintln!(rt; "{}.{:09}", took.as_secs(), took.subsec_nanos())
 }
 
-/// Writes the seconds since then.
+/// Prints the seconds since a start.
 fn show_since(rt: &HostRuntime, start: Instant) -> io::Result<()> {
     show(rt, start.elapsed(rt)?)
 }
 
-/// The next word, a number.
+/// The next word as a number.
 fn next_number(words: &mut Words) -> Result<u32> {
     number(words.next().as_deref())
 }
 
-/// A load of so many sagas, of which the step fails that the next word names, if there is one.
+/// A load of this number of sagas. The next word, if there is one, is the step that fails.
 fn load_of(words: &mut Words, sagas: u32, misses: u32) -> Result<Load> {
     let fails = match words.next() {
         Some(word) => Some(u16::try_from(number(Some(word.as_str()))?)?),
@@ -94,7 +103,7 @@ fn load_of(words: &mut Words, sagas: u32, misses: u32) -> Result<Load> {
     })
 }
 
-/// The crew of a run, by the words.
+/// The parameters of a run, from the words.
 fn crew_of(words: &mut Words) -> Result<Crew> {
     let sagas = next_number(words)?;
     let workers = next_number(words)?;
@@ -114,7 +123,7 @@ fn crew_of(words: &mut Words) -> Result<Crew> {
     })
 }
 
-/// Times what a word says, on a text.
+/// Times the subject of a word with a text.
 fn time_text<R: Threads + Wait + Sync>(
     threads: &R,
     rt: &HostRuntime,
@@ -148,7 +157,7 @@ fn time_text<R: Threads + Wait + Sync>(
     }
 }
 
-/// Times what the words say.
+/// Times the subject of the words.
 pub fn run<R: Threads + Wait + Sync>(
     threads: &R,
     rt: &HostRuntime,

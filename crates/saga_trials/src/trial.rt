@@ -1,14 +1,15 @@
-//! How a call is tried: where one growth of memory is refused in it, and where each is.
+//! How a call is tried: with one memory allocation refused, or with every allocation refused.
 use std::alloc::{Alloc, Global};
 
-/// A trial under way. On standard error it tells whoever refuses memory where the calls that are tried begin and end, each
-/// time in a line of one word: `each` where one growth is refused, `none` where each is, and `ample` where none is any more.
+/// A trial in progress. It prints a word on standard error where the calls under test start and end, for the library
+/// that refuses memory: `each` if one allocation is refused, `none` if every allocation is refused, and `ample` if none
+/// is refused any more.
 #[derive(Drop)]
 pub struct Trial<'a> {
     rt: &'a HostRuntime,
-    /// Whether growths are refused one by one; else only calls that take no memory are tried.
+    /// Whether allocations are refused one by one. Otherwise only calls that take no memory are tried.
     pub refuses: bool,
-    /// Whether a call told of a refusal.
+    /// Whether a call returned a refusal of memory.
     pub refused: bool,
 }
 
@@ -25,24 +26,24 @@ impl<'a> Trial<'a> {
         self.rt.alloc()
     }
 
-    /// Tells by a word what becomes of growths from here on. Where it cannot be told, none is refused.
+    /// Prints a word for the refusal of allocations from here on. If printing fails, no allocation is refused.
     fn tell(&self, word: &str) {
         let _ = eprintln!(self.rt; "{word}");
     }
 
-    /// From here on one growth may be refused.
+    /// From here on one allocation may be refused.
     pub fn each(&self) {
         if self.refuses {
             self.tell("each");
         }
     }
 
-    /// From here on each growth is refused.
+    /// From here on every allocation is refused.
     pub fn none(&self) {
         self.tell("none");
     }
 
-    /// From here on none is refused.
+    /// From here on no allocation is refused.
     pub fn ample(&self) {
         self.tell("ample");
     }

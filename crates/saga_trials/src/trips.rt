@@ -1,4 +1,4 @@
-//! Trips that are driven to their ends, by one thread and by four workers.
+//! Trips that are executed to their ends, by one thread and by four workers.
 ghost use Rattle.std.specs.Prelude.{◌≡◌, ◌∷◌, [], All, IfOk, OnOk};
 ghost use Rattle.saga_core.specs.Book.{HeadlineOf};
 ghost use Rattle.saga_core.specs.Tasks.{AllAreOver};
@@ -19,7 +19,7 @@ use std::alloc::Global;
 use std::sync::Wait;
 use std::thread::Threads;
 
-/// What the service notes of what it did, with the numbers of trip and step.
+/// An entry of the service about what it did, with the numbers of trip and step.
 #[derive(Clone, Copy, Debug)]
 pub enum Entry {
     Booked(u32, u16),
@@ -27,7 +27,7 @@ pub enum Entry {
     Cancelled(u32, u16),
 }
 
-/// A refusal as an error, which does not tell its name: a text made of any type would be proved for each of them.
+/// A refusal as an error without its name. A text for each type of refusal would need a proof for each type.
 fn refused<E: Drop>(_why: E) -> Error {
     anyhow!("refused")
 }
@@ -57,7 +57,7 @@ fn cancel_step(book: &mut Book, trip: u32, step: u16) -> Result<Entry>
     Ok(Entry::Cancelled(trip, step))
 }
 
-/// Plans how a trip shall end, at the least cost, and adopts that.
+/// Plans how a trip ends, with minimum cost, and adopts the plan.
 fn settle(alloc: Global, book: &mut Book, trip: u32) -> Result<()>
     ensures { OnOk result (AreNoted book.old book.new []) }
 {
@@ -69,7 +69,7 @@ fn settle(alloc: Global, book: &mut Book, trip: u32) -> Result<()>
     book.adopt(trip, verdict).map_err(refused)
 }
 
-/// Drives the trips of a book to their ends, one task after another, and gives what was done.
+/// Executes the trips of a book to their ends, one task after another, and returns the entries of what was done.
 pub fn drive(alloc: Global, agency: &Agency, book: &mut Book) -> Result<Vec<Entry>>
     ensures noted { IfOk result (λ entries. AreNoted book.old book.new entries.items) }
     ensures seats { IfOk result (λ entries. All (EntryHasSeat agency.now) entries.items) }
@@ -90,8 +90,8 @@ pub fn drive(alloc: Global, agency: &Agency, book: &mut Book) -> Result<Vec<Entr
     Ok(entries)
 }
 
-/// Has four workers drive trips to their ends, on four shards. The definitions that are asked for go by their places on the
-/// shelf.
+/// Executes trips to their ends with four workers, on four shards. The requested definitions are given by their indices
+/// on the shelf.
 pub fn drive_by_workers<'d, R: Threads + Wait + Sync>(
     rt: &R,
     alloc: Global,

@@ -1,4 +1,4 @@
--- What was taken and not reported.
+-- The tasks that were started and not yet reported.
 use Rattle.std.specs.Prelude.{ℕ, List, [], ◌∷◌, Option, Some, None, codes, flat_map, length}
 use Rattle.std.specs.List.{concat, range_with_len}
 use Rattle.saga_def.specs.Contents.{Contents}
@@ -22,7 +22,7 @@ busy_in Undoing saga s = taken_text Undo saga s ∷ []
 busy_in Undone saga s = []
 busy_in Fixed saga s = []
 
--- of the first steps of a saga
+-- the tasks of the first steps of a saga
 abbrev pub busy_below : Saga → ℕ → List (List ℕ)
 busy_below saga count = flat_map (λ s. busy_in (state saga.changes s) saga s) (range_with_len 0 count)
 
@@ -30,11 +30,11 @@ abbrev pub busy_by : Option Contents → List Change → ℕ → List (List ℕ)
 busy_by None l i = []
 busy_by (Some d) l i = busy_below (saga_of i d l) (length d.steps)
 
--- of a saga of a book
+-- the tasks of a saga of a book
 abbrev pub busy_of : Book → ℕ → List (List ℕ)
 busy_of book i = busy_by (definition_in book i) (changes_in book i) i
 
--- of the first sagas of a book
+-- the tasks of the first sagas of a book
 abbrev pub busy_up_to : Book → ℕ → List (List ℕ)
 busy_up_to book count = flat_map (λ k. busy_of book (number book.first book.stride k)) (range_with_len 0 count)
 

@@ -1,4 +1,4 @@
--- What a book tells without a change.
+-- Read-only views of a book.
 pub mod Limits
 pub mod Words
 pub mod Tasks

@@ -1,10 +1,10 @@
--- The limits of a reply that lists.
+-- The limits of lists.
 use Rattle.std.specs.Prelude.{ℕ}
 
--- the most sagas that are told
+-- the maximum number of sagas in a list
 abbrev pub most_sagas : ℕ
 most_sagas = 100
 
--- so many tasks are enough, and no further saga is begun
+-- the number of tasks from which on a list does not continue with another saga
 abbrev pub enough_tasks : ℕ
 enough_tasks = 100

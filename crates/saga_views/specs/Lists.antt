@@ -1,4 +1,4 @@
--- The sagas from a number on, and where each stands.
+-- The list of sagas from a number on, with the phase of each.
 use Rattle.std.specs.Prelude.{◌≡◌, ℕ, ◌<◌, ◌≤◌, ◌&&◌, Bool, true, false, nat_le, List, [], ◌∷◌, Option, Some, None, codes, decimal, flat_map, length, slice_index_or}
 use Rattle.std.specs.List.{concat, range_with_len}
 use Rattle.saga_def.specs.Contents.{Contents}
@@ -11,7 +11,7 @@ use Rattle.saga_history.specs.Tasks.{phase_word}
 use Rattle.saga_views.specs.Words.{listed}
 use Rattle.saga_views.specs.Limits.{most_sagas}
 
--- any phase is wanted, or that one alone
+-- the filter selects every phase, or only this one
 abbrev pub is_wanted : Option Phase → Phase → Bool
 is_wanted None phase = true
 is_wanted (Some wanted) phase = same_phase wanted phase
@@ -28,7 +28,7 @@ named_text name phase i =
 abbrev pub saga_text : Book → Phase → ℕ → List ℕ
 saga_text book phase i = named_text (name_by (definition_in book i)) (phase_word phase) i
 
--- a saga in a place: its number and its phase; whether it is told, by these two; and its text
+-- the saga at an index: its number and its phase; whether the list has the saga, from these two; and its text
 abbrev pub number_at : Book → ℕ → ℕ
 number_at book k = number book.first book.stride k
 
@@ -48,19 +48,20 @@ abbrev pub text_if : Bool → List ℕ → List (List ℕ)
 text_if true text = text ∷ []
 text_if false text = []
 
--- of the sagas in the first places, those that are told
+-- the texts of the sagas that the list has, of those at the first indices
 abbrev pub told_up_to : Book → ℕ → Option Phase → List Phase → ℕ → List (List ℕ)
 told_up_to book from wanted phases count =
     flat_map (λ k. text_if (is_told_at book from wanted phases k) (text_at book phases k)) (range_with_len 0 count)
 
--- so many places were gone over: all, or as far as there are enough, and the saga in the next one would be told too
+-- `count` sagas were visited: all; or the list is full, and it would also have the saga at the next index
 abbrev pub GoesTo : Book → ℕ → Option Phase → List Phase → ℕ → Option ℕ → Type 0
 GoesTo book from wanted phases count None = count ≡ sagas_in book.history
 GoesTo book from wanted phases count (Some m) =
     (count < sagas_in book.history) × (m ≡ number_at book count) × (is_told_at book from wanted phases count ≡ true)
     × (length (told_up_to book from wanted phases count) ≡ most_sagas)
 
--- the texts are of the sagas of that phase, from a number on, at most 100; with where to go on, if there are more
+-- the texts are those of the sagas of that phase from a number on, at most 100, with the number from which to continue
+-- if there are more
 pub record AreTold (book : Book) (from : ℕ) (wanted : Option Phase) (phases : List Phase) (texts : List (List ℕ)) (more : Option ℕ) : Type 0 where
   pub count : ℕ
   pub few : length texts ≤ most_sagas
@@ -70,7 +71,7 @@ pub record AreTold (book : Book) (from : ℕ) (wanted : Option Phase) (phases : 
 abbrev pub list_text : List (List ℕ) → Option ℕ → List ℕ
 list_text texts more = concat (more_text more ∷ codes "\"sagas\":[" ∷ listed (codes ",") texts ∷ codes "]}\n" ∷ [])
 
--- that is told
+-- the text is such a list
 pub record TellsList (book : Book) (from : ℕ) (wanted : Option Phase) (text : List ℕ) : Type 0 where
   pub phases : List Phase
   pub phases_are : ArePhases book phases

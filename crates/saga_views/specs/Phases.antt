@@ -1,4 +1,4 @@
--- Where the sagas of a book stand, in the order in which they were opened.
+-- The phases of the sagas of a book, in the order in which the sagas were opened.
 use Rattle.std.specs.Prelude.{◌≡◌, ℕ, ◌<◌, Bool, true, false, List, length, slice_index_or}
 use Rattle.saga_history.specs.declared.tasks.Phase.{Phase}
 use Rattle.saga_history.specs.declared.tasks.Phase.TheVariants.{Going, Draining, Planning, Ended, Stuck}
@@ -10,11 +10,11 @@ pub record AreFirstPhases (book : Book) (count : ℕ) (phases : List Phase) : Ty
   pub sized : length phases ≡ count
   pub each : (k : ℕ) (p : Phase) → k < count → StandsAt book (number book.first book.stride k) (slice_index_or phases k p)
 
--- of all
+-- the phase of each saga
 abbrev pub ArePhases : Book → List Phase → Type 0
 ArePhases book phases = AreFirstPhases book (sagas_in book.history) phases
 
--- whether two phases are the same
+-- whether two phases are equal
 abbrev pub same_phase : Phase → Phase → Bool
 same_phase Going Going = true
 same_phase Going _ = false

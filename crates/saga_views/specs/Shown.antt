@@ -1,4 +1,4 @@
--- How a saga stands.
+-- The state of a saga.
 use Rattle.std.specs.Prelude.{◌≡◌, ℕ, ◌++◌, Bool, true, false, List, [], ◌∷◌, Option, Some, None, codes, decimal, flat_map, length, map}
 use Rattle.std.specs.List.{concat, range_with_len}
 use Rattle.serde_json.specs.Written.{compact_text}
@@ -33,16 +33,16 @@ abbrev pub number_if : Bool → ℕ → List (List ℕ)
 number_if true s = decimal s ∷ []
 number_if false s = []
 
--- the numbers of the first steps that are in the goal
+-- the numbers of those of the first steps that are in the goal
 abbrev pub kept_below : List Change → ℕ → List (List ℕ)
 kept_below l count = flat_map (λ s. number_if (in_goal l s) s) (range_with_len 0 count)
 
--- the words of the states of the first steps
+-- the words for the states of the first steps
 abbrev pub states_below : List Change → ℕ → List (List ℕ)
 states_below l count = map (λ s. word_of (state l s)) (range_with_len 0 count)
 
--- of a saga: whether it was aborted, the last answer, and which steps are kept; the words of its states; and all of it, with its
--- name, phase and number between them
+-- the parts of the text of a saga: whether it was aborted, the last answer and the kept steps; the words for the
+-- states; and the whole text, with the name, the phase and the number in the middle
 abbrev pub head_text : List ℕ → List ℕ → List ℕ → List ℕ
 head_text aborted answer kept =
     concat (codes "{\"aborted\":" ∷ aborted ∷ answer ∷ codes ",\"kept\":[" ∷ kept ∷ codes "]" ∷ [])
@@ -54,7 +54,7 @@ abbrev pub shown_text : List ℕ → List ℕ → List ℕ → ℕ → List ℕ 
 shown_text head name phase i tail =
     head ++ codes ",\"name\":\"" ++ name ++ codes "\",\"phase\":\"" ++ phase ++ codes "\",\"saga\":" ++ decimal i ++ tail
 
--- of a saga in that phase; a definition has a step at least
+-- the text of a saga in that phase; a definition has at least one step
 abbrev pub show_text : Saga → Phase → List ℕ
 show_text saga phase =
     shown_text
@@ -62,7 +62,7 @@ show_text saga phase =
     (listed (codes ",") (kept_below saga.changes (length saga.definition.steps)))) saga.definition.name (phase_word phase) saga.number
     (tail_text (listed (codes "\",\"") (states_below saga.changes (length saga.definition.steps))))
 
--- that is told of the saga of a number, with the phase in which it is
+-- the text is that of the saga with this number, in its phase
 pub record TellsSaga (book : Book) (i : ℕ) (text : List ℕ) : Type 0 where
   pub saga : Saga
   pub is : HasSaga book i saga

@@ -1,4 +1,4 @@
--- How a book stands as a whole.
+-- The summary of a book.
 use Rattle.std.specs.Prelude.{◌≡◌, ℕ, ◌-◌, List, [], ◌∷◌, codes, decimal, length, map}
 use Rattle.std.specs.List.{concat, count_by}
 use Rattle.saga_def.specs.Contents.{Contents}
@@ -9,25 +9,26 @@ use Rattle.saga_rows.specs.Limits.{max_rows}
 use Rattle.saga_views.specs.Phases.{ArePhases, same_phase}
 use Rattle.saga_views.specs.Words.{listed}
 
--- how many sagas stand so
+-- the number of sagas in a phase
 abbrev pub count_in : Phase → List Phase → ℕ
 count_in phase phases = count_by (same_phase phase) phases
 
 abbrev pub quoted : List ℕ → List ℕ
 quoted name = concat (codes "\"" ∷ name ∷ codes "\"" ∷ [])
 
--- the names of the definitions, as a list
+-- the list of the names of definitions
 abbrev pub names_text : List Contents → List ℕ
 names_text shelf = listed (codes ",") (map (λ (d : Contents). quoted d.name) shelf)
 
--- how many sagas are ended and stuck; how many events there are, and how many sagas were opened; and how many more may be
+-- the numbers of ended and of stuck sagas, of events and of opened sagas, and the number of sagas that may still be
+-- opened
 abbrev pub status_text : Book → ℕ → ℕ → List ℕ
 status_text book ended stuck =
     concat (codes "{\"definitions\":[" ∷ names_text book.shelf ∷ codes "],\"ended\":" ∷ decimal ended ∷ codes ",\"events\":"
     ∷ decimal (length book.history) ∷ codes ",\"opened\":" ∷ decimal (sagas_in book.history) ∷ codes ",\"room\":"
     ∷ decimal (max_rows - sagas_in book.history) ∷ codes ",\"stuck\":" ∷ decimal stuck ∷ codes "}\n" ∷ [])
 
--- that is told, by the phase of each saga
+-- the text is the summary, for the phase of each saga
 pub record TellsStatus (book : Book) (text : List ℕ) : Type 0 where
   pub phases : List Phase
   pub phases_are : ArePhases book phases

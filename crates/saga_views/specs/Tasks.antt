@@ -9,7 +9,7 @@ use Rattle.saga_history.specs.Tasks.{missed}
 use Rattle.saga_core.specs.Saga.{Saga}
 use Rattle.saga_views.specs.Words.{kind_word}
 
--- the saga of that number, with that definition and those changes
+-- the saga with this number, this definition and these changes
 abbrev pub saga_of : ℕ → Contents → List Change → Saga
 saga_of i d l = record { number = i; definition = d; changes = l }
 
@@ -17,13 +17,14 @@ abbrev pub name_in : Option Step → List ℕ
 name_in None = []
 name_in (Some step) = step.name
 
--- an attempt at what is done at a step: its number, the names and the numbers of step and saga, and which of the two it is
+-- an attempt of an action or a compensation: the number of the attempt, the name of the step, the numbers of the saga
+-- and the step, and the word for the kind of task
 abbrev pub task_text : ℕ → List ℕ → ℕ → ℕ → List ℕ → List ℕ
 task_text attempt name i s task =
     concat (codes "{\"attempt\":" ∷ decimal attempt ∷ codes ",\"name\":\"" ∷ name ∷ codes "\",\"saga\":" ∷ decimal i ∷ codes ",\"step\":" ∷ decimal s
     ∷ codes ",\"task\":\"" ∷ task ∷ codes "\"}" ∷ [])
 
--- the action or the compensation of a step, as one that is taken: each miss is followed by one more attempt
+-- the action or the compensation of a step, as a started task; its attempt has the number of missed attempts plus one
 abbrev pub taken_text : Kind → Saga → ℕ → List ℕ
 taken_text kind saga s =
     task_text (missed kind saga.changes s + 1) (name_in (slice_get saga.definition.steps s)) saga.number s (kind_word kind)

@@ -12,6 +12,6 @@ abbrev pub kind_word : Kind → List ℕ
 kind_word kind.Run = codes "run"
 kind_word kind.Undo = codes "undo"
 
--- texts, with what stands between two of them
+-- texts, with a separator between them
 abbrev pub listed : List ℕ → List (List ℕ) → List ℕ
 listed between texts = join_by (λ t. t) between texts

@@ -1,4 +1,4 @@
-//! What was taken and not reported.
+//! The tasks that were started and not yet reported.
 ghost use Rattle.std.specs.Prelude.{◌≡◌, ◌<◌, ◌++◌, OnOk, IfOk, length, map, string_bytes};
 ghost use Rattle.saga_history.specs.States.{state};
 ghost use Rattle.saga_core.specs.Book.{sagas_in};
@@ -11,7 +11,7 @@ use saga_core::{Book, Saga};
 use saga_history::Kind;
 use std::alloc::{AllocError, Global};
 
-/// Adds the task of a step, where the step is busy.
+/// Appends the task of a step if the step is busy.
 fn push_busy_step(
     alloc: Global,
     texts: &mut Vec<String>,
@@ -30,7 +30,7 @@ fn push_busy_step(
     Ok(())
 }
 
-/// Adds the tasks of the busy steps of a saga.
+/// Appends the tasks of the busy steps of a saga.
 fn push_busy_steps(
     alloc: Global,
     texts: &mut Vec<String>,
@@ -46,7 +46,7 @@ fn push_busy_steps(
     Ok(())
 }
 
-/// Adds the tasks of the busy steps of a saga, if there is such a saga.
+/// Appends the tasks of the busy steps of a saga, if the saga exists.
 fn push_busy_saga(
     alloc: Global,
     texts: &mut Vec<String>,
@@ -62,7 +62,8 @@ fn push_busy_saga(
     }
 }
 
-/// The tasks that were taken and not reported, by saga and then by step. Takes time linear in the sagas and their steps.
+/// Returns the texts of the tasks that were started and not yet reported, in the order of sagas and then of steps.
+/// Takes time linear in the sagas and their steps.
 fn busy_texts(alloc: Global, book: &Book<'_>) -> Result<Vec<String>, AllocError>
     ensures { IfOk result (λ texts. map string_bytes texts.items
         ≡ spec.busy_up_to book.now (sagas_in book.now.history)) }
@@ -77,7 +78,7 @@ fn busy_texts(alloc: Global, book: &Book<'_>) -> Result<Vec<String>, AllocError>
     Ok(texts)
 }
 
-/// What was taken and not reported.
+/// Returns the reply with the tasks that were started and not yet reported.
 pub fn busy_text(alloc: Global, book: &Book<'_>) -> Result<String, AllocError>
     ensures { IfOk result (λ text. string_bytes text ≡ spec.busy_text book.now) }
 {

@@ -1,7 +1,8 @@
-//! What a book tells without a change: how its sagas stand, what was taken and not reported, which tasks may begin, and counts.
+//! Read-only views of a book: the states of its sagas, the tasks that were started and not yet reported, the tasks that
+//! may start, and counts.
 //!
-//! Each is the text of a reply of `sagas drive`, as `docs/FORMATS.md` of the repository has it. What a request is, and that it is one of
-//! these questions, is not known here.
+//! Each view is the text of a reply of `sagas drive`, as `docs/FORMATS.md` of the repository specifies it. This crate
+//! does not read requests.
 #![tactic(auto)]
 
 mod busy;

@@ -1,4 +1,4 @@
-//! The sagas from a number on, and where each stands.
+//! The list of sagas from a number on, with the phase of each.
 ghost use Rattle.std.specs.Prelude.{◌≡◌, ◌++◌, IfOk, OnOk, map, string_bytes};
 ghost use Rattle.saga_core.specs.Book.{definition_in};
 ghost use Rattle.saga_views.specs.Phases.{ArePhases};
@@ -12,10 +12,10 @@ use saga_core::Book;
 use saga_history::Phase;
 use std::alloc::{AllocError, Global};
 
-/// How many sagas are told at most.
+/// The maximum number of sagas in a list.
 pub const MOST_SAGAS: usize = 100;
 
-/// The texts of sagas, and the number of the one from which to ask again, if there are more.
+/// The texts of sagas, and the number from which to continue the list, if there are more.
 #[derive(Drop)]
 struct ToldSagas {
     texts: Vec<String>,
@@ -31,14 +31,14 @@ fn is_wanted(wanted: Option<Phase>, phase: Phase) -> bool
     }
 }
 
-/// Whether a saga is told, by its number and its phase.
+/// Returns whether the list has a saga, from its number and its phase.
 fn is_told(from: u32, wanted: Option<Phase>, saga: u32, phase: Phase) -> bool
     ensures { result ≡ spec.is_told from wanted saga phase }
 {
     from <= saga && is_wanted(wanted, phase)
 }
 
-/// A saga: its name, its phase and its number.
+/// Returns the text of a saga: its name, its phase and its number.
 fn named_text(alloc: Global, name: &str, phase: &str, saga: u32) -> Result<String, AllocError>
     ensures { IfOk result
         (λ text. string_bytes text ≡ spec.named_text name.now phase.now saga) }
@@ -57,7 +57,7 @@ fn named_text(alloc: Global, name: &str, phase: &str, saga: u32) -> Result<Strin
     .concat(alloc)
 }
 
-/// The name of a saga; a saga that is not there has none.
+/// Returns the name of a saga. It is empty if the saga does not exist.
 fn name_of<'d>(book: &Book<'d>, saga: u32) -> &'d str
     ensures { result.now ≡ spec.name_by (definition_in book.now saga) }
 {
@@ -67,7 +67,7 @@ fn name_of<'d>(book: &Book<'d>, saga: u32) -> &'d str
     }
 }
 
-/// Adds the text of a saga, where it is told.
+/// Appends the text of a saga if the list has this saga.
 fn push_saga(
     alloc: Global,
     texts: &mut Vec<String>,
@@ -86,7 +86,7 @@ fn push_saga(
     Ok(())
 }
 
-/// The sagas of a phase, or all, from a number on.
+/// Returns the sagas of a phase, or all sagas, from a number on.
 fn told_sagas(
     alloc: Global,
     book: &Book<'_>,
@@ -116,8 +116,8 @@ fn told_sagas(
     Ok(ToldSagas { texts, more: None })
 }
 
-/// The sagas of a phase, or all, from a number on, at most 100; and from which saga to ask again, if there are more. Takes time linear
-/// in the sagas.
+/// Returns the list of the sagas of a phase, or of all sagas, from a number on. It has at most 100 sagas, and the
+/// number from which to continue if there are more. Takes time linear in the sagas.
 pub fn list_text(
     alloc: Global,
     book: &Book<'_>,

@@ -1,4 +1,4 @@
-//! Where the sagas of a book stand.
+//! The phases of the sagas of a book.
 ghost use Rattle.std.specs.Prelude.{◌≡◌, IfOk};
 ghost use Rattle.saga_views.specs.Phases as spec;
 
@@ -6,7 +6,7 @@ use saga_core::Book;
 use saga_history::Phase;
 use std::alloc::{AllocError, Global};
 
-/// The phase of each saga.
+/// Returns the phase of each saga.
 pub fn phases_of(alloc: Global, book: &Book<'_>) -> Result<Vec<Phase>, AllocError>
     ensures { IfOk result (λ phases. spec.ArePhases book.now phases.items) }
 {
@@ -17,7 +17,7 @@ pub fn phases_of(alloc: Global, book: &Book<'_>) -> Result<Vec<Phase>, AllocErro
     Ok(phases)
 }
 
-/// Whether two phases are the same.
+/// Returns whether two phases are equal.
 pub fn is_same(phase: Phase, other: Phase) -> bool
     ensures { result ≡ spec.same_phase phase other }
 {

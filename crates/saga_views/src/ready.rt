@@ -1,4 +1,4 @@
-//! Which tasks may begin.
+//! The tasks that may start.
 ghost use Rattle.std.specs.Prelude.{ℕ, ◌≡◌, ◌<◌, ◌≤◌, ◌+◌, ◌*◌, ◌∷◌, [], All, IfOk, IfSome, IfNone, OnOk, Some, None, codes, length, map, option_map, string_bytes};
 ghost use Rattle.std.specs.List.{concat};
 ghost use Rattle.saga_core.specs.Refusals.{OfSaga};
@@ -13,17 +13,17 @@ use saga_core::Book;
 use saga_history::{Kind, Task};
 use std::alloc::{AllocError, Global};
 
-/// How many tasks are enough, so that no further saga is begun.
+/// The number of tasks from which on a list does not continue with another saga.
 pub const ENOUGH_TASKS: usize = 100;
 
-/// Tasks, and the number of the saga from which to ask again, if there are more.
+/// Tasks, and the number of the saga from which to continue the list, if there are more.
 #[derive(Drop)]
 struct ReadyTasks {
     tasks: Vec<Task>,
     more: Option<u32>,
 }
 
-/// Adds a task, where it may begin.
+/// Appends a task if it may start.
 fn push_task(tasks: &mut Vec<Task>, book: &Book<'_>, task: Task) -> Result<(), AllocError>
     ensures { OnOk result
         (IsAdded book.now task tasks.old.items tasks.new.items) }
@@ -34,7 +34,7 @@ fn push_task(tasks: &mut Vec<Task>, book: &Book<'_>, task: Task) -> Result<(), A
     Ok(())
 }
 
-/// Adds the tasks of a saga that may begin. Takes time linear in its steps.
+/// Appends the tasks of a saga that may start. Takes time linear in its steps.
 fn push_tasks(tasks: &mut Vec<Task>, book: &Book<'_>, saga: u32) -> Result<(), AllocError>
     ensures all { OnOk result ((from : ℕ) → from ≤ saga
         → ListsAll (IsReady book.now from (Some saga)) tasks.old.items
@@ -62,8 +62,8 @@ fn saga_of(task: Task) -> u32
     }
 }
 
-/// The tasks that may begin of the sagas from a number on. Goes over the sagas for each one that has tasks to give, without a look at
-/// their steps; over the steps it goes of those alone whose tasks are given.
+/// Returns the tasks that may start, of the sagas from a number on. For each saga with such tasks, it searches the
+/// sagas without a visit of their steps. It visits only the steps of the sagas whose tasks it returns.
 fn ready_tasks(alloc: Global, book: &Book<'_>, from: u32) -> Result<ReadyTasks, AllocError>
     ensures { IfOk result (λ ready. AreReady book.now from
         ready.tasks.items ready.more) }
@@ -84,7 +84,7 @@ fn ready_tasks(alloc: Global, book: &Book<'_>, from: u32) -> Result<ReadyTasks, 
     Ok(ReadyTasks { tasks, more: None })
 }
 
-/// A saga that is to be planned.
+/// Returns the text of the plan of a saga.
 fn plan_text(alloc: Global, saga: u32) -> Result<String, AllocError>
     ensures { IfOk result (λ text. string_bytes text ≡ spec.plan_text saga) }
 {
@@ -97,7 +97,7 @@ fn plan_text(alloc: Global, saga: u32) -> Result<String, AllocError>
     .concat(alloc)
 }
 
-/// The text of the action or the compensation of a step; a saga that is not there has none.
+/// Returns the text of the action or the compensation of a step. It is empty if the saga does not exist.
 fn step_text(
     alloc: Global,
     book: &Book<'_>,
@@ -115,7 +115,7 @@ fn step_text(
     }
 }
 
-/// The text of a task that may begin.
+/// Returns the text of a task that may start.
 fn text_of(alloc: Global, book: &Book<'_>, task: Task) -> Result<String, AllocError>
     requires { MayStart book.now task }
     ensures { IfOk result (λ text. string_bytes text ≡ spec.text_of book.now task) }
@@ -127,7 +127,7 @@ fn text_of(alloc: Global, book: &Book<'_>, task: Task) -> Result<String, AllocEr
     }
 }
 
-/// The texts of tasks that may begin.
+/// Returns the texts of tasks that may start.
 fn texts_of(alloc: Global, book: &Book<'_>, tasks: &[Task]) -> Result<Vec<String>, AllocError>
     requires { All (λ t. MayStart book.now t) tasks.now }
     ensures { IfOk result (λ texts. map string_bytes texts.items
@@ -140,7 +140,7 @@ fn texts_of(alloc: Global, book: &Book<'_>, tasks: &[Task]) -> Result<Vec<String
     Ok(texts)
 }
 
-/// The beginning of a reply: from which saga to ask again.
+/// Returns the start of a reply, with the saga from which to continue if there are more.
 pub fn more_text(alloc: Global, more: Option<u32>) -> Result<String, AllocError>
     ensures { IfOk result (λ text. string_bytes text ≡ spec.more_text more) }
 {
@@ -153,8 +153,9 @@ pub fn more_text(alloc: Global, more: Option<u32>) -> Result<String, AllocError>
     }
 }
 
-/// Which tasks may begin of the sagas from a number on: all of each saga, and no further saga once there are 100; and from which saga to
-/// ask again, if there are more. Takes time linear in the steps of the sagas that it tells of, and a glance at all sagas for each of them.
+/// Returns the list of the tasks that may start, of the sagas from a number on. The list has all such tasks of each of
+/// its sagas, and it ends with the saga that brings it to 100 tasks. If there are more, the reply has the saga from
+/// which to continue. Takes time linear in the steps of the listed sagas, and for each of them one search of all sagas.
 pub fn ready_text(alloc: Global, book: &Book<'_>, from: u32) -> Result<String, AllocError>
     ensures { IfOk result (λ text. TellsReady book.now from (string_bytes text)) }
 {

@@ -1,4 +1,4 @@
-//! How a saga stands, as text.
+//! The state of a saga, as text.
 ghost use Rattle.std.specs.Prelude.{◌≡◌, ◌++◌, OnOk, IfOk, MatchOption, Some, length, map, option_map, string_bytes};
 ghost use Rattle.saga_core.specs.Book.{changes_in};
 ghost use Rattle.saga_core.specs.Refusals.{IsUnknown};
@@ -12,7 +12,7 @@ use saga_core::{Book, Saga};
 use saga_history::Event;
 use std::alloc::{AllocError, Global};
 
-/// The number of a step, where the step is kept.
+/// Appends the number of a step if the step is kept.
 fn push_number(
     alloc: Global,
     numbers: &mut Vec<String>,
@@ -28,7 +28,7 @@ fn push_number(
     Ok(())
 }
 
-/// The numbers of the steps in the goal.
+/// Returns the numbers of the steps in the goal.
 fn kept_numbers(alloc: Global, saga: &Saga<'_, '_>) -> Result<Vec<String>, AllocError>
     ensures { IfOk result (λ numbers. map string_bytes numbers.items
         ≡ spec.kept_below saga.now.changes (length saga.now.definition.steps)) }
@@ -41,7 +41,7 @@ fn kept_numbers(alloc: Global, saga: &Saga<'_, '_>) -> Result<Vec<String>, Alloc
     Ok(numbers)
 }
 
-/// The words of the states of the steps.
+/// Returns the words for the states of the steps.
 fn state_words(alloc: Global, saga: &Saga<'_, '_>) -> Result<Vec<&'static str>, AllocError>
     ensures { IfOk result (λ words. map (λ w. w.now) words.items
         ≡ spec.states_below saga.now.changes (length saga.now.definition.steps)) }
@@ -54,7 +54,7 @@ fn state_words(alloc: Global, saga: &Saga<'_, '_>) -> Result<Vec<&'static str>, 
     Ok(words)
 }
 
-/// The answer that a saga adopted last. Goes back over the events as far as that, or to the opening of the saga.
+/// Returns the answer that a saga adopted last. Searches the events backward, at most to the opening of the saga.
 fn last_answer<'b>(book: &'b Book<'_>, saga: u32) -> Option<&'b Answer>
     ensures { option_map (λ a. a.now) result
         ≡ spec.last_answer (changes_in book.entry.now saga) }
@@ -75,7 +75,7 @@ fn last_answer<'b>(book: &'b Book<'_>, saga: u32) -> Option<&'b Answer>
     None
 }
 
-/// The part of the line that tells of an answer.
+/// Returns the part of the text with an answer.
 fn told_answer(alloc: Global, answer: &Answer) -> Result<String, AllocError>
     ensures { IfOk result
         (λ text. string_bytes text ≡ spec.answer_text (Some answer.now)) }
@@ -84,7 +84,7 @@ fn told_answer(alloc: Global, answer: &Answer) -> Result<String, AllocError>
     [",\"answer\":", written.as_str()].concat(alloc)
 }
 
-/// The part of the line that tells of the last answer of a saga, if there is one.
+/// Returns the part of the text with the last answer of a saga, if there is one.
 fn answer_text(alloc: Global, book: &Book<'_>, saga: u32) -> Result<String, AllocError>
     ensures { IfOk result (λ text. string_bytes text
         ≡ spec.answer_text (spec.last_answer (changes_in book.now saga))) }
@@ -95,7 +95,7 @@ fn answer_text(alloc: Global, book: &Book<'_>, saga: u32) -> Result<String, Allo
     }
 }
 
-/// The beginning of the line that tells of a saga.
+/// Returns the start of the text of a saga.
 fn head_text(alloc: Global, aborted: &str, answer: &str, kept: &str) -> Result<String, AllocError>
     ensures { IfOk result
         (λ text. string_bytes text ≡ spec.head_text aborted.now answer.now kept.now) }
@@ -103,14 +103,14 @@ fn head_text(alloc: Global, aborted: &str, answer: &str, kept: &str) -> Result<S
     ["{\"aborted\":", aborted, answer, ",\"kept\":[", kept, "]"].concat(alloc)
 }
 
-/// The end of it.
+/// Returns the end of the text of a saga.
 fn tail_text(alloc: Global, states: &str) -> Result<String, AllocError>
     ensures { IfOk result (λ text. string_bytes text ≡ spec.tail_text states.now) }
 {
     [",\"states\":[\"", states, "\"]}\n"].concat(alloc)
 }
 
-/// The line that tells of a saga, by its beginning, its name, its phase, its number and its end.
+/// Returns the text of a saga, from its start, its name, its phase, its number and its end.
 fn shown_text(
     alloc: Global,
     head: &str,
@@ -134,7 +134,7 @@ fn shown_text(
     Ok(text)
 }
 
-/// How the saga of a number stands, or none where there is no such saga.
+/// Returns the state of the saga with this number, or `None` if the saga does not exist.
 pub fn show_text(alloc: Global, book: &Book<'_>, saga: u32) -> Result<Option<String>, AllocError>
     ensures { IfOk result (λ shown. MatchOption shown (IsUnknown book.now saga)
         (λ text. spec.TellsSaga book.now saga (string_bytes text))) }

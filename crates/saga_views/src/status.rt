@@ -1,4 +1,4 @@
-//! How a book stands as a whole.
+//! The summary of a book.
 ghost use Rattle.std.specs.Prelude.{◌≡◌, ◌≤◌, IfOk, codes, length, map, string_bytes};
 ghost use Rattle.saga_views.specs.Status as spec;
 
@@ -10,7 +10,7 @@ use saga_def::Definition;
 use saga_history::Phase;
 use std::alloc::{AllocError, Global};
 
-/// How many sagas stand so.
+/// Returns the number of sagas in a phase.
 fn count_in(phases: &[Phase], phase: Phase) -> usize
     ensures { result ≡ spec.count_in phase phases.now }
 {
@@ -23,7 +23,7 @@ fn quoted(alloc: Global, name: &str) -> Result<String, AllocError>
     ["\"", name, "\""].concat(alloc)
 }
 
-/// The names of definitions, as a list.
+/// Returns the list of the names of definitions.
 fn names_text(alloc: Global, shelf: &[Definition]) -> Result<String, AllocError>
     ensures { IfOk result (λ text. string_bytes text ≡ spec.names_text shelf.now) }
 {
@@ -34,7 +34,7 @@ fn names_text(alloc: Global, shelf: &[Definition]) -> Result<String, AllocError>
     listed(alloc, &names)
 }
 
-/// The text of these counts.
+/// Returns the text of these counts.
 fn counts_text(
     alloc: Global,
     book: &Book<'_>,
@@ -68,8 +68,8 @@ fn counts_text(
     .concat(alloc)
 }
 
-/// How many sagas were opened, are ended and are stuck, and how many more may be opened; how many events there are; and the names of
-/// the definitions. Takes time linear in the sagas.
+/// Returns the summary of a book: the numbers of opened, ended and stuck sagas, the number of sagas that may still be
+/// opened, the number of events, and the names of the definitions. Takes time linear in the sagas.
 pub fn status_text(alloc: Global, book: &Book<'_>) -> Result<String, AllocError>
     ensures { IfOk result (λ text. spec.TellsStatus book.now (string_bytes text)) }
 {

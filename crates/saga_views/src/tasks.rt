@@ -1,4 +1,4 @@
-//! The texts of tasks: an action or a compensation, which attempt it is, and the name of its step.
+//! The texts of tasks: an action or a compensation, the number of its attempt, and the name of its step.
 ghost use Rattle.std.specs.Prelude.{◌≡◌, ◌<◌, IfOk, length, slice_get, string_bytes};
 ghost use Rattle.saga_views.specs.Tasks as spec;
 
@@ -16,7 +16,7 @@ fn name_of<'d>(definition: &'d Definition, step: u16) -> &'d str
     definition.step(step).name.as_str()
 }
 
-/// The text of a task that is taken.
+/// Returns the text of a started task.
 fn task_text(
     alloc: Global,
     attempt: u16,
@@ -50,7 +50,7 @@ fn task_text(
     .concat(alloc)
 }
 
-/// The text of the action or the compensation of a step, as one that is taken.
+/// Returns the text of the action or the compensation of a step, as a started task.
 pub fn taken_text(
     alloc: Global,
     saga: &Saga<'_, '_>,

@@ -1,11 +1,11 @@
-//! Words, and lists of texts.
+//! Words and lists of texts.
 ghost use Rattle.std.specs.Prelude.{◌≡◌, IfOk, codes, map, string_bytes};
 ghost use Rattle.saga_views.specs.Words as spec;
 
 use saga_history::Kind;
 use std::alloc::{AllocError, Global};
 
-/// The word of what is done at a step.
+/// Returns the word for an action or a compensation.
 pub fn kind_word(kind: Kind) -> &'static str
     ensures { result.now ≡ spec.kind_word kind }
 {
@@ -15,14 +15,14 @@ pub fn kind_word(kind: Kind) -> &'static str
     }
 }
 
-/// A truth value as JSON has it.
+/// Returns a truth value in JSON.
 pub fn truth_text(truth: bool) -> &'static str
     ensures { result.now ≡ spec.truth_text truth }
 {
     if truth { "true" } else { "false" }
 }
 
-/// Texts, with commas between them.
+/// Returns texts with commas between them.
 pub fn listed(alloc: Global, texts: &[String]) -> Result<String, AllocError>
     ensures { IfOk result
         (λ text. string_bytes text ≡ spec.listed (codes ",") (map string_bytes texts.now)) }
@@ -30,7 +30,7 @@ pub fn listed(alloc: Global, texts: &[String]) -> Result<String, AllocError>
     texts.join(alloc, ",")
 }
 
-/// Words, with what stands between two of them in a list of texts.
+/// Returns words with a separator between them.
 pub fn listed_words(alloc: Global, words: &[&'static str]) -> Result<String, AllocError>
     ensures { IfOk result (λ text. string_bytes text
         ≡ spec.listed (codes "\",\"") (map (λ w. w.now) words.now)) }

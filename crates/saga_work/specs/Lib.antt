@@ -1,4 +1,4 @@
--- Workers: what they add to the books, and what a whole run leaves.
+-- Workers: what they add to the books, and the result of a complete run.
 pub mod Answered
 pub mod Added
 pub mod Asked

@@ -1,4 +1,4 @@
-//! The bell, on which idle workers wait.
+//! The bell: a condition variable on which idle workers wait.
 ghost use Rattle.std.specs.Prelude.{◌≡◌, IfOk, OnErr, length};
 ghost use Rattle.saga_desk.specs.Effects.{Claims};
 
@@ -7,11 +7,13 @@ use std::alloc::AllocError;
 use std::sync::atomic::{AtomicU64, Ordering};
 use std::sync::{Condvar, Mutex, Wait};
 
-/// How many workers wait, and how often it rang for them. A worker with nothing to claim counts itself, looks once more, and then
-/// waits until it rings. Who ended a job looks whether anyone is counted, and only then rings.
+/// The number of waiting workers, and the number of notifications. A worker without a task increments the first, tries
+/// to claim once more, and then waits for a notification. A worker that ended a job checks the number of waiting
+/// workers, and notifies only if it is positive.
 ///
-/// No wake-up is lost: who waits counts itself before its last look, and who ends a job looks at the count behind that.
-/// So either the look finds what the job made, or the count is seen and the bell rings after it was noted how often it did.
+/// No wake-up is lost. A waiting worker increments the count before its last attempt to claim, and a worker that ended
+/// a job reads the count after that end. So either the last attempt sees the effect of the job, or the count is seen,
+/// and the notification comes after the waiting worker has read the number of notifications.
 #[derive(Drop)]
 pub struct Bell {
     waiting: AtomicU64,
@@ -21,7 +23,7 @@ pub struct Bell {
 }
 
 impl Bell {
-    /// A bell that never rang. Takes no memory.
+    /// A bell without notifications. Takes no memory.
     pub fn new() -> Bell {
         Bell {
             waiting: AtomicU64::new(0),
@@ -31,30 +33,30 @@ impl Bell {
         }
     }
 
-    /// Counts one more that waits. Gives how often it rang, modulo 2^64.
+    /// Adds a waiting worker. Returns the number of notifications so far, modulo 2^64.
     fn enter(&self) -> u64 {
         self.waiting.fetch_add(1, Ordering::SeqCst);
         self.rings.load(Ordering::SeqCst)
     }
 
-    /// Counts one less.
+    /// Removes a waiting worker.
     fn leave(&self) {
         self.waiting.fetch_sub(1, Ordering::SeqCst);
     }
 
-    /// Whether anyone waits.
+    /// Whether a worker waits.
     fn is_awaited(&self) -> bool {
         self.waiting.load(Ordering::SeqCst) > 0
     }
 
-    /// Rings, and wakes whoever waits.
+    /// Notifies all waiting workers.
     fn ring<R: Wait>(&self, rt: &R) {
         let _door = self.door.lock(rt);
         self.rings.fetch_add(1, Ordering::SeqCst);
         self.rung.notify_all();
     }
 
-    /// Waits until it has rung more often than that.
+    /// Waits for a notification after the first `seen`.
     fn wait_past<R: Wait>(&self, rt: &R, seen: u64) {
         let door = self.door.lock(rt);
         let _door = self
@@ -63,10 +65,11 @@ impl Bell {
     }
 }
 
-/// The bell as one worker has it: how many of its seat's receipts it has rung for, where that was of use to anyone.
+/// The bell as one worker uses it. `rung_for` is the number of its seat's receipts for which it has rung. A ring
+/// notifies the waiting workers only if there are any and they may have a task or may end.
 ///
-/// A worker may claim only where it has rung for all of them, so whatever it did to the desk, those that wait are woken before it
-/// goes on.
+/// A worker may claim only if it has rung for all of its receipts. So waiting workers are woken after every change of
+/// the desk by this worker, before it continues.
 #[derive(Drop)]
 pub(crate) struct Rope<'b> {
     bell: &'b Bell,
@@ -74,7 +77,7 @@ pub(crate) struct Rope<'b> {
 }
 
 impl<'b> Rope<'b> {
-    /// The bell for a seat, of whose receipts all were rung for.
+    /// The bell for a seat. It counts as rung for all receipts so far.
     pub(crate) fn new(bell: &'b Bell, seat: &Seat) -> Rope<'b>
         ensures { result.rung_for ≡ length seat.now.receipts }
     {
@@ -84,7 +87,7 @@ impl<'b> Rope<'b> {
         }
     }
 
-    /// Rings where someone waits, and may have something to claim, or is to go home.
+    /// Rings for all receipts of the seat.
     pub(crate) fn ring<R: Wait, P: Policy>(&mut self, rt: &R, desk: &Desk<'_, P>, seat: &Seat)
         ensures { self.new.rung_for ≡ length seat.now.receipts }
     {
@@ -94,7 +97,7 @@ impl<'b> Rope<'b> {
         self.rung_for = seat.receipts().len();
     }
 
-    /// Looks once more what there is for the seat, counted among those that wait; where there is nothing, waits until that may have
+    /// Counts the worker as waiting and tries to claim once more. If there is no task, waits until that may have
     /// changed.
     pub(crate) fn wait<'d, R: Wait, P: Policy>(
         &self,

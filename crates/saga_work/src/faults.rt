@@ -1,4 +1,4 @@
-//! Why a worker stops, and why a run gives no books.
+//! Why a worker stops, and why a run returns no books.
 ghost use Rattle.std.specs.Prelude.{◌≡◌};
 ghost use Rattle.saga_work.specs.Words.{word_of_finish, word_of_run, word_of_stop};
 
@@ -7,36 +7,36 @@ use saga_core::OpenRefusal;
 /// Why a worker stopped before each saga was ended or stuck.
 #[derive(Clone, Copy, Debug, PartialEq, Eq)]
 pub enum Stop {
-    /// It found no memory for a claim, a plan or an abort.
+    /// A memory allocation for a claim, a plan or an abort failed.
     OutOfMemory,
-    /// The desk refused what the worker had claimed, or a saga that was to be aborted.
+    /// The desk refused the end of a claim, or an abort.
     Refused,
 }
 
-/// Why a desk could not be finished, want of memory aside.
+/// Why a desk could not be finished, except for lack of memory.
 #[derive(Clone, Copy, Debug, PartialEq, Eq)]
 pub enum FinishFault {
-    /// A seat came back that is none of the desk's.
+    /// A returned seat is not one of the desk's.
     Stranger,
-    /// A seat did not come back.
+    /// A seat was not returned.
     Missing,
-    /// What the seats tell is not what the books hold.
+    /// The receipts of the seats do not agree with the books.
     Torn,
 }
 
-/// Why a run gives no books.
+/// Why a run returns no books.
 #[derive(Clone, Copy, Debug, PartialEq, Eq)]
 pub enum RunFault {
-    /// The saga of this number was not opened. Nothing was run.
+    /// The saga with this number was not opened. No step was run.
     Open(usize, OpenRefusal),
     /// The desk could not be finished.
     Finish(FinishFault),
-    /// A growth of memory was refused, before anything was run or after.
+    /// A memory allocation failed, before or after steps were run.
     OutOfMemory,
 }
 
 impl Stop {
-    /// The stop in one word, as `refused`.
+    /// The stop in one word, for example `refused`.
     pub fn word(&self) -> &'static str
         ensures { result.now ≡ word_of_stop self.now }
     {
@@ -48,7 +48,7 @@ impl Stop {
 }
 
 impl FinishFault {
-    /// The fault in one word, as `torn`.
+    /// The fault in one word, for example `torn`.
     pub fn word(&self) -> &'static str
         ensures { result.now ≡ word_of_finish self.now }
     {
@@ -61,7 +61,7 @@ impl FinishFault {
 }
 
 impl RunFault {
-    /// The fault in one word, as `no-such-definition`.
+    /// The fault in one word, for example `no-such-definition`.
     pub fn word(&self) -> &'static str
         ensures { result.now ≡ word_of_run self.now }
     {

@@ -1,9 +1,9 @@
-//! Workers: seats of a desk that run sagas side by side, by an actor who does the actions and compensations of steps.
+//! Workers: seats of a desk that run sagas concurrently. An actor runs the actions and compensations of steps.
 //!
-//! [`run_all`] opens the sagas that are asked for, lets the workers run them to their end, and gives the books of all
-//! shards. [`work`] is one worker at one seat.
+//! [`run_all`] opens the requested sagas, lets the workers run them to their end, and returns the books of all shards.
+//! [`work`] is one worker at one seat.
 //!
-//! Workers run all sagas that are asked for, by an [`Actor`]:
+//! In this example, workers run all requested sagas with an [`Actor`]:
 //!
 //! ```
 //! // Three sagas of definition 0, by four workers over two shards; `Quick` is an `Actor`.

@@ -1,4 +1,4 @@
-//! Opening what a run was asked for.
+//! Opens the sagas of a run.
 ghost use Rattle.std.specs.Prelude.{◌≡◌, ◌<◌, ◌≤◌, [], All, IfOk, IfErr, OnOk, length};
 ghost use Rattle.saga_work.specs.Asked.{AreOpened, AreSeated, IsOpening, OpensAll};
 ghost use Rattle.saga_work.specs.Faults.{AreOnShelf, IsRunFault, fault_of_opening};
@@ -20,7 +20,7 @@ fn open_fault(saga: usize, why: OpenRefusal) -> RunFault
     }
 }
 
-/// Opens each definition that is asked for, the j-th on shard j modulo their number.
+/// Opens each requested definition: the j-th on shard j modulo the number of shards.
 fn open_all<P: Policy, R: Wait>(
     rt: &R,
     desk: &Desk<'_, P>,
@@ -41,7 +41,8 @@ fn open_all<P: Policy, R: Wait>(
         let shard = (j % shards as usize) as u32;
         match desk.open_saga(rt, seat, shard, asks[j]) {
             Ok(_) => {}
-            // Never so: no other seat has opened anything, and this one fewer on that shard than it may have.
+            // This case cannot happen: no other seat has opened a saga, and this seat has opened fewer than the maximum
+            // on this shard.
             Err(OpenRefusal::Full) if j / (shards as usize) < MAX_SAGAS => {
                 return Err(RunFault::OutOfMemory);
             }
@@ -51,7 +52,7 @@ fn open_all<P: Policy, R: Wait>(
     Ok(())
 }
 
-/// A desk with its seats, the first of which has opened what is asked for.
+/// Returns a desk with its seats. The first seat has opened the requested sagas.
 pub fn opened<'d, P: Policy, R: Wait>(
     rt: &R,
     alloc: Global,

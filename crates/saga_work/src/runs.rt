@@ -1,4 +1,4 @@
-//! Whole runs.
+//! Complete runs.
 ghost use Rattle.std.specs.Prelude.{◌≡◌, ◌<◌, ◌≤◌, ◌↔◌, ◌∷◌, [], All, IfErr, IfOk, IsTrue, None, ℕ, map};
 ghost use Rattle.saga_core.specs.Tasks.{AllAreOver};
 ghost use Rattle.saga_desk.specs.Finish.{AreOfShards, HeadlineHolds, MergesAreLegal};
@@ -20,7 +20,8 @@ use std::marker::Brand;
 use std::sync::Wait;
 use std::thread::Threads;
 
-/// What a run left: the book of each shard, and why it stopped before each saga was ended or stuck, if it did.
+/// The result of a run: the book of each shard, and the reason why the run stopped before each saga was ended or stuck,
+/// if it did.
 #[derive(Drop)]
 pub struct Run<'d> {
     pub books: Vec<Book<'d>>,
@@ -51,7 +52,7 @@ fn are_over(books: &[Book<'_>]) -> bool
     true
 }
 
-/// The books number their sagas in order; the look at their histories has no effect.
+/// Establishes that the books number their sagas in order. Reading their histories has no other effect.
 fn are_numbered(books: &[Book<'_>])
     ensures { AreNumbered books.now }
 {
@@ -60,7 +61,7 @@ fn are_numbered(books: &[Book<'_>])
     }
 }
 
-/// The first of two stops, if there is one.
+/// The first of two optional stops.
 fn first_of(first: Option<Stop>, second: Option<Stop>) -> Option<Stop>
     ensures { result ≡ first_stop (first ∷ (second ∷ [])) }
 {
@@ -70,7 +71,7 @@ fn first_of(first: Option<Stop>, second: Option<Stop>) -> Option<Stop>
     }
 }
 
-/// The seats of workers that are done, and the stop of the first that stopped.
+/// The seats of workers that have ended, and the stop of the first one that stopped.
 fn parted(
     alloc: Global,
     done: Vec<(Seat, Option<Stop>)>,
@@ -87,7 +88,7 @@ fn parted(
     Ok((back, stopped))
 }
 
-/// Works each seat, and gives the seats back, and the stop of the first that stopped.
+/// Runs a worker at each seat. Returns the seats, and the stop of the first worker that stopped.
 fn worked<R: Threads + Wait + Sync, A: Actor + Sync, P: Policy + Send + Sync>(
     rt: &R,
     alloc: Global,
@@ -107,7 +108,7 @@ fn worked<R: Threads + Wait + Sync, A: Actor + Sync, P: Policy + Send + Sync>(
     Ok((back, stopped))
 }
 
-/// The stop that a run tells, where its workers had this one or none.
+/// The stop of a run, from the stop of its workers if they have one.
 fn told(stop: Option<Stop>, is_over: bool) -> Option<Stop>
     ensures { result ≡ stop_told stop is_over }
 {
@@ -117,7 +118,7 @@ fn told(stop: Option<Stop>, is_over: bool) -> Option<Stop>
     }
 }
 
-/// The same as [`run_all`], by a desk of this policy.
+/// The same as [`run_all`], with a desk of this policy.
 fn run_with_policy<'d, P: Policy + Send + Sync, R: Threads + Wait + Sync, A: Actor + Sync>(
     rt: &R,
     alloc: Global,
@@ -152,12 +153,14 @@ fn run_with_policy<'d, P: Policy + Send + Sync, R: Threads + Wait + Sync, A: Act
     Ok(Run { books, stopped })
 }
 
-/// Opens the definitions that are asked for, by their places on the shelf, and lets workers run all of them to their end.
+/// Opens the requested definitions, given by their indices on the shelf, and lets workers run all of these sagas to
+/// their end.
 ///
-/// The j-th that is asked for becomes saga j, on shard j modulo the number of shards, before any worker starts. A seat whose
-/// thread the system refuses is worked on another thread. `stopped` is the stop of the lowest seat that stopped, or `Refused`
-/// where none did and yet a saga is neither ended nor stuck. Faults: a definition that cannot be opened, before anything is
-/// run; a desk that cannot be finished, or want of memory, after which actions may have been run.
+/// The j-th requested definition becomes saga j, on shard j modulo the number of shards, before any worker starts. If
+/// the system provides no thread for a seat, another thread runs its worker. `stopped` is the stop of the seat with the
+/// lowest number that stopped. It is `Refused` if no seat stopped and a saga is neither ended nor stuck. Faults: a
+/// definition cannot be opened, and then no step was run; or the desk cannot be finished or memory is lacking, and then
+/// actions may have been run.
 pub fn run_all<'d, R: Threads + Wait + Sync, A: Actor + Sync>(
     rt: &R,
     alloc: Global,

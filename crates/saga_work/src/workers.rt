@@ -1,4 +1,4 @@
-//! Workers.
+//! Workers: each claims and executes tasks until all sagas are over.
 ghost use Rattle.std.specs.Prelude.{◌≡◌, ◌-◌, IfOk, OnErr, length, true};
 ghost use Rattle.saga_desk.specs.Effects.{Claims};
 ghost use Rattle.saga_work.specs.Added.{Adds, EachAdds, HasClaims, stop_of};
@@ -17,14 +17,14 @@ use std::alloc::{AllocError, Global};
 use std::sync::Wait;
 use std::thread::{self, Threads};
 
-/// Whether a worker goes on after what it claimed, or ends, with a stop if it has one.
+/// Whether a worker continues after its last claim, or ends, possibly with a stop.
 #[derive(Clone, Copy)]
 enum Course {
     Goes,
     Ends(Option<Stop>),
 }
 
-/// Aborts a saga. That it is over, or was aborted before, is passed over.
+/// Aborts a saga. Ignores the refusals that the saga is over or was aborted before.
 fn abort<R: Wait, P: Policy>(rt: &R, desk: &Desk<'_, P>, seat: &mut Seat, saga: u32) -> Option<Stop>
     requires { P.may_abort saga }
     ensures adds { Adds (IsAbortOf saga) seat.old seat.new }
@@ -38,7 +38,7 @@ fn abort<R: Wait, P: Policy>(rt: &R, desk: &Desk<'_, P>, seat: &mut Seat, saga: 
     }
 }
 
-/// What the actor answers to a job.
+/// The outcome that the actor returns for a job.
 fn outcome_of<A: Actor>(actor: &A, job: &Job<'_>) -> Outcome
     ensures { A.may actor.now job.now result }
 {
@@ -49,7 +49,7 @@ fn outcome_of<A: Actor>(actor: &A, job: &Job<'_>) -> Outcome
     }
 }
 
-/// Whether the saga shall be aborted after a job that ended so: where it is done, and the actor asks for that.
+/// Whether the saga is to be aborted after a job with this outcome: the job succeeded, and the actor requests an abort.
 fn aborts_after<A: Actor>(actor: &A, job: &Job<'_>, outcome: Outcome) -> bool
     ensures done { result ≡ true → outcome ≡ Outcome.Done }
     ensures may { result ≡ true → A.may_abort actor.now job.now }
@@ -61,7 +61,7 @@ fn aborts_after<A: Actor>(actor: &A, job: &Job<'_>, outcome: Outcome) -> bool
     }
 }
 
-/// Lets the actor do a job, and reports what it answers.
+/// Lets the actor run a job, and reports the outcome.
 fn perform<'d, R: Wait, A: Actor, P: Policy>(
     rt: &R,
     desk: &Desk<'d, P>,
@@ -88,7 +88,7 @@ fn perform<'d, R: Wait, A: Actor, P: Policy>(
     }
 }
 
-/// Gives a plan back, after which the worker has this stop or none.
+/// Ends a planning without an answer. Returns the stop of the worker, which is `stop` unless the desk refuses.
 fn give_back<R: Wait, P: Policy>(
     rt: &R,
     desk: &Desk<'_, P>,
@@ -105,7 +105,7 @@ fn give_back<R: Wait, P: Policy>(
     }
 }
 
-/// Plans how a saga shall end, and has that adopted. A plan that came too late is given back.
+/// Plans how a saga ends, and has the answer adopted. A plan that came too late is given back.
 fn settle<'d, R: Wait, P: Policy>(
     rt: &R,
     alloc: Global,
@@ -135,7 +135,7 @@ fn settle<'d, R: Wait, P: Policy>(
     }
 }
 
-/// Goes on, or ends with a stop.
+/// Continues, or ends with a stop.
 fn after(stop: Option<Stop>) -> Course
     ensures { stop_of result ≡ stop }
 {
@@ -145,7 +145,7 @@ fn after(stop: Option<Stop>) -> Course
     }
 }
 
-/// What there is for a seat. Where there is nothing it waits until that may have changed.
+/// Claims for a seat. If there is no task, waits until that may have changed.
 fn claim<'d, R: Wait, P: Policy>(
     rt: &R,
     desk: &Desk<'d, P>,
@@ -162,7 +162,7 @@ fn claim<'d, R: Wait, P: Policy>(
     }
 }
 
-/// Claims once, and does what was claimed. Rings when it is done.
+/// Claims once, and executes the claim. Notifies the waiting workers afterwards.
 fn take_turn<R: Wait, A: Actor, P: Policy>(
     rt: &R,
     alloc: Global,
@@ -199,13 +199,13 @@ fn take_turn<R: Wait, A: Actor, P: Policy>(
     }
 }
 
-/// Works at a seat: claims and does what is to be done, until each saga of the desk is ended or stuck. Gives the seat back,
-/// and why it stopped before that, if it did.
+/// Runs a worker at a seat: it claims and executes tasks until each saga of the desk is ended or stuck. Returns the
+/// seat, and the reason why it stopped earlier, if it did.
 ///
-/// The desk's policy has to let be told whatever the actor may answer, and let a saga be aborted where the actor may ask for
-/// it, after a job that it may answer with done: so whoever finishes the desk knows that its books hold nothing else. The
-/// seat gains no opening. What is claimed is ended: a plan that came too late is given back, and so is one for which there is
-/// no memory, and then the worker stops. Only where the desk refuses something may a claim be left.
+/// The desk's policy must permit every report that the actor may return. It must also permit an abort of a saga if the
+/// actor may request one, after a job that it may answer with done. So after the desk is finished, its books have only
+/// such events. The worker opens no saga. It ends every claim: if a plan came too late or memory for it is lacking, it
+/// gives the plan back, and in the second case stops. A claim may stay outstanding only if the desk refuses a call.
 pub fn work<R: Wait, A: Actor, P: Policy>(
     rt: &R,
     alloc: Global,
@@ -228,7 +228,7 @@ pub fn work<R: Wait, A: Actor, P: Policy>(
     unreachable!()
 }
 
-/// Works each seat, on a thread of its own where the system grants one, and gives the seats back in their order.
+/// Runs a worker at each seat, on its own thread if the system provides one. Returns the seats in order.
 pub fn work_all<R: Threads + Wait + Sync, A: Actor + Sync, P: Policy + Send + Sync>(
     rt: &R,
     alloc: Global,

@@ -22,7 +22,12 @@ TWO = f"{ONE}, told 0 1, sent 0 12, wrote 0 1 12, heard 0, told 0 2"
 
 
 def merged(
-    notes: str, takeovers: list[Takeover], chunks: list[Chunk], now: str = "1", sync: bool = False, ends: list[tuple[str, int]] | None = None
+    notes: str,
+    takeovers: list[Takeover],
+    chunks: list[Chunk],
+    now: str = "1",
+    sync: bool = False,
+    ends: list[tuple[str, int]] | None = None,
 ) -> ShardRecord:
     """The record of shard 7."""
     records = Records()
@@ -43,7 +48,10 @@ def said(record: ShardRecord) -> str:
 
 def test_what_the_database_has_alone() -> None:
     """Each commit was heard before the next one; nobody knows of the last one."""
-    assert said(merged("", [BORN], CHUNKS)) == "took 1 0 0, heard 0, sent 0 11, wrote 0 0 11, heard 0, sent 0 12, wrote 0 1 12"
+    assert (
+        said(merged("", [BORN], CHUNKS))
+        == "took 1 0 0, heard 0, sent 0 11, wrote 0 0 11, heard 0, sent 0 12, wrote 0 1 12"
+    )
 
 
 def test_what_a_node_noted_is_placed() -> None:
@@ -51,14 +59,18 @@ def test_what_a_node_noted_is_placed() -> None:
 
 
 def test_a_synchronous_standby_has_what_was_answered() -> None:
-    assert said(merged(NODE, [BORN], CHUNKS, sync=True)) == TWO.replace("1 12, heard", "1 12, safe 2, heard").replace("0 11, heard 0,", "0 11, safe 1, heard 0,")
+    assert said(merged(NODE, [BORN], CHUNKS, sync=True)) == TWO.replace(
+        "1 12, heard", "1 12, safe 2, heard"
+    ).replace("0 11, heard 0,", "0 11, safe 1, heard 0,")
 
 
 def test_a_takeover_reads_what_is_before_it() -> None:
     """Two of them, one of which nobody noted, between the commits; and the first node writes on."""
     takeovers = [BORN, Takeover(2, "b", 0, "1"), Takeover(3, "b", 0, "1")]
     notes = f"{NODE}\ntook b 7 3 1 2 11"
-    assert said(merged(notes, takeovers, CHUNKS)).endswith("took 2 1 11, took 3 1 11, heard 2, wrote 0 1 12, heard 0, told 0 2: OldEpoch")
+    assert said(merged(notes, takeovers, CHUNKS)).endswith(
+        "took 2 1 11, took 3 1 11, heard 2, wrote 0 1 12, heard 0, told 0 2: OldEpoch"
+    )
 
 
 @pytest.mark.parametrize("read", ["3 11", "2 10", "0 0"])
@@ -81,12 +93,14 @@ def test_sent_again_without_an_answer() -> None:
 
 
 def test_refused_and_failed() -> None:
-    """What the server wrote nothing of may be sent again; who was refused takes the shard up again."""
+    """A commit that failed may be sent again; a refused session takes the shard up again."""
     lines = NODE.splitlines()
     lines[1:1] = [lines[1], "failed a 7 1 1"]
     assert said(merged("\n".join(lines), [BORN], CHUNKS)) == TWO
     lines[6:6] = [lines[6], lines[5], "failed a 7 1 1"]  # something known is told meanwhile
-    assert said(merged("\n".join(lines), [BORN], CHUNKS)) == TWO.replace("told 0 1,", "told 0 1, told 0 1,")
+    assert said(merged("\n".join(lines), [BORN], CHUNKS)) == TWO.replace(
+        "told 0 1,", "told 0 1, told 0 1,"
+    )
     refused = "\n".join([*NODE.splitlines()[:2], "stale a 7 1 1", "told a 7 1 1 2 call"])
     assert said(merged(refused, [BORN], [])).endswith("sent 0 11, stale 0, told 0 1: NotKnown")
 
@@ -94,16 +108,21 @@ def test_refused_and_failed() -> None:
 def test_a_chunk_that_its_session_did_not_send() -> None:
     """Its node noted what it sent, and this was something else; or there is no such epoch."""
     other = [Chunk(1, 0, 2, 99)]
-    assert said(merged("\n".join(NODE.splitlines()[:3]), [BORN], other)).endswith("wrote 0 0 99, heard 0: OtherContent")
+    assert said(merged("\n".join(NODE.splitlines()[:3]), [BORN], other)).endswith(
+        "wrote 0 0 99, heard 0: OtherContent"
+    )
     assert said(merged("", [BORN], [Chunk(5, 0, 2, 11)])).endswith("NoSuchSession")
 
 
 def test_a_birth_that_never_happened() -> None:
-    """Its commit was refused: the database has nothing of it. But what was heard it has, and what was told."""
+    """Its commit was refused. What it was answered and what it acknowledged stay in the record."""
     lines = NODE.splitlines()
     assert said(merged("\n".join([*lines[:2], "stale a 7 1 1"]), [], [])) == ""
     assert said(merged("\n".join(lines[:3]), [], [])) == "heard 999999999: NoSuchSession"
-    assert said(merged("\n".join([*lines[:2], "stale a 7 1 1", lines[3]]), [], [])) == "told 999999999 1: NoSuchSession"
+    assert (
+        said(merged("\n".join([*lines[:2], "stale a 7 1 1", lines[3]]), [], []))
+        == "told 999999999 1: NoSuchSession"
+    )
 
 
 def test_an_epoch_that_is_another_nodes() -> None:
@@ -119,13 +138,17 @@ def test_an_epoch_that_is_another_nodes() -> None:
     [
         ((1, 1), "", "wrote 0 1 12, took 2 2 12, took 3 2 12"),
         ((1, 2), "", "wrote 0 0 11, took 2 1 11, heard 1, sent 1 12, wrote 1 1 12, took 3 2 12"),
-        ((1, 1), "took b 7 2 1 2 11", "took 2 1 11, heard 1, heard 0, sent 0 12, wrote 0 1 12, took 3 2 12: OldEpoch"),
+        (
+            (1, 1),
+            "took b 7 2 1 2 11",
+            "took 2 1 11, heard 1, heard 0, sent 0 12, wrote 0 1 12, took 3 2 12: OldEpoch",
+        ),
         ((1, 1), "took b 7 2 1 3 12", "wrote 0 1 12, took 2 2 12, heard 1, took 3 2 12"),
         ((3, 3), "", "took 1 0 0, took 2 0 0, took 3 0 0"),
     ],
 )
 def test_a_takeover_that_did_not_look(epochs: tuple[int, int], notes: str, events: str) -> None:
-    """It is where its node read, else as late as the epochs of the chunks allow, and before the next one."""
+    """It is where its node read; else as late as the epochs of the chunks allow."""
     chunks = [chunk._replace(epoch=epoch) for chunk, epoch in zip(CHUNKS, epochs)]
     last = -1 if epochs == (3, 3) else 2
     takeovers = [BORN, Takeover(2, "b", None, "1"), Takeover(3, "c", last, "1")]
@@ -145,7 +168,11 @@ def test_another_server_lacks_takeovers() -> None:
     """The shard went to another node, as that noted; the epoch between nobody noted."""
     notes = f"{NODE}\ntook b 7 3 1 3 12\nsent b 7 3 1 3 13\nheard b 7 3 1 4"
     found = merged(notes, [BORN, Takeover(2, "a", 2, "2")], CHUNKS, "2")
-    assert said(found) == f"{TWO}, took 2 2 12, took 3 2 12, heard 2, sent 2 13, wrote 2 2 13, heard 2, moved 2 1, took 2 2 12"
+    assert (
+        said(found)
+        == f"{TWO}, took 2 2 12, took 3 2 12, heard 2, sent 2 13, wrote 2 2 13, heard 2,"
+        " moved 2 1, took 2 2 12"
+    )
     assert found.losses == []
 
 
@@ -160,12 +187,25 @@ def test_another_server_takes_over_and_the_shard_rests() -> None:
 
 @pytest.mark.parametrize("notes", ["", NODE])
 def test_an_end_that_a_client_was_told(notes: str) -> None:
-    """The database has shown it, so its commit is done; one that it does not have is known to nobody."""
+    """The database has shown it, so its commit is done; no session knows of another one."""
     assert said(merged(notes, [BORN], CHUNKS, ends=[("client", 3)])).endswith("told 0 2")
-    assert said(merged(notes, [BORN], CHUNKS, ends=[("client", 4)])).endswith("told 999999999 3: NoSuchSession" if notes else "told 0 3: NotKnown")
+    assert said(merged(notes, [BORN], CHUNKS, ends=[("client", 4)])).endswith(
+        "told 999999999 3: NoSuchSession" if notes else "told 0 3: NotKnown"
+    )
 
 
-@pytest.mark.parametrize("line", ["sagas-record 2 a", "took a 7 1", "sent a 7 1 1 x 11", "heard a 7 1 1 -2", "what a 7 1 1 2", "", "seen a x wake"])
+@pytest.mark.parametrize(
+    "line",
+    [
+        "sagas-record 2 a",
+        "took a 7 1",
+        "sent a 7 1 1 x 11",
+        "heard a 7 1 1 -2",
+        "what a 7 1 1 2",
+        "",
+        "seen a x wake",
+    ],
+)
 def test_a_line_that_is_none(line: str) -> None:
     with pytest.raises(BadLine):
         Records().add(line)
@@ -174,7 +214,18 @@ def test_a_line_that_is_none(line: str) -> None:
 def test_what_records_are_of() -> None:
     """Shards, those that are closed, and the ends that were told."""
     records = Records()
-    for line in (*NODE.splitlines(), "sagas-record 1 b", "closed a 7 1 1", "took a 8 1 1 0 0", "seen b 7004 client", "seen b 7004 client", "seen b 8001 webhook"):
+    for line in (
+        *NODE.splitlines(),
+        "sagas-record 1 b",
+        "closed a 7 1 1",
+        "took a 8 1 1 0 0",
+        "seen b 7004 client",
+        "seen b 7004 client",
+        "seen b 8001 webhook",
+    ):
         records.add(line)
     assert [*records.shards()] == [7, 8] and records.is_closed(7) and not records.is_closed(8)
-    assert records.ends(7000, 8000) == [(7004, "client")] and records.ends(0, 9000) == [(7004, "client"), (8001, "webhook")]
+    assert records.ends(7000, 8000) == [(7004, "client")] and records.ends(0, 9000) == [
+        (7004, "client"),
+        (8001, "webhook"),
+    ]

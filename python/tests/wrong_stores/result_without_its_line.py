@@ -16,8 +16,8 @@ def apply() -> None:
     right, turns = Commit.words, itertools.count(1)
 
     def words(self: Commit, node: bytes) -> tuple[str, list[bytes | None]]:
-        if "results" in self._rows and next(turns) % 5 == 0:
-            self._rows.pop("lines", None)
+        if "results" in self.parts and next(turns) % 5 == 0:
+            self.parts.pop("lines", None)
         return right(self, node)
 
     setattr(Commit, "words", words)

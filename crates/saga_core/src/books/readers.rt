@@ -1,5 +1,5 @@
-//! What a book returns about its sagas. No reader allocates memory. Only `next_from` visits the
-//! sagas one by one, and none visits the steps.
+//! Queries about the sagas of a book. No query allocates memory. Only `next_from` visits the sagas
+//! one by one, and none visits the steps.
 ghost use Rattle.std.specs.Prelude.{◌≡◌, ◌<◌, ◌≤◌, ◌+◌, ◌*◌, ◌↔◌, IfSome, IsTrue, MatchOption, Some, length};
 ghost use Rattle.saga_rows.specs.Limits.{max_rows};
 ghost use Rattle.saga_history.specs.Changes.{past};

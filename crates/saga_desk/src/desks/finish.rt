@@ -1,4 +1,4 @@
-//! The end of a desk.
+//! The end of a desk: its books are taken out and compared with the receipts.
 ghost use Rattle.std.specs.Prelude.{◌≡◌, ◌≢◌, ℕ, ◌<◌, ◌↔◌, All, IsTrue, IfOk, IfErr, Some, length, slice_get};
 ghost use Rattle.saga_desk.specs.Agreement.{Agree, AreSameReceipts};
 ghost use Rattle.saga_desk.specs.Seat.{Seat};
@@ -14,22 +14,22 @@ use saga_def::Definition;
 use saga_history::are_sound;
 use std::marker::Brand;
 
-/// Why a desk is not finished. The first three hand back desk and seats as they were, the last one the books in place of
-/// the desk.
+/// Why a desk is not finished. The first three variants return desk and seats unchanged, and the last one returns the
+/// books instead of the desk.
 #[derive(Drop)]
 pub enum FinishRefused<'d, P: Policy = Brand> {
-    /// A seat has a number that no seat of the desk has, or two have one number.
+    /// A seat has a number that no seat of the desk has, or two seats have the same number.
     Stranger(Desk<'d, P>, Vec<Seat>),
-    /// A seat of the desk is not there.
+    /// A seat of the desk is missing.
     Missing(Desk<'d, P>, Vec<Seat>),
     OutOfMemory(Desk<'d, P>, Vec<Seat>),
-    /// The books have not the desk's shelf or numbers, or their events are not what the receipts tell.
+    /// The books do not have the desk's shelf or numbers, or their events do not agree with the receipts.
     Torn(Vec<Book<'d>>, Vec<Seat>),
 }
 
 impl<'d, P: Policy> Desk<'d, P> {
-    /// Takes the books out, and compares all receipts with all histories: they must have one merge in common. Waits for
-    /// nobody.
+    /// Takes the books out, and compares all receipts with all histories: they must have a merge in common. This call
+    /// does not block.
     pub fn finish(self, seats: Vec<Seat>) -> Result<Vec<Book<'d>>, FinishRefused<'d, P>>
         ensures seats { IfOk result (λ books. AreAll self.entry seats.items) }
         ensures shards { IfOk result
@@ -86,7 +86,7 @@ impl<'d, P: Policy> Desk<'d, P> {
     }
 }
 
-/// What each book keeps of its history. It only reads.
+/// Establishes that the history of each book is legal. It only reads.
 fn see_histories(books: &[Book<'_>])
     ensures { KeepLegalHistories books.now }
 {
@@ -95,7 +95,7 @@ fn see_histories(books: &[Book<'_>])
     }
 }
 
-/// Whether the desk has a seat of each number, and no number stands twice.
+/// Whether the seats are those of the desk: each number is one of the desk's, and no number occurs twice.
 fn are_own<P: Policy>(desk: &Desk<'_, P>, seats: &[Seat]) -> bool
     ensures { IsTrue result ↔ AreOwn desk.now seats.now }
 {
@@ -110,7 +110,7 @@ fn are_own<P: Policy>(desk: &Desk<'_, P>, seats: &[Seat]) -> bool
     true
 }
 
-/// Whether no seat before that place has the number of the one there.
+/// Whether no seat before this index has the number of the seat at the index.
 fn is_new(seats: &[Seat], i: usize) -> bool
     requires { i < length seats.now }
     ensures { IsTrue result
@@ -126,7 +126,7 @@ fn is_new(seats: &[Seat], i: usize) -> bool
     true
 }
 
-/// Whether there is a book for each of so many shards, in order, with that shelf.
+/// Whether there is a book for each of the shards, in order, with this shelf.
 fn are_of_shards(shelf: &[Definition], shards: usize, books: &[Book<'_>]) -> bool
     ensures { IsTrue result ↔ AreOfShards shelf.now shards books.now }
 {

@@ -1,4 +1,4 @@
-//! Timing of audits, of histories that a book made.
+//! Timing of audits of histories that a book made.
 use crate::timing::cases::shelf_of;
 use crate::timing::loads::{Load, show_drive};
 use crate::timing::{BOOK_TIMES, show_since};
@@ -8,7 +8,7 @@ use saga_def::Definition;
 use std::thread::Threads;
 use std::time::Instant;
 
-/// How many sagas are ended by an audit.
+/// The number of ended sagas in the result of an audit.
 pub fn ended(answer: AuditAnswer) -> Result<usize> {
     match answer {
         AuditAnswer::Yes { ended, .. } => Ok(ended),
@@ -16,8 +16,8 @@ pub fn ended(answer: AuditAnswer) -> Result<usize> {
     }
 }
 
-/// Makes the history of a load and audits it, by one thread and by so many workers. Shows how long each took, and gives how many
-/// events there were.
+/// Makes the history of a load and audits it, with one thread and with this number of workers. Prints the time of each,
+/// and returns the number of events.
 fn time_once<R: Threads + Sync>(
     threads: &R,
     rt: &HostRuntime,
@@ -38,7 +38,7 @@ fn time_once<R: Threads + Sync>(
     Ok(events.len())
 }
 
-/// Times audits of the history of a load of a case's definition.
+/// Times audits of the history of a load for a case's definition.
 pub fn time_audits<R: Threads + Sync>(
     threads: &R,
     rt: &HostRuntime,

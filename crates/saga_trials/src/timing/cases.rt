@@ -8,7 +8,7 @@ use std::str::SplitWhitespace;
 /// The words of a line.
 pub type Words<'a> = SplitWhitespace<'a>;
 
-/// What a text says: the parts of a definition, and the states of its steps.
+/// The contents of a text: the parts of a definition, and the states of its steps.
 #[derive(Drop)]
 pub struct Parts {
     pub steps: Vec<Step>,
@@ -16,8 +16,8 @@ pub struct Parts {
     pub states: Vec<StepState>,
 }
 
-/// Reads a text: a line `s STATE RUN UNDO SKIP KEEP` for each step, each of which may be missed so often, and a line
-/// `n STEP ON` for each need; the numbers of steps begin with 0.
+/// Reads a text. It has a line `s STATE RUN UNDO SKIP KEEP` for each step, each of which may be missed `misses` times,
+/// and a line `n STEP ON` for each need. Steps are numbered from 0.
 pub fn read_parts(alloc: Global, text: &str, misses: u32) -> Result<Parts> {
     let mut parts = Parts {
         steps: Vec::new(alloc),
@@ -30,7 +30,7 @@ pub fn read_parts(alloc: Global, text: &str, misses: u32) -> Result<Parts> {
     Ok(parts)
 }
 
-/// Reads a line, and puts what it says behind the parts.
+/// Reads a line, and appends its contents to the parts.
 fn read_line(alloc: Global, parts: &mut Parts, line: &str, misses: u32) -> Result<()> {
     let mut words = line.split_whitespace();
     match words.next() {
@@ -40,7 +40,7 @@ fn read_line(alloc: Global, parts: &mut Parts, line: &str, misses: u32) -> Resul
     }
 }
 
-/// Reads a step, and puts it and its state behind the parts.
+/// Reads a step, and appends it and its state to the parts.
 fn read_step(alloc: Global, parts: &mut Parts, words: &mut Words<'_>, misses: u32) -> Result<()> {
     parts.states.push(state(words.next())?)?;
     let prices = read_prices(words)?;
@@ -49,7 +49,7 @@ fn read_step(alloc: Global, parts: &mut Parts, words: &mut Words<'_>, misses: u3
     Ok(())
 }
 
-/// Reads the prices of a step: run, undo, skip, keep.
+/// Reads the costs of a step: run, undo, skip, keep.
 fn read_prices(words: &mut Words<'_>) -> Result<[Price; 4]> {
     let run = price(words.next())?;
     let undo = price(words.next())?;
@@ -65,7 +65,7 @@ fn read_need(words: &mut Words<'_>) -> Result<Need> {
     Ok(Need { step, on })
 }
 
-/// The step of a name, of its prices, and of how often it may be missed.
+/// The step with this name and these costs, which may be missed `misses` times.
 fn step(name: String, prices: [Price; 4], misses: u32) -> Step {
     let [run, undo, skip, keep] = prices;
     Step {
@@ -79,7 +79,7 @@ fn step(name: String, prices: [Price; 4], misses: u32) -> Step {
     }
 }
 
-/// The definition of its parts.
+/// The definition with these parts.
 pub fn define(alloc: Global, steps: Vec<Step>, needs: Vec<Need>) -> Result<Definition> {
     let name = Text::new(format!(in alloc; "case")?);
     match Definition::build(alloc, name, steps, needs) {
@@ -88,19 +88,19 @@ pub fn define(alloc: Global, steps: Vec<Step>, needs: Vec<Need>) -> Result<Defin
     }
 }
 
-/// The definition of a text, each of whose steps may be missed so often.
+/// The definition in a text. Each of its steps may be missed `misses` times.
 pub fn definition_of(alloc: Global, text: &str, misses: u32) -> Result<Definition> {
     let Parts { steps, needs, .. } = read_parts(alloc, text, misses)?;
     define(alloc, steps, needs)
 }
 
-/// The states of the steps of a text.
+/// The states of the steps in a text.
 pub fn states_of(alloc: Global, text: &str) -> Result<Vec<StepState>> {
     let Parts { states, .. } = read_parts(alloc, text, 0)?;
     Ok(states)
 }
 
-/// A shelf of that definition alone.
+/// A shelf with only this definition.
 pub fn shelf_of(alloc: Global, text: &str, misses: u32) -> Result<Vec<Definition>> {
     let mut shelf = Vec::new(alloc);
     shelf.push(definition_of(alloc, text, misses)?)?;
@@ -117,7 +117,7 @@ fn state(word: Option<&str>) -> Result<StepState> {
     }
 }
 
-/// A number of a node, or of a step.
+/// The number of a node or of a step.
 pub fn number(word: Option<&str>) -> Result<u32> {
     let number = word
         .context("a number is missing")?
@@ -126,7 +126,7 @@ pub fn number(word: Option<&str>) -> Result<u32> {
     Ok(number)
 }
 
-/// A capacity, or the amount of a price.
+/// A capacity, or the amount of a cost.
 pub fn amount(word: Option<&str>) -> Result<u64> {
     let amount = word
         .context("an amount is missing")?
@@ -135,7 +135,7 @@ pub fn amount(word: Option<&str>) -> Result<u64> {
     Ok(amount)
 }
 
-/// A price.
+/// A cost.
 fn price(word: Option<&str>) -> Result<Price> {
     Ok(Price::Of(amount(word)?))
 }

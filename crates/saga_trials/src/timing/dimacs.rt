@@ -1,4 +1,4 @@
-//! Networks as texts, in the form of the DIMACS challenge for greatest flows.
+//! Networks as texts, in the format of the DIMACS challenge for maximum flows.
 ghost use Rattle.std.specs.Prelude.{◌^◌, ◌<◌};
 
 use crate::timing::cases::{Words, amount, number};
@@ -6,21 +6,21 @@ use anyhow::{Context, Result, bail};
 use saga_flow::{Arc, Cap};
 use std::alloc::Global;
 
-/// What a text says: how many nodes, and the arcs between them, source and sink as nodes 0 and 1.
+/// The contents of a text: the number of nodes, and the arcs between them, with source and sink as nodes 0 and 1.
 #[derive(Drop)]
 pub struct Network {
     pub nodes: u32,
     pub arcs: Vec<Arc>,
 }
 
-/// The two nodes between which units flow, numbered as in the text.
+/// The source and the sink, numbered as in the text.
 #[derive(Clone, Copy)]
 struct Ends {
     source: Option<u32>,
     sink: Option<u32>,
 }
 
-/// What a line says. An arc has the nodes of the text.
+/// The contents of a line. An arc has the node numbers of the text.
 #[derive(Clone, Copy)]
 enum Line {
     Nodes(u32),
@@ -61,7 +61,7 @@ fn read_arc(words: &mut Words<'_>) -> Result<Line> {
 }
 
 /// Reads a text: a line `p max NODES ARCS`, lines `n NODE s` and `n NODE t`, and then a line `a FROM TO CAPACITY` for
-/// each arc. Nodes are numbered from 1, lines that begin otherwise are comments.
+/// each arc. Nodes are numbered from 1. Lines that start otherwise are comments.
 pub fn read_network(alloc: Global, text: &str) -> Result<Network> {
     let mut nodes = 0;
     let mut ends = Ends {
@@ -90,7 +90,7 @@ fn arc(ends: Ends, from: u32, to: u32, most: u64) -> Result<Arc> {
     })
 }
 
-/// The number that a node has where the source is 0 and the sink 1, and the others keep their order.
+/// The number of a node if the source is 0, the sink is 1, and the others keep their order.
 fn renumbered(ends: Ends, node: u32) -> Result<u32> {
     let source = ends.source.context("no source")?;
     let sink = ends.sink.context("no sink")?;

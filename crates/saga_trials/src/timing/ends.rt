@@ -1,5 +1,4 @@
-//! Timing of the end of a desk: seats that have done all there is to do, and the comparison of all their receipts with the
-//! histories.
+//! Timing of the end of a desk: the comparison of all receipts with the histories, after the seats have done all tasks.
 use crate::desks::receipts_in;
 use crate::timing::cases::shelf_of;
 use crate::timing::{BOOK_TIMES, show};
@@ -10,13 +9,13 @@ use saga_history::Outcome;
 use std::sync::Wait;
 use std::time::{Duration, Instant};
 
-/// How many seats there are, and how many shards.
+/// The number of seats and of shards.
 const PLACES: u32 = 16;
 
-/// The most claims of one saga.
+/// The maximum number of claims for one saga.
 const MOST_CLAIMS: u64 = 4096;
 
-/// Opens so many sagas, in turn on each shard.
+/// Opens this number of sagas, on each shard in turn.
 fn open_all<R: Wait>(rt: &R, desk: &Desk<'_>, seats: &mut Vec<Seat>, sagas: u32) -> Result<()> {
     let shards = desk.shards();
     for saga in 0..sagas {
@@ -30,7 +29,7 @@ fn open_all<R: Wait>(rt: &R, desk: &Desk<'_>, seats: &mut Vec<Seat>, sagas: u32)
     Ok(())
 }
 
-/// Claims and reports one step, and answers whether there was one.
+/// Claims and reports one step, and returns whether there was one.
 fn perform<R: Wait>(rt: &R, desk: &Desk<'_>, seat: &mut Seat) -> Result<bool> {
     match desk.claim(rt, seat)? {
         Claim::Run(job) | Claim::Undo(job) => {
@@ -43,7 +42,7 @@ fn perform<R: Wait>(rt: &R, desk: &Desk<'_>, seat: &mut Seat) -> Result<bool> {
     }
 }
 
-/// Opens so many sagas and lets the seats take turns until all is settled. Gives how many receipts there are then.
+/// Opens this number of sagas and lets the seats take turns until all is settled. Returns the number of receipts.
 fn drive_all<R: Wait>(
     waits: &R,
     desk: &Desk<'_>,
@@ -63,7 +62,8 @@ fn drive_all<R: Wait>(
     Ok(receipts_in(seats))
 }
 
-/// Drives so many sagas of a definition, and ends the desk. Gives how many receipts there were, and how long the end took.
+/// Runs this number of sagas of a definition, and ends the desk. Returns the number of receipts, and the time of the
+/// end.
 fn end_desk<R: Wait>(
     waits: &R,
     rt: &HostRuntime,
@@ -81,7 +81,7 @@ fn end_desk<R: Wait>(
     Ok((receipts, took))
 }
 
-/// Times the end of a desk on whose shelf is the definition of a case.
+/// Times the end of a desk that has the definition of a case on its shelf.
 pub fn time_desk<R: Wait>(waits: &R, rt: &HostRuntime, text: &str, sagas: u32) -> Result<()> {
     let shelf = shelf_of(rt.alloc(), text, 0)?;
     println!(rt; "receipts {}", end_desk(waits, rt, &shelf, sagas)?.0)?;

@@ -9,7 +9,7 @@ use saga_flow::{Flow, Net, largest_counted, unbounded_path};
 use std::alloc::{AllocError, Global};
 use std::time::Instant;
 
-/// A greatest flow and its rounds, with the net built anew.
+/// A maximum flow and its rounds, with a new network for each call.
 fn flow_anew(alloc: Global, network: &Network) -> Result<(Flow, u64), AllocError>
     requires sound { IsNetwork
         (record { nodes = network.now.nodes; arcs = network.now.arcs.items }) }
@@ -19,7 +19,7 @@ fn flow_anew(alloc: Global, network: &Network) -> Result<(Flow, u64), AllocError
     largest_counted(alloc, &Net::new(network.nodes, arcs))
 }
 
-/// Tells the value of a greatest flow and the rounds in which it was found, and times finding it.
+/// Prints the value of a maximum flow and the number of rounds, and times the computation.
 fn time_net(rt: &HostRuntime, network: &Network) -> Result<()>
     requires sound { IsNetwork
         (record { nodes = network.now.nodes; arcs = network.now.arcs.items }) }
@@ -35,7 +35,7 @@ fn time_net(rt: &HostRuntime, network: &Network) -> Result<()>
     Ok(())
 }
 
-/// Times the greatest flow of a network, where there is one.
+/// Times the maximum flow of a network, if there is one.
 pub fn time_flow(rt: &HostRuntime, text: &str) -> Result<()> {
     let network = read_network(rt.alloc(), text)?;
     ensure!(

@@ -1,4 +1,4 @@
-//! Timing of a book: sagas that are opened, and driven one task after another until none is left.
+//! Timing of a book: sagas are opened, and executed one task after another until no task is left.
 use crate::timing::cases::shelf_of;
 use crate::timing::{BOOK_TIMES, show};
 use anyhow::{Result, bail, ensure};
@@ -9,11 +9,11 @@ use saga_history::{Event, Outcome, Task};
 use saga_plan::plan;
 use std::time::{Duration, Instant};
 
-/// The most tasks of one saga: each of its steps run and compensated, and the plans.
+/// The maximum number of tasks of one saga: each of its steps run and compensated, and the plans.
 const MOST_TASKS: usize = 4096;
 
-/// What is driven: so many sagas of one definition, how often each step is missed before it succeeds, and which step of
-/// each fails, if any.
+/// The load: the number of sagas of one definition, how often each step is missed before it succeeds, and which step of
+/// each saga fails, if any.
 #[derive(Clone, Copy)]
 pub struct Load {
     pub sagas: u32,
@@ -21,7 +21,8 @@ pub struct Load {
     pub fails: Option<u16>,
 }
 
-/// Plans how a saga shall end, and adopts that. Gives how long planning and judging took, which is not the book's time.
+/// Plans how a saga ends, and adopts the plan. Returns the time of planning and checking, which is not part of the
+/// book's time.
 fn settle(rt: &HostRuntime, book: &mut Book, saga: u32) -> Result<Duration> {
     let Ok(case) = book.take_plan(saga) else {
         bail!("no case");
@@ -36,7 +37,7 @@ fn settle(rt: &HostRuntime, book: &mut Book, saga: u32) -> Result<Duration> {
     Ok(took?)
 }
 
-/// Does a task. Gives the time that is not the book's.
+/// Executes a task. Returns the time that is not the book's.
 fn perform(rt: &HostRuntime, book: &mut Book, task: Task, load: Load) -> Result<Duration> {
     match task {
         Task::Run(saga, step) => {
@@ -64,7 +65,7 @@ fn perform(rt: &HostRuntime, book: &mut Book, task: Task, load: Load) -> Result<
     }
 }
 
-/// Opens the sagas of a load on a book, and drives them to their end. Gives the time that is not the book's.
+/// Opens the sagas of a load in a book, and executes them to their end. Returns the time that is not the book's.
 fn drive_book(rt: &HostRuntime, book: &mut Book, load: Load) -> Result<Duration> {
     let mut others = Duration::ZERO;
     for _ in 0..load.sagas {
@@ -80,7 +81,7 @@ fn drive_book(rt: &HostRuntime, book: &mut Book, load: Load) -> Result<Duration>
     Ok(others)
 }
 
-/// Drives the sagas of a load by a book. Gives the history, and the book's time.
+/// Executes the sagas of a load with a book. Returns the history, and the book's time.
 pub fn drive(rt: &HostRuntime, shelf: &[Definition], load: Load) -> Result<(Vec<Event>, Duration)> {
     let start = Instant::now(rt)?;
     let mut book = Book::new(rt.alloc(), shelf, 0, 1);
@@ -89,14 +90,14 @@ pub fn drive(rt: &HostRuntime, shelf: &[Definition], load: Load) -> Result<(Vec<
     Ok((book.into_history(), took))
 }
 
-/// Drives the sagas of a load, and shows the book's time. Gives the history.
+/// Executes the sagas of a load, and prints the book's time. Returns the history.
 pub fn show_drive(rt: &HostRuntime, shelf: &[Definition], load: Load) -> Result<Vec<Event>> {
     let (events, took) = drive(rt, shelf, load)?;
     show(rt, took)?;
     Ok(events)
 }
 
-/// Times a book of a load of a case's definition.
+/// Times a book with a load of a case's definition.
 pub fn time_book(rt: &HostRuntime, text: &str, load: Load) -> Result<()> {
     let shelf = shelf_of(rt.alloc(), text, 0)?;
     println!(rt; "events {}", drive(rt, &shelf, load)?.0.len())?;

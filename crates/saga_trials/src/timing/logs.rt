@@ -1,4 +1,4 @@
-//! Timing of logs: reading, writing, and the reading of the same lines to JSON values alone.
+//! Timing of logs: reading, writing, and for comparison parsing the same lines to JSON values.
 use crate::samples;
 use crate::timing::show_since;
 use anyhow::{Result, ensure};
@@ -9,10 +9,10 @@ use serde_json::Value;
 use std::alloc::Global;
 use std::time::Instant;
 
-/// How often each thing is done.
+/// The number of runs.
 const TIMES: u32 = 7;
 
-/// How many lines of a text are JSON.
+/// The number of lines of a text that are JSON.
 fn values_of(alloc: Global, text: &[u8]) -> usize {
     let mut count = 0usize;
     let mut left = text;
@@ -28,7 +28,7 @@ fn values_of(alloc: Global, text: &[u8]) -> usize {
     count
 }
 
-/// Reads a log's text, and shows how long that took. Gives the events.
+/// Reads a log's text, and prints the time. Returns the events.
 fn read_once(rt: &HostRuntime, text: &str) -> Result<Vec<Event>> {
     let start = Instant::now(rt)?;
     let events = samples::events(rt.alloc(), text)?;
@@ -36,7 +36,7 @@ fn read_once(rt: &HostRuntime, text: &str) -> Result<Vec<Event>> {
     Ok(events)
 }
 
-/// Writes a log again, and shows how long that took.
+/// Writes a log again, and prints the time.
 fn write_once(rt: &HostRuntime, events: &[Event], text: &str) -> Result<()> {
     let start = Instant::now(rt)?;
     let again = write_log(rt.alloc(), events)?;
@@ -45,7 +45,7 @@ fn write_once(rt: &HostRuntime, events: &[Event], text: &str) -> Result<()> {
     Ok(())
 }
 
-/// Reads the lines of a log's text to values, and shows how long that took. Gives how many there are.
+/// Parses the lines of a log's text to values, and prints the time. Returns their number.
 fn values_once(rt: &HostRuntime, text: &str) -> Result<usize> {
     let start = Instant::now(rt)?;
     let count = values_of(rt.alloc(), text.as_bytes());
@@ -53,7 +53,7 @@ fn values_once(rt: &HostRuntime, text: &str) -> Result<usize> {
     Ok(count)
 }
 
-/// Reads a log's text, writes it again, and reads its lines to values.
+/// Reads a log's text, writes it again, and parses its lines to values.
 fn run_once(rt: &HostRuntime, text: &str) -> Result<()> {
     let events = read_once(rt, text)?;
     write_once(rt, &events, text)?;

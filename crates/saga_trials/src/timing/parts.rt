@@ -15,7 +15,8 @@ fn plan_once(rt: &HostRuntime, case: &Case<'_>) -> Result<()> {
     Ok(show_since(rt, start)?)
 }
 
-/// Tells the cost of a least plan for a case and the rounds in which it was found, or that there is none, and times planning.
+/// Prints the cost of a minimum-cost plan for a case and the number of rounds, or that there is no plan, and times the
+/// planning.
 fn time_case(rt: &HostRuntime, case: &Case<'_>) -> Result<()> {
     let (answer, rounds) = plan_counted(rt.alloc(), case)?;
     match &answer {

@@ -1,4 +1,4 @@
-//! Timing of replays: a history that a book made becomes a book again.
+//! Timing of replays: a book is rebuilt from a history that a book made.
 use crate::samples;
 use crate::timing::audits::ended;
 use crate::timing::cases::shelf_of;
@@ -9,7 +9,7 @@ use saga_audit::audit;
 use saga_def::Definition;
 use std::time::Instant;
 
-/// Audits a history, and then makes it a book again. Shows how long each took, and gives how many events there were.
+/// Audits a history, and then rebuilds a book from it. Prints the time of each, and returns the number of events.
 fn time_once(rt: &HostRuntime, shelf: &[Definition], load: Load) -> Result<usize> {
     let (events, _) = drive(rt, shelf, load)?;
     let count = events.len();
@@ -24,7 +24,7 @@ fn time_once(rt: &HostRuntime, shelf: &[Definition], load: Load) -> Result<usize
     Ok(count)
 }
 
-/// Times replays of the history of a load of a case's definition.
+/// Times replays of the history of a load for a case's definition.
 pub fn time_replays(rt: &HostRuntime, text: &str, load: Load) -> Result<()> {
     let shelf = shelf_of(rt.alloc(), text, load.misses)?;
     let mut events = 0;

@@ -1,4 +1,4 @@
-//! Timing of whole runs: sagas that workers drive to their end, the log of what they did, and the audit of that log.
+//! Timing of complete runs: workers execute sagas to their end, then the log of the run is written and audited.
 ghost use Rattle.std.specs.Prelude.{◌≡◌};
 
 use crate::desks::events_in;
@@ -22,8 +22,8 @@ use std::sync::Wait;
 use std::thread::Threads;
 use std::time::{Duration, Instant};
 
-/// What is run: so many sagas of one definition, by so many workers on so many shards, how many microseconds each step keeps its
-/// worker busy, and whether their log is written and audited.
+/// The parameters of a run: the number of sagas of one definition, and the numbers of workers and shards. Also for how
+/// many microseconds each step keeps its worker busy, and whether the log is written and audited.
 #[derive(Clone, Copy)]
 pub struct Crew {
     pub sagas: u32,
@@ -33,7 +33,7 @@ pub struct Crew {
     pub logs: bool,
 }
 
-/// Has each step done after so long, or at once.
+/// An actor whose steps succeed after this time, or immediately.
 #[derive(Drop)]
 struct Ready<'r> {
     rt: &'r HostRuntime,
@@ -83,7 +83,7 @@ impl Actor for Ready<'_> {
     }
 }
 
-/// Asks for the first definition of a shelf so often.
+/// Requests the first definition of a shelf this number of times.
 fn asks_of(alloc: Global, sagas: u32) -> Result<Vec<u32>, AllocError> {
     let mut asks = Vec::new(alloc);
     for _ in 0..sagas {
@@ -121,7 +121,7 @@ fn books_of<'d, R: Threads + Wait + Sync>(
     }
 }
 
-/// The log of the histories of books, one after the other.
+/// The log of the histories of books, one after another.
 fn log_of(alloc: Global, books: Vec<Book<'_>>) -> Result<String, AllocError> {
     let mut events: Vec<Event> = Vec::new(alloc);
     for book in books {
@@ -131,7 +131,7 @@ fn log_of(alloc: Global, books: Vec<Book<'_>>) -> Result<String, AllocError> {
     write_log(alloc, &events)
 }
 
-/// Writes the log of books. Shows how long that took.
+/// Writes the log of books, and prints the time.
 fn show_log(rt: &HostRuntime, books: Vec<Book<'_>>) -> Result<String> {
     let start = Instant::now(rt)?;
     let log = log_of(rt.alloc(), books)?;
@@ -139,7 +139,7 @@ fn show_log(rt: &HostRuntime, books: Vec<Book<'_>>) -> Result<String> {
     Ok(log)
 }
 
-/// Writes the log of books and audits it, and tells how many sagas are ended. Shows how long each took.
+/// Writes the log of books and audits it, and returns the number of ended sagas. Prints the time of each.
 fn time_log_of(rt: &HostRuntime, shelf: &[Definition], books: Vec<Book<'_>>) -> Result<usize> {
     let log = show_log(rt, books)?;
     let start = Instant::now(rt)?;
@@ -149,8 +149,8 @@ fn time_log_of(rt: &HostRuntime, shelf: &[Definition], books: Vec<Book<'_>>) -> 
     Ok(count)
 }
 
-/// Lets a book alone and then workers drive the sagas, each of which is asked for. Shows how long each took, and gives how
-/// many events there were.
+/// Executes the requested sagas with a book in one thread, and then with workers. Prints the time of each, and returns
+/// the number of events.
 fn time_once<R: Threads + Wait + Sync>(
     threads: &R,
     rt: &HostRuntime,

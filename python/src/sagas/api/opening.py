@@ -78,8 +78,8 @@ def open(
             (default: they are stored as JSON).
         blobs: Where inputs and results over `blob_threshold` are kept (default: in the database).
         blob_threshold: Bytes of a value, as it is stored (default: 65,536).
-        record: PostgreSQL only: a file to which the node adds what it hears of its commits and
-            what it acknowledges, for `sagas store URL record` (default: the one that the
+        record: PostgreSQL only: a file to which the node adds the answers to its commits and what
+            it acknowledges, for `sagas store URL record` (default: the one that the
             environment variable `SAGAS_RECORD` names, if any).
 
     Returns:

@@ -119,8 +119,8 @@ class Judge:
         return Judged(shard, name, record.events, good, answer, record.losses, lost)
 
     def _chunks(self, shard: int) -> tuple[list[Chunk], dict[int, int]]:
-        """The chunks of a shard; and of each of its sagas how many events it has behind the last
-        one of that saga.
+        """Return the chunks of a shard, and for each of its sagas the number of events of the shard
+        up to the last one of that saga.
         """
         found, at, events, digest = list[Chunk](), dict[int, int](), 0, 0
         for epoch, first, text in self._store.rows(CHUNKS, shard):
@@ -179,7 +179,7 @@ def shown(one: Judged) -> dict[str, Any]:
 
 
 def lost(one: Judged) -> list[str]:
-    """What was acknowledged of a shard, and is not there."""
+    """Return what was acknowledged of a shard and does not exist any more."""
     found = []
     for loss in one.losses:
         last = max(telling.chunks for telling in loss.told)

@@ -35,7 +35,7 @@ class Chunk(NamedTuple):
 
 class Takeover(NamedTuple):
     """A new epoch of a shard, as the database has it. `last`: `first` of the last chunk before,
-    `NONE` if there was none; None if nobody looked.
+    `NONE` if there was none; None if it is not known.
     """
 
     epoch: int
@@ -111,8 +111,8 @@ class ShardRecord:
             takeovers: Those that the database has, in order.
             chunks: Those that it has, in order.
             timeline: The one that it is on now.
-            ends: The edges at which others were told that sagas have ended, each with how many
-                events the end rests on.
+            ends: The edges at which ends of sagas were acknowledged, each with the number of
+                events that the end rests on.
         """
         left, places = deque(chunks), deque(self._looked(takeovers, chunks))
         times = {timeline, *(one.timeline for one in takeovers)}
@@ -169,8 +169,8 @@ class ShardRecord:
     # -- what the database has
 
     def _begin(self, epoch: int, timeline: str, notes: deque[Note] | None) -> _Session:
-        """A session begins, which reads all chunks that are there: what it read by its record,
-        where it has one.
+        """A session begins, which reads all chunks that exist, or what it read by its record, if it
+        has one.
         """
         read, digest = len(self._ends) - 1, self._digests[-1]
         if first := next((one for one in notes or () if one.what == "took"), None):
@@ -229,7 +229,7 @@ class ShardRecord:
             notes.popleft()
 
     def _is_answered(self, session: _Session, note: Note) -> bool:
-        """Whether the database has done what a session heard of as done."""
+        """Whether the database has done what a session was answered to be done."""
         if session.stage != "done":
             return False
         return note.what == "took" or self._chunks(note.number) == session.known + session.asked
@@ -251,8 +251,8 @@ class ShardRecord:
         self._tellings.append(telling)
 
     def _unknown(self, line: Line, notes: Iterable[Note]) -> None:
-        """A session that the database does not have: nobody may have heard of it as begun, or
-        been told what rests on it.
+        """A session that the database does not have: no program may have an answer that it began,
+        or have acknowledged what rests on it.
         """
         if _is_heard(line, notes):
             self._lines.append(f"heard {NOBODY}")
@@ -261,11 +261,11 @@ class ShardRecord:
                 self._tell(None, Telling(note.edge, self._chunks(note.number)))
 
     def _chunks(self, events: int) -> int:
-        """How many chunks hold so many events; one more than there are where they do not."""
+        """Return how many chunks hold these events; one more than all if they do not."""
         return bisect.bisect_left(self._ends, events)
 
     def _seen(self, telling: Telling) -> None:
-        """An end that was told to others: it is known to the first session that has it; or to the
+        """An end that was acknowledged: it is known to the first session that has it; or to the
         one that wrote it, since the database has shown it as done.
         """
         known = (one for one in self._sessions if one.known >= telling.chunks)
@@ -292,7 +292,7 @@ class ShardRecord:
             if line.epoch <= self._epoch or not _is_heard(line, notes):
                 self._unknown(line, notes)
                 continue
-            for between in range(self._epoch + 1, line.epoch):  # nobody noted them
+            for between in range(self._epoch + 1, line.epoch):  # no program noted them
                 self._begin(between, timeline, None)
             self._lose(self._begin(line.epoch, timeline, notes))
         self._lines.append(f"moved {had} {epoch}")
@@ -303,7 +303,7 @@ class ShardRecord:
         del self._ends[had + 1 :], self._digests[had + 1 :]
 
     def _lose(self, session: _Session) -> None:
-        """Place what a session heard of as done, and what the database does not have any more."""
+        """Place what a session was answered to be done, and the database does not have any more."""
         self._drain(session)
         while session.notes:
             if session.notes[0].what == "heard" and session.stage == "sent":

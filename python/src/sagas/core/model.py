@@ -31,18 +31,19 @@ CLAIMED, SUSPENDED, QUEUED = AttemptState.CLAIMED, AttemptState.SUSPENDED, Attem
 RUNNING, FINISHED = AttemptState.RUNNING, AttemptState.FINISHED
 
 
-class Acknowledged:
-    """Something that a program acknowledges.
+class AcknowledgedAttempt:
+    """What a program with a record has of an attempt. Without a record, it is never set.
 
     Attributes:
-        rest: What an acknowledgement rests on. It is not set before a program with a record has it.
+        rest: What the acknowledgement that it began rests on; or that its report is stored, once
+            that is decided and somebody waits for it.
     """
 
     __slots__ = ("rest",)
     rest: tuple[Any, int] | None
 
 
-class Attempt(Acknowledged):
+class Attempt(AcknowledgedAttempt):
     """One attempt of a step's action, or of its compensation, which its shard has as begun.
 
     Its methods write its state, and `start_all` and `finish_all` that of many; nothing else does.
@@ -191,8 +192,8 @@ class Attempt(Acknowledged):
 
     @property
     def index(self) -> int | str | None:
-        """The number of its item, or the item's key in a dict; None where it has none. It is the
-        number, too, where what is kept of the items cannot be read.
+        """The number of its item, or the item's key in a dict; None if it has none. It is also the
+        number if the stored items cannot be read.
         """
         layout = self.instance.kind.layout
         if layout is None:

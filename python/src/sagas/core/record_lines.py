@@ -1,17 +1,16 @@
 """The lines of the records of programs.
 
-A record of a program has a line for each event, whose
-fields are separated by single spaces:
+A record of a program has a line for each event, with single spaces between its fields:
 
     sagas-record 1 RUN                                 a program begins; RUN is a word of its own
-    took RUN SHARD EPOCH TIMELINE EVENTS DIGEST        it has taken a shard up, and read so much
-    sent RUN SHARD EPOCH TIMELINE FIRST DIGEST         it sends a commit, behind FIRST events
+    took RUN SHARD EPOCH TIMELINE EVENTS DIGEST        it has taken a shard up, and read EVENTS
+    sent RUN SHARD EPOCH TIMELINE FIRST DIGEST         it sends a commit that follows FIRST events
     heard RUN SHARD EPOCH TIMELINE EVENTS              the server answered: there are EVENTS now
     stale RUN SHARD EPOCH TIMELINE                     it answered that the shard is another's
     failed RUN SHARD EPOCH TIMELINE                    it answered that it wrote nothing
     closed RUN SHARD EPOCH TIMELINE                    the shard is closed: it may be deleted
-    told RUN SHARD EPOCH TIMELINE EVENTS EDGE          something is told that rests on EVENTS
-    seen RUN SAGA EDGE                                 it is told that a saga has ended
+    told RUN SHARD EPOCH TIMELINE EVENTS EDGE          it acknowledges what rests on EVENTS
+    seen RUN SAGA EDGE                                 it acknowledges that a saga has ended
 
 EDGE is `call`, `wake`, `reply`, `read`, `client` or `webhook`. A digest is the one of the whole
 event log up to there.
@@ -53,8 +52,8 @@ class Line(NamedTuple):
 
 @dataclasses.dataclass
 class Records:
-    """The records of programs: the notes of each session, by shard, and the ends that were told
-    to others, by saga, each with how.
+    """The records of programs: the notes of each session, by shard, and the edges at which the end
+    of each saga was acknowledged.
     """
 
     notes: dict[int, dict[Line, list[Note]]] = dataclasses.field(default_factory=dict)
@@ -86,7 +85,7 @@ class Records:
         self._put(_number(shard), at, note)
 
     def shards(self) -> Iterable[int]:
-        """Those of which something was recorded."""
+        """Return the shards that have a note."""
         return self.notes.keys()
 
     def is_closed(self, shard: int) -> bool:
@@ -95,7 +94,7 @@ class Records:
         return any(note.what == "closed" for of in notes for note in of)
 
     def ends(self, first: int, end: int) -> list[tuple[int, str]]:
-        """The sagas from a number on and before another whose ends were told, each with how."""
+        """Return the sagas from `first` to before `end` with acknowledged ends, and the edges."""
         found = ((id, edge) for id, edges in self.seen.items() for edge in sorted(edges))
         return sorted((id, edge) for id, edge in found if first <= id < end)
 
@@ -104,7 +103,7 @@ class Records:
         if note.what != "failed":
             notes.append(note)
             return
-        # what was sent was not written, as the server says; meanwhile something may be told
+        # what was sent was not written; meanwhile something may have been acknowledged
         last = next((at for at in reversed(range(len(notes))) if notes[at].what != "told"), None)
         if last is not None and notes[last].what == "sent":
             del notes[last]

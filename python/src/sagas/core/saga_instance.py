@@ -16,7 +16,20 @@ if TYPE_CHECKING:
     from sagas.core.shard import ShardDriver
 
 
-class SagaInstance:
+class AcknowledgedSaga:
+    """What a program with a record has of a saga. Without a record, it is never set.
+
+    Attributes:
+        rest: What the acknowledgement of its start rests on; None if it is not this program's.
+        end_rest: The same of its end, once that is decided.
+    """
+
+    __slots__ = ("rest", "end_rest")
+    rest: tuple[Any, int] | None
+    end_rest: tuple[Any, int] | None
+
+
+class SagaInstance(AcknowledgedSaga):
     """A saga from its start to its end.
 
     Attributes:

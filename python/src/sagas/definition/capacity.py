@@ -11,6 +11,6 @@ SHARD_CAPACITY = 1000
 """How many sagas a log has at most. A saga's id is its log's number times this, and its number
 in that log."""
 MOST_DEFINITIONS = 64
-"""How many definitions a log has at most."""
+"""How many definitions a log has at most: as many as an engine takes to which none can be added."""
 HEADER = '{"format":2}\n'
 """The first line of each log."""

@@ -2,7 +2,6 @@
 
 from __future__ import annotations
 
-import copy
 import dataclasses
 import hashlib
 import json
@@ -176,7 +175,8 @@ class Kind:
 
     def with_costs(self, text: str) -> Kind:
         """Return the definition of a text that differs from this one's in its costs alone."""
-        kind = copy.copy(self)  # nothing else in it comes from costs
+        kind = Kind.__new__(Kind)
+        kind.__dict__ |= self.__dict__  # nothing else in it comes from costs
         kind.text = text
         return kind
 

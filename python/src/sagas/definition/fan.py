@@ -15,13 +15,13 @@ class Fan:
 
     Args:
         layout: The layout of the definition, or None.
-        values: What is kept of the saga's shape.
+        text: What is kept of the saga's shape, if it is known. It is read when it is needed.
     """
 
-    __slots__ = ("_layout", "_values")
+    __slots__ = ("_layout", "_text")
 
-    def __init__(self, layout: Layout | None, values: ShapeValues | None = None) -> None:
-        self._layout, self._values = layout, values or ShapeValues()
+    def __init__(self, layout: Layout | None, text: str | None = None) -> None:
+        self._layout, self._text = layout, text
 
     def gather(self, step: Selection[Any] | str, one: Callable[[str], Any]) -> Any:
         """Return what `one` gives of the steps that are meant, as `Layout.gather`.
@@ -35,7 +35,8 @@ class Fan:
         if layout is None or name in layout.spots:
             return one(name)
         path = (step,) if isinstance(step, str) else step.path
-        return layout.gather((), path, self._values, one)
+        values = ShapeValues() if self._text is None else ShapeValues.read(self._text)
+        return layout.gather((), path, values, one)
 
 
 FIXED = Fan(None)

@@ -43,7 +43,7 @@ class Block:
         steps: The numbers of the steps.
         group: The group; None of a single step.
         within: The innermost unfolded group that has it, if any.
-        item_of: The declared name of a single step that is there for items, if it is unfolded.
+        item_of: The declared name of a single step, if it is an item of an unfolded group.
     """
 
     steps: list[int]
@@ -96,7 +96,7 @@ class Groups:
         return None
 
     def _add_joins(self) -> None:
-        """A step that the package put behind a group is drawn with it."""
+        """A joining step that the package added after a group is drawn with it."""
         for number, spot in enumerate(self.spots):
             behind = Spot(spot.scope, spot.name.removesuffix(ENDING)).declared
             if spot.name.endswith(ENDING) and behind in self.found:
@@ -107,7 +107,7 @@ class Groups:
         return self._of[step] if step < len(self._of) else []
 
     def blocks(self, count: int, unfold: Collection[str]) -> list[Block]:
-        """What is drawn of so many steps, in the order of their first ones.
+        """Return what is drawn, in the order of the first steps.
 
         Args:
             count: How many steps the definition has.

@@ -129,8 +129,11 @@ class Shape:
             self._check_types(level, part, lists[part.for_each][1])
             count = self.values.count(level.scope, part.name) or 0
             self.structure.append(count)
-            for index in range(count):
-                self._add(level, part, entries, index, value)
+            if isinstance(part, Inclusion) or self._declared.computed_costs(part):
+                for index in range(count):
+                    self._add(level, part, entries, index, value)
+            else:
+                self._add_plain(level.prefix + part.name, entries, count)
         return level
 
     def _keep(self, part: Part, group: str, value: Any) -> set[str]:
@@ -167,15 +170,23 @@ class Shape:
     ) -> None:  # fmt: skip
         name = level.prefix + part.name + ("" if index is None else f"-{index}")
         entry = entries[index] = Entry(index, name)
-        spot = Spot(level.scope, part.name, index)
         if isinstance(part, Inclusion):
             entry.inside = self._inside(level, part, entry, value)
             return
-        self.count += 1
+        self._count(1)
+        if costs := self._declared.computed_costs(part):
+            spot = Spot(level.scope, part.name, index)
+            self.costs += [self._cost(part, word, cost, spot, value) for word, cost in costs]
+
+    def _add_plain(self, name: str, entries: dict[int | None, Entry], count: int) -> None:
+        """Add the items of a fan-out of which nothing but its number comes from an item."""
+        self._count(count)
+        entries.update({index: Entry(index, f"{name}-{index}") for index in range(count)})
+
+    def _count(self, more: int) -> None:
+        self.count += more
         if self.count > validation.MOST_STEPS:
             raise self._too_many()
-        for word, given in self._declared.computed_costs(part):
-            self.costs.append(self._cost(part, word, given, spot, value))
 
     def _cost(
         self, step: Step[Any], word: str, given: Callable[[Any], Any], spot: Spot, value: Any
@@ -339,6 +350,8 @@ def _asked(part: Part, word: str, function: Callable[[Any], Any], value: Any) ->
 
 def _plain(part: Part, what: str, value: Any) -> Any:
     """A value as JSON has it."""
+    if type(value) in (int, bool, type(None)):
+        return value
     try:
         return serialization.read(serialization.write(value, what))
     except SagasError as error:

@@ -63,7 +63,7 @@ class Template:
         self._pieces.append(_joined(lines))
 
     def _step(self, one: ShapedStep, lines: list[str]) -> list[str]:
-        """Put a step behind these lines. Return those that are behind the last computed cost."""
+        """Add a step to these lines. Return those after the last computed cost."""
         lines += ("", "[[step]]", f'name = "{one.name}"', f"{OF}{one.spot.word}")
         if one.needs:
             lines.append("needs = [" + ", ".join([f'"{need}"' for need in one.needs]) + "]")
@@ -102,7 +102,7 @@ def _joined(lines: list[str]) -> str:
 
 
 def _cost(word: str, cost: Cost) -> str:
-    """The line of a cost; none where it is 0, which is the default."""
+    """Return the line of a cost; nothing if it is 0, which is the default."""
     if isinstance(cost, int):
         return f"{word} = {cost}\n" if cost else ""
     return f'{word} = "never"\n'
@@ -154,6 +154,6 @@ def steps(text: str) -> list[dict[str, Any]]:
 
 
 def layout(text: str, steps: list[dict[str, Any]]) -> Layout:
-    """The layout of a definition, of which the steps were read."""
+    """Return the layout of a definition, given its text and its steps."""
     names, spots = [one["name"] for one in steps], [spot_of(one["of"]) for one in steps]
     return Layout(names, spots, giving(text))

@@ -66,7 +66,10 @@ class ShapeValues:
         """A step's item: a new object at each call."""
         found = self._items(spot.scope, spot.name)
         assert found is not None and spot.number is not None
-        return serialization.read(serialization.write(found[1][spot.number]), decoder)
+        item = found[1][spot.number]
+        if decoder is None and not isinstance(item, (dict, list)):
+            return item  # nobody can change it
+        return serialization.read(serialization.write(item), decoder)
 
     def input(self, scope: Scope) -> str:
         """The input of an included saga, as JSON."""

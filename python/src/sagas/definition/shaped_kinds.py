@@ -18,8 +18,8 @@ if TYPE_CHECKING:
     from sagas.definition.saga import Saga
 
 MOST = 256
-"""Definitions that are kept at hand, beside those of the shards that are driven; and what writes
-so many of them.
+"""Definitions that are cached besides those of the shards that are driven, and templates that
+write definitions.
 """
 T = TypeVar("T")
 
@@ -35,6 +35,21 @@ class Known(Protocol):
         """The webhooks that are told of sagas of a name."""
 
 
+class Model:
+    """What all definitions of one structure are made of. They differ in their costs alone.
+
+    Attributes:
+        template: It writes them.
+        kind: One of them; None until one is asked for.
+    """
+
+    __slots__ = ("kind", "template")
+
+    def __init__(self, template: shape_text.Template) -> None:
+        self.template = template
+        self.kind: Kind | None = None
+
+
 class ShapedKinds:
     """The definitions of a store's sagas whose steps come from their input."""
 
@@ -43,7 +58,7 @@ class ShapedKinds:
         self._kinds: weakref.WeakValueDictionary[str, Kind] = weakref.WeakValueDictionary()
         self._alike: weakref.WeakValueDictionary[str, Kind] = weakref.WeakValueDictionary()
         self._recent: OrderedDict[tuple[Any, ...], Kind] = OrderedDict()
-        self._templates: OrderedDict[tuple[Any, ...], shape_text.Template] = OrderedDict()
+        self._models: OrderedDict[tuple[Any, ...], Model] = OrderedDict()
         self._declared: dict[tuple[str, int], Declared] = {}
 
     def all(self) -> Iterator[Kind]:
@@ -85,19 +100,26 @@ class ShapedKinds:
         signature = (structure, *shape.costs)
         kind = self._recent.get(signature)
         if kind is None:
-            text = self._template(structure, shape).text(shape.costs)
-            kind = _put(self._recent, signature, self.kind(text))
+            kind = _put(self._recent, signature, self._written(structure, shape))
         else:
             self._recent.move_to_end(signature)
         return kind, self._known.payloads.encode(shape.values.text())
 
-    def _template(self, structure: tuple[Any, ...], shape: Shape) -> shape_text.Template:
-        """What writes the definitions of this structure."""
-        found = self._templates.get(structure)
-        if found is None:
-            return _put(self._templates, structure, shape_text.Template(shape))
-        self._templates.move_to_end(structure)
-        return found
+    def _written(self, structure: tuple[Any, ...], shape: Shape) -> Kind:
+        """The definition of a shape, made like another one of the same structure, if any."""
+        model = self._models.get(structure)
+        if model is None:
+            model = _put(self._models, structure, Model(shape_text.Template(shape)))
+        else:
+            self._models.move_to_end(structure)
+        text = model.template.text(shape.costs)
+        if model.kind is None:
+            model.kind = self.kind(text)
+            return model.kind
+        kind = self._kinds.get(text)
+        if kind is None:
+            kind = self._kinds[text] = model.kind.with_costs(text)
+        return kind
 
 
 def _put(recent: OrderedDict[tuple[Any, ...], T], key: tuple[Any, ...], value: T) -> T:

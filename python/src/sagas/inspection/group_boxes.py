@@ -25,7 +25,7 @@ class Told(NamedTuple):
 
 
 class Box(NamedTuple):
-    """A box of a picture: its title, what is told, the numbers of its steps, where a click on it
+    """A box of a picture: its title, its state, the numbers of its steps, where a click on it
     leads, and whether it is never joined with its equals.
     """
 
@@ -48,7 +48,7 @@ def urgency(told: Told) -> int:
 
 
 def counted(tolds: Sequence[Told]) -> Told:
-    """What is told of several steps: how many are in each state, the urgent ones first."""
+    """Return the state of several steps: how many are in each, the urgent ones first."""
     counts = Counter(told.state for told in tolds)
     first = {told.state: told for told in reversed(tolds)}
     states = sorted(counts, key=lambda state: urgency(first[state]))

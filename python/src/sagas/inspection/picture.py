@@ -176,7 +176,9 @@ def line(points: list[Point]) -> str:
 
 
 def boxes(shown: list[Box], placed: Placed) -> list[str]:
-    """The steps. Where a box has a link, the table beside has it, too: nobody gets to it twice."""
+    """Draw the steps. The table next to the picture has the same links, so a box's own is skipped
+    by the keyboard.
+    """
     found = []
     for (step, told, _, href, _), (x, y) in zip(shown, placed.corners):
         spoken = escape(f"{step}: {told.state}{', ' + told.why if told.why else ''}")

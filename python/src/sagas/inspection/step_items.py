@@ -9,8 +9,8 @@ from sagas.definition.shape_values import ShapeValues
 
 
 def of(spots: Sequence[Spot], names: Sequence[str], shape: str | None) -> dict[str, str]:
-    """By the names of the steps that are there for items: the index of the item, and its key if it
-    came from a dict. `shape`: as it is stored; of one that is encoded the keys are not known.
+    """Return, by the names of steps of items, the index of the item, and its key if it came from a
+    dict. `shape`: as it is stored. If it is encoded, the keys are not known.
     """
     values = ShapeValues() if shape is None else ShapeValues.read(shape)
     told = ((name, [*_parts(spot, values)]) for name, spot in zip(names, spots))

@@ -76,6 +76,7 @@ class Calls:
         self._teller, self._clock = host.teller, host.clock
         self._forks, self._tracer = private.forks, tracer
         self.acknowledgements = Acknowledgements.of(host.store)
+        self._called = self.acknowledgements.called if self.acknowledgements else None
         self.running: dict[Attempt, asyncio.Task[None] | None] = {}
         self._alone = Dispatcher(self, host, self.running)
         self._inside = Dispatcher(self, host, self.running, host.store.inside)
@@ -197,8 +198,8 @@ class Calls:
         if private.forks != self._forks:  # a function forked, and its child came back here
             os._exit(FORKED)
         if attempt.state is RUNNING and self._store.holds():
-            if self.acknowledgements is not None:
-                self.acknowledgements.called(attempt)
+            if self._called is not None:
+                self._called(attempt)
             if attempt.extras is not None:
                 spans.noted(attempt, self._clock())
             if self._teller.listens:

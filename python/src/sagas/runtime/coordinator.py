@@ -83,11 +83,7 @@ class Coordinator:
         self.sagas = Instances(self.loop)
         self.executor = Executor(self, self.external, concurrency, self._threads, tracer)
         if acknowledgements := self.executor.calls.acknowledgements:
-            self.sagas.starts.told = acknowledgements.started
-            self.sagas.ends.told = acknowledgements.ended
-            self.sagas.answered = acknowledgements.aborted
-            self.executor.kept.told = acknowledgements.reported
-            acknowledgements.kept = self.executor.kept
+            acknowledgements.follow(self.sagas, self.executor.kept)
         self.executor.slots.is_fair = any(saga.fair_by for saga in shelf.sagas.values())
         self.commits = CommitQueue(store, self, teller, self.loop)
         self.shards = Shards(

@@ -89,7 +89,8 @@ class EffectHandler:
             self._executor.planned(saga)
         if effects.ended:
             self._ended(effects.ended)
-            self.over(effects.ended)
+            if self._acknowledgements is not None:
+                self._acknowledgements.over(effects.ended)
         if dispatch := effects.dispatch:
             self._slots.release(len(dispatch))
             self._executor.begin_all(dispatch)

@@ -251,13 +251,13 @@ class Executor:
         await kept
 
     async def until_kept(self, attempt: Attempt) -> bool:
-        """Wait until the report of a finished attempt is in the store, or does not come there from
-        here: only the store tells which. Return False of one that has no report.
+        """Wait until the report of a finished attempt is in the store, or cannot come there from
+        here. Only the store shows which. Return False if the attempt has no report.
         """
         if attempt.state is not FINISHED or attempt.outcome is None:
             return False
         if self._runner(attempt) and attempt.is_unkept:
-            with contextlib.suppress(SagasError):  # the store tells
+            with contextlib.suppress(SagasError):  # the store shows it
                 await self.kept.wait(attempt)
         return True
 
@@ -389,7 +389,7 @@ class Executor:
 
     def forget(self, attempt: Attempt) -> None:
         """The store does not have it: it had not begun, or its report is there; or another node
-        has its shard. Who waits for its report looks into the store.
+        has its shard. Callers that wait for its report look into the store.
         """
         self._drop_timer(attempt)
         self._gone(attempt)

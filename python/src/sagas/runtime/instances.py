@@ -21,7 +21,7 @@ class Instances:
         starts: Who waits until a saga is in the store.
         ends: Who waits until a saga's end is in the store.
         driven: Is told each saga that is in the store, and driven here.
-        answered: Is called before anybody is told what an abort came to, if it is set.
+        answered: If set, is called before a caller is notified of the outcome of an abort.
     """
 
     def __init__(self, loop: asyncio.AbstractEventLoop) -> None:

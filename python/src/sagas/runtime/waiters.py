@@ -10,11 +10,11 @@ K = TypeVar("K")
 
 
 class Waiters(Generic[K]):
-    """Who waits for one thing, by that of which it is awaited.
+    """The callers that wait for one event, by what it is an event of.
 
     Attributes:
-        futures: Who waits; nothing else changes it.
-        told: Is called before anybody is told that it is so, if it is set.
+        futures: The waiting callers. Only this class changes it.
+        told: If set, is called before the callers are notified of success.
     """
 
     def __init__(self, loop: asyncio.AbstractEventLoop) -> None:

@@ -2,6 +2,7 @@
 
 from __future__ import annotations
 
+from sagas.definition.declared import COSTS
 from sagas.server import problems
 from sagas.server.auth import DEFINITION
 from sagas.server.shapes import (
@@ -20,16 +21,14 @@ from sagas.server.shapes import (
 
 PHASES = "open", "completed", "recovered", "stuck", "resolved"
 STATES = (
-    *("waiting", "begun", "running", "committed"),
-    *("failed", "undoing", "undone", "undo_failed"),
-)
+    "waiting", "begun", "running", "committed", "failed", "undoing", "undone", "undo_failed",
+)  # fmt: skip
 KINDS = "stuck", "undo_failed", "unknown", "exhausted", "cannot_decode", "approval"
 """What needs a person."""
 NAME = Text(most=32, pattern=DEFINITION.pattern)
 COUNT = Number(least=0, whole=True)
 SECONDS = Number()
 COST = Nullable(COUNT)
-COSTS = ("run", "undo", "skip", "keep")
 MAYBE = Nullable(Text())
 
 

@@ -6,13 +6,13 @@ import dataclasses
 from collections.abc import Iterator
 from typing import Any, Union
 
+from sagas.definition.declared import COSTS
 from sagas.definition.layout import Scope, Spot
 from sagas.definition.parts import Inclusion
 from sagas.definition.saga import Saga
 from sagas.definition.shape_validation import need_name
 from sagas.definition.step import NEVER, Step
 
-COSTS = ("run", "undo", "skip", "keep")
 COMPUTED = "input"
 """In place of a cost that comes from the input."""
 Told = Union[int, str, None]

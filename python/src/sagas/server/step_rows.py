@@ -22,7 +22,7 @@ class StepRow:
 
     Attributes:
         title: The step's name; of a group its name and how many it has.
-        told: The state.
+        told: The state that is shown.
         needs: The names of the steps and groups that it needs.
         attempts: How often the action began.
         step: The step; None of a group.
@@ -117,7 +117,7 @@ class StepTable:
         return min(urgency(self._tolds[step]) for step in part.steps)
 
     def _add(self, part: Part, depth: int, shown: list[StepRow], more: list[StepRow]) -> None:
-        """Adds the rows of a part; items behind the first ones are among the others."""
+        """Add the rows of a part. The items after the first ones are among the others."""
         if isinstance(part, Block):
             of = part.group
             shown.append(self._group(of, depth) if of else self._step(part.steps[0], depth))
@@ -173,7 +173,3 @@ def errors(steps: Sequence[StepView]) -> str:
 
 def _is_bad(step: StepView) -> bool:
     return step.state in ("failed", "undo_failed")
-
-
-Titles = Mapping[str, str]
-"""By the names of the steps that are folded, the titles of their groups."""

@@ -1,14 +1,15 @@
-"""The record of a program: what it heard of a store's commits, and what it acknowledged.
+"""The record of a program: the answers to its commits, and what it acknowledged.
 
-Each line is one event, and is written before the program acts on it. `sagas store URL record`
-merges records with what the database has (`core.fleet_record`). `core.record_lines` has the lines.
+Each line is one event. An acknowledgement is written before the program makes it, behind all that
+the program heard before. `sagas store URL record` merges records with what the database has
+(`core.fleet_record`). `core.record_lines` has the lines.
 """
 
 from __future__ import annotations
 
 import os
-from collections.abc import Container, Iterable, Mapping, Sequence
-from typing import Any
+from collections.abc import Container, Sequence
+from typing import Any, Protocol
 from zlib import crc32
 
 from sagas.base.errors import InvalidStore
@@ -16,10 +17,15 @@ from sagas.base.logger import logger
 
 VARIABLE = "SAGAS_RECORD"
 """The environment variable that names the file for stores that are given none."""
-MOST = 64
-"""Lines that wait to be written, at most."""
+MOST = 32
+"""Texts that wait to be written, at most. Each has one line or two."""
 BEYOND = 999_999_999
-"""More events than a shard ever has: what an acknowledgement rests on whose cause nobody knows."""
+"""More events than a shard ever has: what an acknowledgement of unknown cause rests on."""
+WRITTEN_IN_PART = "it was written in part"
+DIGESTS = BEYOND - 1
+"""How many numbers name a digest."""
+EDGES = "call", "wake", "reply", "read"
+"""Where something is acknowledged that rests on a number of events."""
 Line = tuple[int, int, str]
 """Shard, epoch and timeline."""
 
@@ -31,28 +37,58 @@ class Session:
     Attributes:
         epoch: The epoch.
         timeline: The timeline of the server.
-        words: What stands in each line behind its first word.
-        digest: Of the whole event log, as it was heard.
-        told: How many events the last acknowledgement of each edge rests on.
+        present: The epoch, while it is the last one of its shard and that server is the present
+            one; else -1.
+        words: What each line has after its first word.
+        sends: A `sent` line, to be formatted with its numbers.
+        hears: The same of a `heard` line.
+        tells: The same of a `told` line, by its edge.
+        wholes: The same of a `sent`, a `heard` and a `told` line, by the edge.
+        digest: Of the whole event log, by the last answer.
+        told: How many events the last acknowledgement at each edge rests on.
         most: The most of them.
     """
 
-    __slots__ = ("epoch", "timeline", "words", "digest", "told", "most")
+    __slots__ = (
+        "epoch", "timeline", "present", "words", "sends", "hears", "tells", "wholes", "digest",
+        "told", "most",
+    )  # fmt: skip
 
     def __init__(self, run: str, line: Line, digest: int) -> None:
         shard, self.epoch, self.timeline = line
-        self.words = f" {run} {shard} {self.epoch} {self.timeline} "
+        self.present = -1
+        self.words = f" {run} {shard} {self.epoch} {self.timeline} ".encode()
+        words = self.words.replace(b"%", b"%%")
+        self.sends, self.hears = b"sent%b%%d %%d\n" % words, b"heard%b%%d\n" % words
+        self.tells = {edge: b"told%b%%d %b\n" % (words, edge.encode()) for edge in EDGES}
+        self.wholes = {edge: self.sends + self.hears + self.tells[edge] for edge in EDGES}
         self.digest = digest
-        self.told: dict[str, int] = {}
+        self.told = dict.fromkeys(EDGES, -1)
         self.most = -1
 
 
 Rest = tuple[Session, int]
-"""What an acknowledgement rests on: so many events of a shard."""
+"""What an acknowledgement rests on: a session of a shard, and a number of its events."""
+Heard = tuple[Session, int, int, int]
+"""A chunk that the server has: its session, how many events were before it, the number of the
+digest after it, and how many events there are.
+"""
+
+
+class Commit(Protocol):
+    """What is written at once.
+
+    Attributes:
+        parts: Its rows. Those of `lines` are chunks of event logs, and those of `born` new shards.
+        events: How many events each shard has after it.
+    """
+
+    parts: dict[str, Sequence[Any]]
+    events: dict[int, int]
 
 
 def told_path(told: str | None) -> str | None:
-    """The file that a program is told of; else the one of the environment, if it names one."""
+    """Return the given file; else the one that the environment names, if any."""
     return told or os.environ.get(VARIABLE) or None
 
 
@@ -64,19 +100,29 @@ class RecordFile:
     machine may share a file: each line names its program. If a write fails, that is logged once,
     and nothing more is recorded; no saga is held up.
 
+    Most acknowledgements follow an answer. So lines are made of a chunk when the next thing is
+    noted, and of both at once. That takes fewer instructions.
+
     Attributes:
         path: Where it is.
         run: The word that names this run of the program.
-        timeline: The one of the server, as far as the program knows.
+        timeline: The one of the server, as far as the program knows. Only `moved` sets it.
+        commit: The commit that is sent, and has no answer yet. It is set before that is sent, and
+            then `heard`, `failed` or `unanswered` is called.
+        sessions: The last one of each shard that has begun. Only this class changes it.
     """
 
     def __init__(self, path: str, run: str) -> None:
         self.path, self.run, self.timeline = path, run, ""
-        self._file: int | None = None
-        self._waiting: list[str] = []  # noted, and not written
-        self._sessions: dict[int, Session] = {}  # the last one of each shard that has begun
-        self._others: dict[Line, Session] = {}  # those that have not
-        self._sent: list[tuple[int, Session, int]] = []  # shards, with the digest behind it
+        self.sessions: dict[int, Session] = {}
+        self._file = -1
+        self._others: dict[Line, Session] = {}  # sessions that have not begun
+        self._waiting: list[bytes] = []  # lines that are not written
+        # what follows these lines: the last chunk with an answer, and then the commit that has none
+        self._heard: Heard | None = None
+        self.commit: Commit | None = None
+        # of a commit that has lines, and no answer: shards, and the digest after it
+        self._sent: list[tuple[int, Session, int]] = []
 
     @classmethod
     def of(cls, path: str | None, node: str) -> RecordFile | None:
@@ -96,52 +142,55 @@ class RecordFile:
                 f"the record {self.path!r} cannot be written: {error.strerror}. Name a file in a "
                 "folder that exists and that this program may write to"
             ) from error
-        self._waiting = [f"sagas-record 1 {self.run}\n"]
+        self._waiting = [f"sagas-record 1 {self.run}\n".encode()]
         self._write()
 
     def close(self) -> None:
         """Write what was noted, and close it."""
+        self._settle()
         self._write()
         self._end()
 
     def _end(self) -> None:
-        file, self._file = self._file, None
-        if file is not None:
+        file, self._file = self._file, -1
+        if file >= 0:
             os.close(file)
 
-    def _write(self, line: str = "") -> None:
-        """Write what waits, and a line behind it."""
-        waiting = self._waiting
-        data = ("".join(waiting) + line).encode()
-        waiting.clear()
-        if self._file is None or not data:
-            return
+    def _write(self) -> None:
+        """Write the lines that wait."""
+        data = b"".join(self._waiting)
+        self._waiting.clear()
         try:
-            if os.write(self._file, data) < len(data):
-                raise OSError(None, "it was written in part")
+            if data and os.write(self._file, data) < len(data):
+                raise OSError(None, WRITTEN_IN_PART)
         except OSError as error:
-            logger.error("the record %s ends here: %s", self.path, error.strerror)
-            self._end()
+            self._failed(error)
 
-    # -- what was heard
+    def _failed(self, error: OSError) -> None:
+        if self._file >= 0:  # it has not ended before
+            logger.error("the record %s ends here: %s", self.path, error.strerror)
+        self._end()
+
+    # -- sessions
+
+    def moved(self, timeline: str) -> None:
+        """The server is one of this timeline."""
+        self._settle()
+        self.timeline = timeline
+        for session in self.sessions.values():
+            session.present = session.epoch if session.timeline == timeline else -1
 
     def session(self, shard: int, epoch: int) -> Session:
-        """Return the session of a shard under that epoch and with the server that is there now. It
-        may be one that has not begun.
+        """Return the session of a shard under an epoch, with the present server. It may be one that
+        has not begun.
         """
-        found = self._sessions.get(shard)
-        if found is not None and found.epoch == epoch and found.timeline == self.timeline:
-            return found
-        return self._other((shard, epoch, self.timeline))
+        return self._of((shard, epoch, self.timeline))
 
     def _of(self, line: Line) -> Session:
-        found = self._sessions.get(line[0])
+        found = self.sessions.get(line[0])
         if found is not None and (found.epoch, found.timeline) == line[1:]:
             return found
-        return self._other(line)
-
-    def _other(self, line: Line) -> Session:
-        found, other = self._sessions.get(line[0]), self._others.get(line)
+        other = self._others.get(line)
         if other is None:
             digest = 0 if found is None else found.digest
             other = self._others[line] = Session(self.run, line, digest)
@@ -150,96 +199,163 @@ class RecordFile:
     def _begin(self, line: Line, digest: int) -> Session:
         session = self._others.pop(line, None) or Session(self.run, line, digest)
         session.digest = digest
-        self._sessions[line[0]] = session
+        session.present = session.epoch if session.timeline == self.timeline else -1
+        self.sessions[line[0]] = session
         return session
 
+    # -- what was heard
+
     def took(self, line: Line, events: int, text: str) -> None:
-        """A shard was taken up: so many events were read."""
+        """A shard was taken up, and this number of events was read."""
+        self._settle()
         digest = crc32(text.encode())
         told = number(digest) if events else 0
-        self._waiting.append(f"took{self._begin(line, digest).words}{events} {told}\n")
+        words = self._begin(line, digest).words
+        self._put(b"took%b%d %d\n" % (words, events, told))
 
     def read(self, line: Line, events: int, text: str) -> None:
-        """A shard was read again under the epoch that it has, or for the first time. An answer
-        that comes late, when the shard was taken over again, is no takeover.
+        """A shard was read again under the epoch that it has, or for the first time. A late answer,
+        after the shard was taken over again, is not a takeover.
         """
         shard, epoch, timeline = line
-        known = self._sessions.get(shard)
+        known = self.sessions.get(shard)
         if known is not None and known.timeline == timeline and known.epoch >= epoch:
             self.told((self._of(line), events), "read")
         else:
             self.took(line, events, text)
 
-    def sent(self, rows: Iterable[Sequence[Any]], born: Iterable[Sequence[Any]]) -> None:
-        """A commit is about to be sent, with these rows of the event log and of new shards."""
-        for shard, *_ in born:
-            if self._sessions.get(shard) is not self.session(shard, 1):
-                words = self._begin((shard, 1, self.timeline), 0).words
-                self._waiting.append(f"took{words}0 0\n")
-        sent: list[tuple[int, Session, int]] = []
-        self._sent = sent
-        timeline = self.timeline
-        for shard, first, _, text, epoch in rows:
-            session = self._sessions.get(shard)
-            if session is None or session.epoch != epoch or session.timeline != timeline:
-                session = self._other((shard, epoch, timeline))
+    def heard(self, commit: Commit, mine: Container[int]) -> None:
+        """The server answered the commit that was sent: these shards are this node's."""
+        if self.commit is not commit:
+            self._answer(commit, mine)
+            return
+        self.commit = None
+        parts = commit.parts
+        if "born" in parts:
+            self._births(commit)
+        if "lines" not in parts:
+            return
+        for shard, first, _, text, epoch in parts["lines"]:
+            if self._heard is not None:
+                self._put_heard()
+            session = self.sessions.get(shard)
+            if session is None or session.present != epoch:
+                session = self.session(shard, epoch)
             digest = crc32(text.encode(), session.digest)
-            sent.append((shard, session, digest))
-            told = digest % (BEYOND - 1) + 1  # as `number`
-            self._waiting.append(f"sent{session.words}{first} {told}\n")
-
-    def heard(self, events: Mapping[int, int], mine: Container[int]) -> None:
-        """The server answered the commit: which shards are this node's, and how many events each
-        has.
-        """
-        waiting = self._waiting
-        for shard, session, digest in self._sent:
             if shard in mine:
                 session.digest = digest
-                waiting.append(f"heard{session.words}{events[shard]}\n")
+                told = digest % DIGESTS + 1  # as `number`
+                self._heard = session, first, told, commit.events[shard]
             else:
-                waiting.append(f"stale{session.words[:-1]}\n")
-        if len(waiting) > MOST:
-            self._write()
+                self._put(session.sends % (first, number(digest)))
+                self._put(b"stale%b\n" % session.words[:-1])
+
+    def unanswered(self) -> None:
+        """No answer to the commit that was sent will come."""
+        self._settle()
 
     def failed(self) -> None:
         """The server answered that it wrote nothing of the commit, which is sent again in parts."""
+        self._settle()
         for _, session, _ in self._sent:
-            self._waiting.append(f"failed{session.words[:-1]}\n")
+            self._put(b"failed%b\n" % session.words[:-1])
+
+    def _answer(self, commit: Commit, mine: Container[int]) -> None:
+        """The server answered a commit that has lines."""
+        for shard, session, digest in self._sent:
+            if shard in mine:
+                session.digest = digest
+                self._put(session.hears % commit.events[shard])
+            else:
+                self._put(b"stale%b\n" % session.words[:-1])
+
+    # -- from there to lines
+
+    def _settle(self) -> None:
+        """Make lines of what was heard and sent, before anything else is noted."""
+        if self._heard is not None:
+            self._put_heard()
+        commit, self.commit = self.commit, None
+        if commit is not None:
+            if "born" in commit.parts:
+                self._births(commit)
+            self._sent = []
+            for shard, first, _, text, epoch in commit.parts.get("lines", ()):
+                session = self.session(shard, epoch)
+                digest = crc32(text.encode(), session.digest)
+                self._sent.append((shard, session, digest))
+                self._put(session.sends % (first, number(digest)))
+
+    def _put_heard(self) -> None:
+        assert self._heard
+        session, first, told, events = self._heard
+        self._heard = None
+        self._put((session.sends + session.hears) % (first, told, events))
+
+    def _births(self, commit: Commit) -> None:
+        """Note the new shards of a commit."""
+        if self._heard is not None:
+            self._put_heard()
+        for shard, *_ in commit.parts["born"]:
+            if self.sessions.get(shard) is not self.session(shard, 1):
+                session = self._begin((shard, 1, self.timeline), 0)
+                self._put(b"took%b0 0\n" % session.words)
+
+    def _put(self, line: bytes) -> None:
+        self._waiting.append(line)
+        if len(self._waiting) > MOST:
+            self._write()
 
     # -- what was acknowledged
 
     def told(self, rest: Rest, edge: str) -> None:
-        """Something is about to be acknowledged that rests on so many events. What rests on no
-        more than the last one at the same edge is not noted again; and what rests on no more than
-        the last one at another edge can wait to be written, since the record has as much.
+        """Something is about to be acknowledged that rests on a number of events. It is noted if it
+        rests on more than the last one at the same edge. It is written at once if it rests on more
+        than the last one at any edge; else it can wait, since the record has as much.
         """
         session, events = rest
-        told = session.told
-        if edge in told and told[edge] >= events:
+        if session.most >= events:
+            if session.told[edge] < events:
+                session.told[edge] = events
+                if self._heard is not None or self.commit is not None:
+                    self._settle()
+                self._waiting.append(session.tells[edge] % events)
             return
-        told[edge] = events
-        line = f"told{session.words}{events} {edge}\n"
-        if session.most < events:
-            session.most = events
-            self._write(line)
+        session.most = session.told[edge] = events
+        heard = self._heard
+        if heard is not None and heard[0] is session and heard[3] >= events:
+            self._heard = None
+            line = session.wholes[edge] % (heard[1], heard[2], heard[3], events)
         else:
+            if heard is not None or self.commit is not None:
+                self._settle()
+            line = session.tells[edge] % events
+        if self._waiting:
             self._waiting.append(line)
+            line = b"".join(self._waiting)
+            self._waiting.clear()
+        try:
+            if os.write(self._file, line) < len(line):
+                raise OSError(None, WRITTEN_IN_PART)
+        except OSError as error:
+            self._failed(error)
 
     def seen(self, saga: int, edge: str) -> None:
         """It is about to be acknowledged that a saga has ended, as the database says."""
-        self._waiting.append(f"seen {self.run} {saga} {edge}\n")
+        self._settle()
+        self._waiting.append(f"seen {self.run} {saga} {edge}\n".encode())
         self._write()
 
     def closed(self, line: Line) -> None:
         """A shard is closed, and nothing more is written of it."""
-        self._waiting.append(f"closed{self._of(line).words[:-1]}\n")
+        self._settle()
+        self._put(b"closed%b\n" % self._of(line).words[:-1])
         shard = line[0]
-        self._sessions.pop(shard, None)
+        self.sessions.pop(shard, None)
         for other in [other for other in self._others if other[0] == shard]:
             del self._others[other]
 
 
 def number(digest: int) -> int:
     """The number by which a record names a digest: not 0, and of nine digits at most."""
-    return digest % (BEYOND - 1) + 1
+    return digest % DIGESTS + 1

@@ -132,6 +132,13 @@ PLAIN: dict[str, Callable[[int, Rare], Iterable[Any]]] = {
 class Commit:
     """All that a list of batches writes, with what becomes of a row that more than one of them
     touches.
+
+    Attributes:
+        batches: The batches.
+        epochs: The epoch of each log.
+        events: How many events each log has after it that gains some.
+        parts: The rows of each part that has any.
+        rare: What most batches have nothing of, with the log.
     """
 
     def __init__(self, batches: Sequence[Batch], events: Callable[[int], int]) -> None:
@@ -139,7 +146,7 @@ class Commit:
         self.epochs = {batch.log: batch.epoch for batch in batches if batch.log >= 0}
         self.events: dict[int, int] = {}
         self._before = events
-        self._rows: dict[str, Sequence[Any]] = {}
+        self.parts: dict[str, Sequence[Any]] = {}
         self.rare: list[tuple[int, Rare]] = []
         if len(batches) == 1:
             self._put_one(batches[0])
@@ -153,10 +160,10 @@ class Commit:
 
     def rows(self, part: str) -> Sequence[Sequence[Any]]:
         """The rows of a part."""
-        return self._rows.get(part, ())
+        return self.parts.get(part, ())
 
     def _put_one(self, batch: Batch) -> None:
-        rows = self._rows
+        rows = self.parts
         if batch.text:
             rows["lines"] = [(batch.log, self._lines(batch), batch.at, batch.text, batch.epoch)]
         if batch.opened:
@@ -186,7 +193,7 @@ class Commit:
             "results": [row for batch in batches for row in batch.results],
             "guessed": [(batch.log, key) for batch in batches for key in batch.guessed],
         }
-        self._rows.update((part, found) for part, found in rows.items() if found)
+        self.parts.update((part, found) for part, found in rows.items() if found)
         self._put_opened([row for batch in batches for row in batch.opened])
         self._put_ended([row for batch in batches for row in batch.ended])
         self.rare += [(batch.log, batch.rare) for batch in batches if batch.rare]
@@ -196,18 +203,18 @@ class Commit:
     def _put_opened(self, rows: Sequence[Opened]) -> None:
         for row in rows:
             if row[6] is not None or row[7] is not None:
-                self._rows["opened_with"] = rows
+                self.parts["opened_with"] = rows
                 return
         if rows:
-            self._rows["opened"] = [row[:6] for row in rows]
+            self.parts["opened"] = [row[:6] for row in rows]
 
     def _put_ended(self, rows: Sequence[Ended]) -> None:
         for row in rows:
             if row[2] or row[3]:
-                self._rows["ended_with"] = rows
+                self.parts["ended_with"] = rows
                 return
         if rows:
-            self._rows["ended"] = [(*row[:2], *row[4:]) for row in rows]
+            self.parts["ended"] = [(*row[:2], *row[4:]) for row in rows]
 
     def _lines(self, batch: Batch) -> int:
         """How many events its log has before it."""
@@ -235,9 +242,9 @@ class Commit:
                 }
         rows = [row for of in held.values() for row in of.values()]
         if rows:
-            self._rows["held"] = rows
+            self.parts["held"] = rows
         if freed:
-            self._rows["freed"] = [(*at, attempt) for at, attempt in freed.items()]
+            self.parts["freed"] = [(*at, attempt) for at, attempt in freed.items()]
 
     def _others(self) -> None:
         """What most commits have nothing of."""
@@ -257,7 +264,7 @@ class Commit:
 
     def _put(self, part: str, rows: Sequence[Any]) -> None:
         if rows:
-            self._rows[part] = rows
+            self.parts[part] = rows
 
     def _definitions(self) -> None:
         born = {batch.log: batch.born for batch in self.batches if batch.born}
@@ -286,7 +293,7 @@ class Commit:
 
     def words(self, node: bytes) -> tuple[str, list[bytes | None]]:
         """The statement and its words."""
-        parts, alone = tuple(sorted(self._rows)), len(self.epochs) == 1
+        parts, alone = tuple(sorted(self.parts)), len(self.epochs) == 1
         if alone:
             ((log, epoch),) = self.epochs.items()
             mine = [node, b"%d" % log, b"%d" % epoch]
@@ -298,16 +305,16 @@ class Commit:
                     for numbers in (self.epochs, self.epochs.values())
                 ),
             ]
-        if parts and max(map(len, self._rows.values())) == 1 and (words := self._cells(parts)):
+        if parts and max(map(len, self.parts.values())) == 1 and (words := self._cells(parts)):
             return statement(parts, WORDS, alone), [words[0], *mine, *words[1:]]
-        rows = dumps(self._rows).encode()
+        rows = dumps(self.parts).encode()
         return statement(parts, "jsonb" if len(rows) < MOST else "json", alone), [rows, *mine]
 
     def _cells(self, parts: Iterable[str]) -> list[bytes | None] | None:
         """The cells of one row of each part. None where one would be cut, at a zero, or there is
         too much of them: the other form has that refused, or takes it.
         """
-        cells = [*itertools.chain.from_iterable([self._rows[part][0] for part in parts])]
+        cells = [*itertools.chain.from_iterable([self.parts[part][0] for part in parts])]
         told = "\0".join(map(str, cells)).encode()
         words: list[bytes | None] = [*told.split(b"\0")]
         if len(words) != len(cells) or len(told) >= MOST:

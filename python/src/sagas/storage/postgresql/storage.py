@@ -121,7 +121,7 @@ class PostgreSQL(queries.Questions):
         await self._questions.open()
         self._line = await self.lease.begin()
         if self.record:
-            self.record.timeline = self._line
+            self.record.moved(self._line)
         rows: list[LogRow] = []
         while taken := await self.lease.take(drives, [row.log for row in rows]):
             rows += taken
@@ -248,7 +248,7 @@ class PostgreSQL(queries.Questions):
         logger.warning("%s: another server has taken over. Opening its shards again", self.path)
         self._line = line
         if self.record:
-            self.record.timeline = line
+            self.record.moved(line)
         self._writer.events.clear()  # so that what was decided before is not written
         self._keys.cut()
         self._let_go()

@@ -133,8 +133,8 @@ class Writer:
         except Exception as error:  # told to the coordinator, which begins again from the database
             asyncio.get_running_loop().call_soon(came, NONE, error)
         else:
-            if self.record:
-                self.record.sent(commit.rows("lines"), commit.rows("born"))
+            if self.record is not None:
+                self.record.commit = commit
             began = time.monotonic()
             wire.ask(text, words, lambda rows, fault: came(*self._read(commit, rows, fault, began)))
 
@@ -145,12 +145,14 @@ class Writer:
         if fault is not None:
             if not isinstance(fault, OF_ONE):
                 self.cut()
+                if self.record:
+                    self.record.unanswered()
             elif self.record:
                 self.record.failed()
             return NONE, fault
         mine = {int(log) for (log,) in rows if log is not None}
-        if self.record:
-            self.record.heard(commit.events, mine)
+        if self.record is not None:
+            self.record.heard(commit, mine)
             if commit.rare:
                 self._note_closed(self.record, commit, mine)
         self.commits += 1

@@ -1,7 +1,8 @@
-//! Books that are called at random, against a plain search of what may happen next and the plain follower; and a history of four
-//! sagas that is changed in each event, judged by the auditor and by the follower.
+//! Tests of books. Random calls on books are compared with a simple search for the next task and with the simple
+//! follower. A history of four sagas is changed at each event, and audited by the auditor and by the follower.
 ghost use Rattle.std.specs.Prelude.{◌<◌};
 
+use anyhow::{Context, Result, ensure};
 use saga_audit::{AuditAnswer, audit, audit_with};
 use saga_case::StepState;
 use saga_check::verify;
@@ -12,10 +13,9 @@ use saga_log::read_log;
 use saga_plan::plan;
 use saga_text::read_definition;
 use std::alloc::{AllocError, Global};
-use std::test::Fail;
 use std::thread::Threads;
 
-/// Six steps that cost nothing, with needs between them, each tried twice.
+/// Six steps with costs 0 and with needs between them. Each has two tries.
 const WEB: &str = "format = 2
 name = \"web\"
 step = [
@@ -68,7 +68,7 @@ const FOUR: &str = r#"{"format":2}
 {"event":"drop_plan","saga":3}
 "#;
 
-/// A shelf of the definitions of these texts.
+/// A shelf with the definitions in these texts.
 fn shelf_of(alloc: Global, texts: &[&str]) -> Result<Vec<Definition>, AllocError> {
     let mut shelf = Vec::new(alloc);
     for text in texts {
@@ -121,7 +121,7 @@ fn first_going(book: &Book, definition: &Definition, saga: u32) -> Option<Task> 
     None
 }
 
-/// The first task of a book whose sagas are numbered 0, 1 and so on, by a search over its sagas and their steps.
+/// The first task of a book whose sagas are numbered from 0, found by a search over its sagas and their steps.
 fn first_by_search(book: &Book) -> Option<Task> {
     for saga in 0..1000 {
         let task = match (book.phase(saga), book.definition(saga)) {
@@ -139,7 +139,7 @@ fn first_by_search(book: &Book) -> Option<Task> {
     None
 }
 
-/// Numbers that look drawn (Knuth's linear congruential generator).
+/// Pseudorandom numbers (Knuth's linear congruential generator).
 #[derive(Drop)]
 struct Draws {
     state: u64,
@@ -158,7 +158,7 @@ impl Draws {
     }
 }
 
-/// Begins a plan, and drops it or adopts an answer. Gives whether that went well.
+/// Starts a plan, and drops it or adopts an answer. Returns whether that succeeded.
 fn plan_at(alloc: Global, book: &mut Book, saga: u32, drops: bool) -> bool {
     let Ok(case) = book.take_plan(saga) else {
         return false;
@@ -172,7 +172,7 @@ fn plan_at(alloc: Global, book: &mut Book, saga: u32, drops: bool) -> bool {
     }
 }
 
-/// Makes one call. Gives whether it went as it must.
+/// Makes one random call. Returns whether its result is as required.
 fn call_at_random(alloc: Global, book: &mut Book, draws: &mut Draws) -> bool {
     let saga = draws.next(4) as u32;
     if draws.next(40) == 0 {
@@ -199,8 +199,8 @@ fn call_at_random(alloc: Global, book: &mut Book, draws: &mut Draws) -> bool {
     }
 }
 
-/// The number of the first of many random calls that goes wrong, or after which `next` differs from the search; the number of
-/// calls where the history is not one by the follower.
+/// The number of the first of many random calls whose result is wrong, or after which `next` differs from the search.
+/// It is the number of calls if the follower does not accept the history.
 fn first_difference(
     alloc: Global,
     shelf: &[Definition],
@@ -221,24 +221,27 @@ fn first_difference(
     Ok(if first.is_some() { Some(150) } else { None })
 }
 
-#[test]
-fn random_runs(rt: HostRuntime) -> Result<(), Fail> {
-    let alloc = rt.alloc();
-    for text in [WEB, RETRY, TRIP] {
-        let shelf = shelf_of(alloc, [text].as_slice())?;
-        assert_eq!(rt; shelf.len(), 1);
-        for seed in 1..9 {
-            assert_eq!(rt;
-                first_difference(alloc, &shelf, seed)?,
-                None,
-                "seed {seed} of {text}"
-            );
-        }
+/// Makes random calls on books of a definition.
+fn random_calls_of(alloc: Global, text: &str) -> Result<()> {
+    let shelf = shelf_of(alloc, [text].as_slice())?;
+    ensure!(shelf.len() == 1, "not one definition");
+    for seed in 1..9 {
+        let first = first_difference(alloc, &shelf, seed)?;
+        ensure!(first.is_none(), "seed {seed}: call {first:?}");
     }
     Ok(())
 }
 
-/// A text of which the lines of a place and of the next one give way to some of them: 0 is the one, and 1 the other.
+/// Makes random calls on books of three definitions.
+pub fn random_calls(alloc: Global) -> Result<()> {
+    for text in [WEB, RETRY, TRIP] {
+        random_calls_of(alloc, text).context(format_args!("{text}"))?;
+    }
+    Ok(())
+}
+
+/// A text in which the line at an index and the next line are replaced by the chosen ones of these two: 0 is the first
+/// and 1 the second.
 fn changed(
     alloc: Global,
     text: &str,
@@ -265,9 +268,9 @@ fn changed(
     Ok(out)
 }
 
-/// Whether the auditor, alone and by several workers, names the event that the follower names, or none.
-fn agree(
-    rt: &(impl Threads + Sync),
+/// Whether the auditor, alone and with several workers, returns the same first event as the follower, or none.
+fn agree<R: Threads + Sync>(
+    rt: &R,
     alloc: Global,
     shelf: &[Definition],
     events: &[Event],
@@ -285,23 +288,47 @@ fn agree(
     })
 }
 
-/// Each event is left out, comes twice, or comes after the next one.
-#[test]
-fn each_event_changed(rt: HostRuntime) -> Result<(), Fail> {
-    let alloc = rt.alloc();
+/// What stands in place of an event and the next one: both, the next one alone, the event twice, or both in reverse.
+const EDITS: &[&[usize]] = &[&[0, 1], &[1], &[0, 0, 1], &[1, 0]];
+
+/// Whether the history with an edit of an event is a log, and its audits agree.
+fn edit_agrees<R: Threads + Sync>(
+    rt: &R,
+    alloc: Global,
+    shelf: &[Definition],
+    place: usize,
+    chosen: &[usize],
+) -> Result<bool, AllocError> {
+    let text = changed(alloc, FOUR, place, chosen)?;
+    match read_log(alloc, text.as_bytes()) {
+        Ok(events) => agree(rt, alloc, shelf, &events),
+        Err(_) => Ok(false),
+    }
+}
+
+/// Audits the history with each edit of an event.
+fn audit_edits<R: Threads + Sync>(
+    rt: &R,
+    alloc: Global,
+    shelf: &[Definition],
+    place: usize,
+) -> Result<()> {
+    for (number, chosen) in EDITS.iter().enumerate() {
+        let is_same = edit_agrees(rt, alloc, shelf, place, chosen)?;
+        ensure!(
+            is_same,
+            "the audits differ at edit {number} of event {place}"
+        );
+    }
+    Ok(())
+}
+
+/// Each event is left out, duplicated, or swapped with the next one.
+pub fn each_event_changed<R: Threads + Sync>(rt: &R, alloc: Global) -> Result<()> {
     let shelf = shelf_of(alloc, [TRIP, FORCED].as_slice())?;
-    assert_eq!(rt; shelf.len(), 2);
-    let edits: [&[usize]; 4] = [&[0, 1], &[1], &[0, 0, 1], &[1, 0]];
+    ensure!(shelf.len() == 2, "not two definitions");
     for place in 1..21 {
-        for chosen in edits {
-            let text = changed(alloc, FOUR, place, chosen)?;
-            match read_log(alloc, text.as_bytes()) {
-                Ok(events) => {
-                    assert!(rt; agree(&rt, alloc, &shelf, &events)?, "at {place}: {text}");
-                }
-                Err(_) => assert!(rt; false, "a log: {text}"),
-            }
-        }
+        audit_edits(rt, alloc, &shelf, place)?;
     }
     Ok(())
 }

@@ -1,7 +1,8 @@
 //! Readers that never end, are interrupted, or fail.
+use anyhow::{Result, bail, ensure};
 use saga_bytes::{read_once, read_up_to};
+use std::alloc::Global;
 use std::io::{self, ErrorKind, Read};
-use std::test::Fail;
 
 /// A reader that never ends.
 #[derive(Drop)]
@@ -14,16 +15,19 @@ impl Read for Endless {
     }
 }
 
-#[test]
-fn an_endless_reader_gives_one_more(rt: HostRuntime) -> Result<(), Fail> {
-    for limit in [0, 1, 8_191, 8_192, 100_000] {
-        let bytes = read_up_to(rt.alloc(), &mut Endless, limit)?;
-        assert_eq!(rt; bytes.len(), limit + 1);
+/// An endless reader gives one byte more than the limit.
+pub fn gives_one_more(alloc: Global) -> Result<()> {
+    for limit in [0usize, 1, 8_191, 8_192, 100_000] {
+        let count = read_up_to(alloc, &mut Endless, limit)?.len();
+        ensure!(
+            count == limit.saturating_add(1),
+            "{count} bytes at the limit {limit}"
+        );
     }
     Ok(())
 }
 
-/// A reader that is interrupted before each byte, and fails after so many.
+/// A reader that is interrupted before each byte, and fails after a number of bytes.
 #[derive(Drop)]
 struct Failing {
     left: usize,
@@ -49,19 +53,20 @@ impl Read for Failing {
     }
 }
 
-#[test]
-fn an_error_ends_the_reading(rt: HostRuntime) -> Result<(), Fail> {
+/// An interruption is passed over, and an error ends the reading.
+pub fn ends_at_an_error(alloc: Global) -> Result<()> {
     let mut reader = Failing {
         left: 6,
         is_ready: false,
     };
-    let bytes = read_up_to(rt.alloc(), &mut reader, 2)?;
-    assert!(rt; bytes.as_slice() == b"xxx".as_slice());
+    let is_read = read_up_to(alloc, &mut reader, 2)?.as_slice() == b"xxx".as_slice();
+    ensure!(is_read, "other bytes");
     let mut buffer = [0; 4];
-    assert_eq!(rt; read_once(&mut reader, &mut buffer)?, 1);
-    match read_up_to(rt.alloc(), &mut reader, 2) {
-        Ok(_) => assert!(rt; false, "an error is passed over"),
-        Err(error) => assert!(rt; error.kind() == ErrorKind::PermissionDenied),
-    }
+    let count = read_once(&mut reader, &mut buffer)?;
+    ensure!(count == 1, "{count} bytes are read at once");
+    let Err(error) = read_up_to(alloc, &mut reader, 2) else {
+        bail!("an error is passed over");
+    };
+    ensure!(error.kind() == ErrorKind::PermissionDenied, "another error");
     Ok(())
 }

@@ -1,0 +1,293 @@
+"""What the record of a program has of its commits and acknowledgements, without a database."""
+
+from __future__ import annotations
+
+import dataclasses
+import json
+import pathlib
+import random
+from collections.abc import Iterator, Sequence
+from typing import Any
+from zlib import crc32
+
+import pytest
+
+import sagas
+from sagas.core import recovery
+from sagas.core.batch import Loaded
+from sagas.core.effects import Effects
+from sagas.core.model import Attempt, SagaInstance
+from sagas.core.shard import ShardDriver, ShardIdentity
+from sagas.core.shard_definitions import ShardDefinitions
+from sagas.core.states import ShardState
+from sagas.definition.shelf import Shelf
+from sagas.runtime.acknowledgements import Acknowledgements
+from sagas.storage.record_file import BEYOND, RecordFile, number
+
+SHARD, LINE = 7, "00000001"
+EDGES = "call", "wake", "reply"
+REPLIES = (
+    '{"event":{"def":0,"event":"open","saga":0}}',
+    '{"tasks":[{"attempt":1,"name":"a","saga":0,"step":0,"task":"run"}]}',
+)
+
+
+@dataclasses.dataclass
+class Sent:
+    """A commit."""
+
+    parts: dict[str, Sequence[Any]]
+    events: dict[int, int]
+
+
+def commit(first: int, text: str = "a\nb\n", shard: int = SHARD, epoch: int = 1) -> Sent:
+    """A commit of one chunk."""
+    rows = [(shard, first, 0.0, text, epoch)]
+    return Sent({"lines": rows}, {shard: first + text.count("\n")})
+
+
+@pytest.fixture
+def record(tmp_path: pathlib.Path) -> Iterator[RecordFile]:
+    """A record in which a shard without events was taken up."""
+    found = RecordFile(str(tmp_path / "record"), "run")
+    found.open()
+    found.moved(LINE)
+    found.took((SHARD, 1, LINE), 0, "")
+    yield found
+    found.close()
+
+
+def noted(record: RecordFile) -> list[str]:
+    """The lines of a record that is closed, without what names the session."""
+    record.close()
+    return written(record)
+
+
+def written(record: RecordFile) -> list[str]:
+    """The lines that are in the file."""
+    words = [line.split(" ") for line in pathlib.Path(record.path).read_text().splitlines()]
+    return [" ".join([one[0], *one[5:]]) for one in words if one[0] != "sagas-record"]
+
+
+def digest(text: str) -> int:
+    return number(crc32(text.encode()))
+
+
+FIRST = f"sent 0 {digest('a' + chr(10) + 'b' + chr(10))}"
+SECOND = f"sent 2 {digest(('a' + chr(10) + 'b' + chr(10)) * 2)}"
+
+
+def test_what_follows_an_answer_is_written_with_it(record: RecordFile) -> None:
+    """An acknowledgement that rests on no more than another one can wait."""
+    session, one = record.session(SHARD, 1), commit(0)
+    record.commit = one
+    assert written(record) == []
+    record.heard(one, {SHARD})
+    record.told((session, 2), "wake")
+    expected = ["took 0 0", FIRST, "heard 2", "told 2 wake"]
+    assert written(record) == expected
+    record.told((session, 2), "call")
+    record.told((session, 1), "call")
+    record.told((session, 2), "wake")
+    assert written(record) == expected and noted(record) == [*expected, "told 2 call"]
+
+
+def test_an_acknowledgement_of_an_older_chunk_while_another_is_sent(record: RecordFile) -> None:
+    """It is written at once. The chunk that is sent follows, with its answer."""
+    session, one, two = record.session(SHARD, 1), commit(0), commit(2)
+    record.commit = one
+    record.heard(one, {SHARD})
+    record.commit = two
+    record.told((session, 2), "call")
+    assert written(record) == ["took 0 0", FIRST, "heard 2", "told 2 call"]
+    record.heard(two, {SHARD})
+    assert noted(record)[4:] == [SECOND, "heard 4"]
+
+
+def test_what_is_acknowledged_too_early_is_behind_what_was_sent(record: RecordFile) -> None:
+    """And before the answer, if that comes at all."""
+    session, one, two = record.session(SHARD, 1), commit(0), commit(2)
+    record.commit = one
+    record.heard(one, {SHARD})
+    record.commit = two
+    record.told((session, 4), "call")
+    assert written(record) == ["took 0 0", FIRST, "heard 2", SECOND, "told 4 call"]
+    record.heard(two, {SHARD})
+    record.commit = commit(4, "c\n")
+    assert [line.split(" ")[0] for line in noted(record)[5:]] == ["heard", "sent"]
+
+
+def test_a_commit_without_an_answer(record: RecordFile) -> None:
+    """It is there, and what was heard of others too."""
+    session = record.session(SHARD, 1)
+    record.commit = commit(0)
+    record.unanswered()
+    record.commit = one = commit(0)
+    record.heard(one, ())
+    record.commit = commit(0)
+    record.failed()
+    assert noted(record) == ["took 0 0", FIRST, FIRST, "stale", FIRST, "failed"]
+    assert session.digest == 0
+
+
+def test_lines_are_in_order(tmp_path: pathlib.Path) -> None:
+    """As in a record that writes each at once; only an acknowledgement of what was heard may be
+    before a commit that was sent meanwhile. What is acknowledged is in the file.
+    """
+    for seed in range(300):
+        chance = random.Random(seed)
+        record = RecordFile(str(tmp_path / f"record-{seed}"), "run")
+        record.open()
+        record.moved(LINE)
+        expected: dict[int, list[str]] = {1: [], 2: []}
+        heads, texts, told = {1: 0, 2: 0}, {1: "", 2: ""}, dict[tuple[int, str], int]()
+        for shard, lines in expected.items():
+            record.took((shard, 1, LINE), 0, "")
+            lines.append("took 0 0")
+        under_way: Sent | None = None
+        for _ in range(60):
+            if chance.random() < 0.5:
+                shard, edge = chance.choice((1, 2)), chance.choice(EDGES)
+                early = chance.random() < 0.1
+                events = chance.randint(0, heads[shard]) + 5 * early
+                record.told((record.session(shard, 1), events), edge)
+                if told.get((shard, edge), -1) < events:
+                    is_most = events > max([told.get((shard, one), -1) for one in EDGES])
+                    told[shard, edge] = events
+                    expected[shard].append(f"told {events} {edge}")
+                    if is_most:
+                        has = pathlib.Path(record.path).read_text().splitlines()
+                        assert has[-1] == f"told run {shard} 1 {LINE} {events} {edge}"
+            elif under_way is None or chance.random() < 0.1:
+                if under_way is not None:
+                    record.unanswered()
+                shards = chance.choice(([1], [2], [1, 2], []))
+                rows = [(one, heads[one], 0.0, chance.choice("xyz") + "\n", 1) for one in shards]
+                under_way = Sent({"lines": rows} if rows else {}, {})
+                for one, first, _, text, _ in rows:
+                    under_way.events[one] = first + 1
+                    expected[one].append(f"sent {first} {digest(texts[one] + text)}")
+                record.commit = under_way
+            else:
+                rows, mine = list(under_way.parts.get("lines", ())), chance.choice(({1, 2}, {1}))
+                record.heard(under_way, mine)
+                for one, first, _, text, _ in rows:
+                    if one in mine:
+                        heads[one], texts[one] = first + 1, texts[one] + text
+                    expected[one].append(f"heard {first + 1}" if one in mine else "stale")
+                under_way = None
+        record.close()
+        for shard, lines in expected.items():
+            words = [one.split(" ") for one in pathlib.Path(record.path).read_text().splitlines()]
+            found = [" ".join([one[0], *one[5:]]) for one in words if one[2] == str(shard)]
+            assert settled(found) == settled(lines), f"seed {seed}, shard {shard}"
+
+
+def settled(lines: Sequence[str]) -> list[str]:
+    """The same, with each acknowledgement of what was heard before the commit that it is behind."""
+    found, heard = list[str](), 0
+    for line in lines:
+        what, *words = line.split(" ")
+        heard = int(words[0]) if what == "heard" else heard
+        place = len(found)
+        if what == "told" and int(words[0]) <= heard:
+            while found[place - 1].startswith(("sent", "told")) and _is_behind(found, place):
+                place -= 1
+        found.insert(place, line)
+    return found
+
+
+def _is_behind(found: Sequence[str], place: int) -> bool:
+    """Whether a commit is between that place and the last answer."""
+    for line in reversed(found[:place]):
+        if line.startswith("sent"):
+            return True
+        if not line.startswith("told"):
+            return False
+    return False
+
+
+# -- what acknowledgements rest on
+
+
+def shelf() -> Shelf:
+    saga = sagas.Saga("one")
+    saga.step(name="a")(lambda task: None)
+    return Shelf([saga])
+
+
+def begun(acknowledgements: Acknowledgements) -> tuple[ShardDriver, Attempt]:
+    """A shard with the first attempt of a saga, whose commit is done."""
+    kinds = shelf().kinds
+    shard = ShardDriver.created(ShardIdentity(SHARD, "name", ShardDefinitions(kinds)), LINE)
+    shard.to(ShardState.STARTING)
+    shard.to(ShardState.ACTIVE)
+    shard.open(SagaInstance("k", "{}", kinds[0], 0))
+    shard.requests(8)
+    effects = shard.replies(REPLIES, "line\n", 0.0)
+    assert isinstance(effects, Effects)
+    acknowledgements.decided(effects)
+    shard.writes(effects)
+    shard.committed(effects)
+    (attempt,) = effects.dispatch
+    return shard, attempt
+
+
+def recovered(shard: ShardDriver, busy: Sequence[tuple[int, str, int]]) -> recovery.Recovery:
+    """What comes of a recovery of a shard whose saga is open, with these attempts."""
+    shard.fail()
+    shard.to(ShardState.LOADING)
+    rows = [(SHARD * 1000, "k", 0, "{}", None, None, None)]
+    loaded = Loaded("line\n", 1, 1, rows, [], [], 2, LINE, 1)
+    shard.loaded(loaded)
+    known = {saga.key: saga for saga in shard.sagas.values()}
+    told = [{"saga": 0, "step": one, "task": word, "attempt": at} for one, word, at in busy]
+    return recovery.recover(loaded, [json.dumps({"busy": told})], 0.0, shard, known)
+
+
+def test_an_attempt_that_the_store_does_not_have_rests_on_nothing(record: RecordFile) -> None:
+    """Its saga may be the same one as before, and restored. If it were called all the same, the
+    record would not be allowed, even if an older session had heard of it.
+    """
+    acknowledgements = Acknowledgements(record)
+    shard, attempt = begun(acknowledgements)
+    acknowledgements.called(attempt)
+    acknowledgements.recovered(found := recovered(shard, [(0, "run", 1)]))
+    assert found.resumed == [attempt] and found.restored == [attempt.instance]
+    acknowledgements.called(attempt)
+    acknowledgements.recovered(found := recovered(shard, []))
+    assert found.forgotten == [attempt] and found.restored == [attempt.instance]
+    assert attempt.instance.rest and attempt.rest is None
+    acknowledgements.called(attempt)
+    assert [line for line in noted(record) if line.startswith("told")] == [
+        "told 1 call", "told 1 call", f"told {BEYOND} call",
+    ]  # fmt: skip
+
+
+def test_what_is_not_in_the_store_rests_on_nothing(record: RecordFile) -> None:
+    """No caller is told of it because of what was decided."""
+    acknowledgements = Acknowledgements(record)
+    shard, attempt = begun(acknowledgements)
+    saga = attempt.instance
+    effects = shard.effects(0.0)
+    effects.opened, effects.ended, effects.dispatch = [saga], [saga], [attempt]
+    acknowledgements.decided(effects)
+    acknowledgements.lost(effects)
+    acknowledgements.started(saga)
+    acknowledgements.ended(saga)
+    acknowledgements.replied(saga)
+    acknowledgements.started(SagaInstance("other", "{}", shelf().kinds[0], 0))
+    acknowledgements.ended(SagaInstance("other", "{}", shelf().kinds[0], 0))
+    assert noted(record) == ["took 0 0"]
+
+
+def test_a_saga_that_is_not_of_this_program_rests_on_nothing(record: RecordFile) -> None:
+    """Another node has it. If its function were called, the record would not be allowed."""
+    acknowledgements = Acknowledgements(record)
+    shard, attempt = begun(acknowledgements)
+    acknowledgements.over(shard.sagas.values())
+    acknowledgements.started(attempt.instance)
+    acknowledgements.ended(attempt.instance)
+    acknowledgements.reported(attempt)
+    acknowledgements.called(attempt)
+    assert noted(record) == ["took 0 0", f"told {BEYOND} call"]
