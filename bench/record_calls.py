@@ -35,7 +35,7 @@ from sagas.storage.record_file import Commit, RecordFile  # noqa: E402
 SLOWER = 40
 """How many times slower a program is that counts its instructions."""
 SHORT = 1.5
-"""Delays below so many seconds are that many times as long, so that commits are as large."""
+"""Delays below this number of seconds are `SLOWER` times as long, so that commits are as large."""
 Call = tuple[type, str, tuple[Any, ...]]
 
 

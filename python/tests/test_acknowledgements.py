@@ -281,7 +281,7 @@ def recovered(shard: ShardDriver, busy: Sequence[tuple[int, str, int]]) -> recov
 
 def test_an_attempt_that_the_store_does_not_have_rests_on_nothing(record: RecordFile) -> None:
     """Its saga may be the same one as before, and restored. If it were called all the same, the
-    record would not be allowed, even if an older session had heard of it.
+    record would not be allowed, even if an older session had its answer.
     """
     acknowledgements = Acknowledgements(record)
     shard, attempt = begun(acknowledgements)
@@ -299,7 +299,7 @@ def test_an_attempt_that_the_store_does_not_have_rests_on_nothing(record: Record
 
 
 def test_what_is_not_in_the_store_rests_on_nothing(record: RecordFile) -> None:
-    """No caller is told of it because of what was decided."""
+    """No acknowledgement of it rests on what was decided."""
     acknowledgements = Acknowledgements(record)
     shard, attempt = begun(acknowledgements)
     saga = attempt.instance

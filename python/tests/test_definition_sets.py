@@ -140,8 +140,9 @@ def test_a_start_beside_a_deletion(url: str) -> None:
     async def main() -> None:
         async with sagas.open(url, kinds) as store:
             for kind in kinds:
+                saga = await store.start(kind, key=kind.name)
                 with contextlib.suppress(sagas.NoSuchSaga):  # it was deleted before it was read
-                    assert (await ended(store, kind, kind.name)).ok
+                    assert (await saga.wait()).ok
 
     for turn in range(3):
         kinds = [simple(lambda task: 1)] if not turn else many(turn, 1)

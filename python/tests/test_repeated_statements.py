@@ -28,7 +28,7 @@ async def are_gone(asker: Asker) -> bool:
 
 
 async def opened(url: str) -> tuple[Asker, Kept]:
-    """A pool, with a connection beside it."""
+    """A pool, and a connection that is attached to it."""
     asker, kept = Asker(url, "here", 2), Kept(url, "here")
     asker.attach(kept)
     await asker.open()
@@ -101,7 +101,7 @@ def test_a_connection_that_the_server_ends(url: str) -> None:
 
 
 def test_words_of_statements(url: str) -> None:
-    """Any text comes back as it was."""
+    """Any text comes back unchanged."""
     texts = ["", "NULL", "a,b", "{}", '"', "\\", '\\\\"', "\n\t ", "\u00e9\U0001f600", "'"]
     assert numbered("%(b)s %(a)s %(b)s", "a", "b") == "$2 $1 $2"
 

@@ -35,8 +35,8 @@ class AcknowledgedAttempt:
     """What a program with a record has of an attempt. Without a record, it is never set.
 
     Attributes:
-        rest: What the acknowledgement that it began rests on; or that its report is stored, once
-            that is decided and somebody waits for it.
+        rest: What the acknowledgement that it began rests on. Once its report is decided and a
+            caller waits for it: what the acknowledgement of the report rests on.
     """
 
     __slots__ = ("rest",)

@@ -14,8 +14,8 @@ from sagas.definition.selection import Selection
 from sagas.definition.shape_values import ShapeValues
 
 if TYPE_CHECKING:
-    from sagas.definition.task_data import About
     from sagas.definition.saga import Saga
+    from sagas.definition.task_data import About
 
 
 NO_ITEM = {"index": None, "item_key": None, "item": None}

@@ -30,6 +30,7 @@ if TYPE_CHECKING:
     from sagas.definition.step import Cost, Step
 
 ONE = (None,)
+"""In place of the numbers of items, for a part without `for_each`."""
 MOST_PAIRS = 256
 """Of two fan-outs each of whose items needs all of the other's, so many needs are written."""
 PLAIN = frozenset({dict, list, str, int, float, bool, type(None)})
@@ -45,10 +46,10 @@ class Entry:
 
 
 class Level:
-    """The parts of a saga, or of an included one: then `owner` is where.
+    """The parts of a saga, or of an included one. Then `owner` is its inclusion.
 
     Attributes:
-        found: The numbers of the items of each part: `ONE` without items, none if it is not there.
+        found: The numbers of each part's items; `ONE` without `for_each`, () if it is left out.
         inner: The included sagas, by the part and the number.
     """
 

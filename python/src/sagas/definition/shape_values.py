@@ -68,7 +68,7 @@ class ShapeValues:
         assert found is not None and spot.number is not None
         item = found[1][spot.number]
         if decoder is None and not isinstance(item, (dict, list)):
-            return item  # nobody can change it
+            return item  # it cannot be changed
         return serialization.read(serialization.write(item), decoder)
 
     def input(self, scope: Scope) -> str:

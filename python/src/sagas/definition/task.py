@@ -8,13 +8,13 @@ from typing import Any, Generic, TypeVar, overload
 
 from sagas.base.errors import CannotDecode, ResultNotSerializable, StepFailed
 from sagas.definition import mismatches, serialization, tokens
-from sagas.definition.task_data import About as About
-from sagas.definition.task_data import Told as Told
-from sagas.definition.task_data import whole as whole
 from sagas.definition.collection import Collection, of_names
 from sagas.definition.control import Cancellation, Progress
 from sagas.definition.place import NO_ITEM, Place
 from sagas.definition.selection import Selection
+from sagas.definition.task_data import About as About
+from sagas.definition.task_data import Told as Told
+from sagas.definition.task_data import whole as whole
 
 I = TypeVar("I")
 R = TypeVar("R")

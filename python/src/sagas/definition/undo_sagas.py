@@ -11,10 +11,10 @@ from typing import TYPE_CHECKING, Any
 
 from sagas.base.errors import DefinitionError
 from sagas.definition import children, decoders, validation
-from sagas.definition.task_data import Told
 from sagas.definition.saga import Saga
 from sagas.definition.step import NEVER, CostOf, Step
 from sagas.definition.task import Task
+from sagas.definition.task_data import Told
 
 if TYPE_CHECKING:
     from sagas.definition.decoders import Decoder

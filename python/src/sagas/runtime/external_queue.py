@@ -21,9 +21,9 @@ from sagas.core.suspensions import Lease
 from sagas.definition.compiled import Kind
 from sagas.definition.control import Progress
 from sagas.definition import shape_validation
-from sagas.definition.task_data import Told
 from sagas.definition.shape_values import ShapeValues
 from sagas.definition.task import Task
+from sagas.definition.task_data import Told
 from sagas.runtime import given_values
 from sagas.runtime.external_reports import ExternalReports
 from sagas.runtime.retries import until_answered

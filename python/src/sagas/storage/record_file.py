@@ -41,9 +41,9 @@ class Session:
             session of a shard.
         words: What each line has after its first word.
         sends: A `sent` line, to be formatted with its numbers.
-        hears: The same of a `heard` line.
-        tells: The same of a `told` line, by its edge.
-        wholes: The same of a `sent`, a `heard` and a `told` line, by the edge.
+        hears: A `heard` line, to be formatted with its number.
+        tells: A `told` line for each edge, to be formatted with its number.
+        wholes: A `sent`, a `heard` and a `told` line for each edge, to be formatted together.
         digest: Of the whole event log, by the last answer.
         told: How many events the last acknowledgement at each edge rests on.
         most: The most of them.

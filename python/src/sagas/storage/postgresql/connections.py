@@ -270,7 +270,7 @@ class Attached(Protocol):
         """End it at once. The next one is made when it is needed."""
 
     async def finish(self) -> None:
-        """End it for good, after what is under way, unless that takes long."""
+        """End it permanently, after what is under way, unless that takes long."""
 
 
 class Asker:
@@ -296,7 +296,7 @@ class Asker:
         self._attached += some
 
     async def renew(self) -> None:
-        """Connect anew, since another server has taken over. Attached connections end at once, and
+        """Connect again, since another server has taken over. Attached connections end at once, and
         those of the pool after what is under way.
         """
         for one in self._attached:

@@ -153,18 +153,17 @@ class PostgreSQLExternalAttempts:
     """As `ExternalAttempts`, by a node's connections.
 
     Claims and reports share a connection of their own, which is made with the first of them and
-    repeats prepared statements. Claims of tasks with a concurrency use the pool, and so does all
-    else while the server has no connection to spare. Measured on
-    2026-11-28 in lots of ten, on a busy machine: a claim takes 33 us to 48 us of the node's
-    processor in place of 121 us by the pool, and a report 30 us to 37 us in place of 81 us to
-    90 us.
+    repeats prepared statements. Claims of tasks with a concurrency use the pool, and so do all
+    others while the server has no connection to spare. Measured on 2026-11-28 in lots of ten, on
+    a busy machine: a claim takes 33 us to 48 us of the node's processor in place of 121 us by the
+    pool, and a report 30 us to 37 us in place of 81 us to 90 us.
     """
 
     def __init__(self, url: str, asker: Asker) -> None:
         self._asker = asker
         self._own = prepared.Kept(url, asker.where)
         asker.attach(self._own)
-        self._locking = asyncio.Lock()  # who waits for other nodes holds one connection of the pool
+        self._locking = asyncio.Lock()  # claims that wait for other nodes hold one of the pool
         self._claims: dict[tuple[str, ...], Lots[_Wanted, list[list[Any]]]] = {}
         self._reports = Lots(self._report_all, MOST_REPORTS)
         self.deliveries: Deliveries = PostgreSQLDeliveries(asker)
@@ -231,7 +230,7 @@ class PostgreSQLExternalAttempts:
     async def _alone(
         self, tasks: Sequence[str], limited: Sequence[str], wanted: _Wanted
     ) -> list[list[Any]]:
-        """A claim, where tasks have a concurrency: nobody else claims them meanwhile."""
+        """A claim of tasks with a concurrency. No other node claims them meanwhile."""
         words = {"tasks": [*tasks], "most": wanted.most, "workers": [wanted.worker] * wanted.most}
         with connections.faults(self._asker.where):
             async with self._locking, self._asker.pool.connection() as link, link.transaction():

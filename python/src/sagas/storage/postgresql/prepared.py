@@ -312,7 +312,7 @@ class Kept:
             self._wire.close()
 
     async def finish(self) -> None:
-        """End it for good, after what is under way, unless that takes long."""
+        """End it permanently, after what is under way, unless that takes long."""
         self._is_over = True
         if self._wire:
             with contextlib.suppress(TimeoutError):
@@ -321,6 +321,6 @@ class Kept:
         self.cut()
 
     def close(self) -> None:
-        """Ends it, for good."""
+        """End it permanently, at once."""
         self._is_over = True
         self.cut()
