@@ -127,23 +127,11 @@ class Acknowledgements:
 
     def started(self, saga: SagaInstance) -> None:
         """A caller is about to be notified that a saga is started."""
-        try:
-            rest = saga.rest
-        except AttributeError:  # nothing was noted
-            return
-        if rest is not None and rest is not self._woken:
-            self._woken = rest
-            self._told(rest, "wake")
+        self._wake(getattr(saga, "rest", None))
 
     def ended(self, saga: SagaInstance) -> None:
         """A caller is about to be notified that a saga has ended."""
-        try:
-            rest = saga.end_rest
-        except AttributeError:  # nothing was noted
-            return
-        if rest is not None and rest is not self._woken:
-            self._woken = rest
-            self._told(rest, "wake")
+        self._wake(getattr(saga, "end_rest", None))
 
     def reported(self, attempt: Attempt) -> None:
         """A caller is about to be notified that a report is stored."""
