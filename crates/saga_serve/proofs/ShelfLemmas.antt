@@ -4,7 +4,7 @@ use Rattle.std.specs.Prelude.{slice_get}
 use Rattle.saga_def.specs.Contents.{Contents}
 use Rattle.saga_history.specs.declared.events.Event.{Event}
 use Rattle.saga_history.specs.Changes.{Change, aborts, adopts, change_of, changes, drops_plan, moves, opens, past, saga_of, starts_plan}
-use Rattle.saga_history.specs.Rules.{IsAllowedChange, IsLegal, SagaMay, definition, definition_at}
+use Rattle.saga_history.specs.Rules.{IsAllowedChange, IsLegal, SagaMay, definition_at}
 use Rattle.saga_history.specs.Turns.{opened_with}
 use Rattle.saga_core.specs.Book.{Book}
 use Rattle.saga_logged.specs.BookLog.{IsBookLog}

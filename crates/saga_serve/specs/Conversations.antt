@@ -174,6 +174,13 @@ pub record IsAsked (shows : Bool) (book : Book) (request : List ℕ) (put : Cont
   pub asks : Defines request definition
   pub welcome : IsWelcome book definition put
 
+-- the next line is a request that adds this definition, which can be added; `left` has the bytes after it
+pub record AddsNext (book : Book) (bytes left : List ℕ) (put : Contents) : Type 0 where
+  pub request : List ℕ
+  pub is : bytes ≡ request ++ 10 ∷ left
+  pub request_is : has_no_feed request ≡ true
+  pub asked : IsAsked true book (request_of request) put
+
 -- a request is executed, or it adds a definition that can be added
 abbrev pub Meets : {E : Type 0} → Result (Option Contents) E → Bool → Stand → List ℕ → Stand → List ℕ → List ℕ → List ℕ → List ℕ → Type 0
 Meets (Ok None) shows old request new told waiting told_then waiting_then =

@@ -1,5 +1,6 @@
 //! A shelf that grows: replies to requests that add a definition.
-ghost use Rattle.std.specs.Prelude.{◌≡◌, ◌≢◌, ◌⊎◌, [], IfErr, IfOk, string_bytes};
+ghost use Rattle.std.specs.Prelude.{◌≡◌, ◌≢◌, ◌⊎◌, [], IfErr, IfOk, IfSome, string_bytes, true};
+ghost use Rattle.saga_core.specs.Book.{Book};
 ghost use Rattle.saga_drive.specs.Answers.{KeepsShelf};
 ghost use Rattle.saga_drive.specs.Replies.{fault_text, lines_of, memory_word, text_of};
 ghost use Rattle.saga_serve.specs.Conversations.{Does, IsAsked};
@@ -10,7 +11,7 @@ ghost use Rattle.saga_text.specs.declared.faults.TextFault.TheVariants as cause;
 
 use saga_core::Book;
 use saga_def::{Definition, Text};
-use saga_drive::{Reply, Response, answer, respond};
+use saga_drive::{Reply, Request, Response, answer, read_request, respond};
 use saga_text::{TextFault, read_definition};
 use saga_texts::MAX_LONG_SHELF;
 use std::alloc::{AllocError, Global};
@@ -81,6 +82,25 @@ fn definition_of(alloc: Global, book: &Book<'_>, text: &Text) -> Result<Definiti
     match read_definition(alloc, text.as_str().as_bytes()) {
         Ok(definition) => Ok(definition),
         Err(why) => Err(reply_to_fault(alloc, place, why)),
+    }
+}
+
+/// Returns the definition that a line adds to a shelf, if the line is such a request and the definition can be added.
+pub fn welcome_of(alloc: Global, shelf: &[Definition], line: &[u8]) -> Option<Definition>
+    ensures { IfSome result (λ put. (book : Book) → book.shelf ≡ shelf.now → IsAsked true book line.now put) }
+{
+    let Ok(request) = read_request(alloc, line) else {
+        return None;
+    };
+    let Request::Define(text) = request else {
+        return None;
+    };
+    if shelf.len() >= MAX_LONG_SHELF {
+        return None;
+    }
+    match read_definition(alloc, text.as_str().as_bytes()) {
+        Ok(definition) => Some(definition),
+        Err(_) => None,
     }
 }
 
