@@ -1,4 +1,5 @@
-// A coordinator in Go, by cgo. It answers requests from standard input as `sagas drive --lines` does:
+// A coordinator in Go, with cgo. It answers requests on standard input, as `sagas drive --lines`
+// does:
 // cd examples/library && go run coordinate.go ../trip.toml <../trip.requests
 package main
 
@@ -25,13 +26,13 @@ func start(text []byte) *C.uint8_t {
 	return (*C.uint8_t)(unsafe.Pointer(&text[0]))
 }
 
-// Coordinator drives the sagas of one definition. Use it from one goroutine at a time, and close it.
+// Coordinator runs the sagas of one definition. Use it from one goroutine at a time, and close it.
 type Coordinator struct {
 	inner  C.struct_sagas_coordinator
 	buffer []byte
 }
 
-// Open begins with a log, which may be empty. It returns the lines that are to be appended to it.
+// Open opens a coordinator from a log, which may be empty. It returns the lines to append to it.
 func Open(definition, log []byte) (*Coordinator, string, error) {
 	it := &Coordinator{buffer: make([]byte, 4096)}
 	span := C.struct_sagas_span{start: 0, end: C.size_t(len(definition))}
@@ -52,11 +53,11 @@ func Open(definition, log []byte) (*Coordinator, string, error) {
 	}
 }
 
-// Answer runs a request once. The lines are to be appended to the log before anybody is told the reply.
+// Answer executes a request once. Append the lines to the log before you act on the reply.
 func (it *Coordinator) Answer(request []byte) (lines, reply string, err error) {
 	var used, linesUsed C.size_t
 	status := C.sagas_answer(&it.inner, start(request), C.size_t(len(request)), start(it.buffer), C.size_t(len(it.buffer)), &used, &linesUsed)
-	for status == C.SAGAS_BUFFER_TOO_SMALL { // it has run, and its reply is kept
+	for status == C.SAGAS_BUFFER_TOO_SMALL { // the request was executed, and its reply is kept
 		it.buffer = make([]byte, used)
 		status = C.sagas_reply(&it.inner, start(it.buffer), C.size_t(len(it.buffer)), &used, &linesUsed)
 	}
@@ -66,12 +67,12 @@ func (it *Coordinator) Answer(request []byte) (lines, reply string, err error) {
 	return string(it.buffer[:linesUsed]), string(it.buffer[linesUsed:used]), nil
 }
 
-// Close frees what the coordinator holds.
+// Close frees the memory of the coordinator.
 func (it *Coordinator) Close() {
 	C.sagas_close(&it.inner)
 }
 
-// marked puts a plus before each line.
+// marked returns the lines, each after a plus sign.
 func marked(lines string) string {
 	if lines == "" {
 		return ""

@@ -1,6 +1,6 @@
-"""A coordinator in Python, by ctypes.
+"""A coordinator in Python, with ctypes.
 
-It answers requests from standard input as `sagas drive --lines` does:
+It answers requests on standard input as `sagas drive --lines` does:
 
 python3 examples/library/coordinate.py examples/trip.toml <examples/trip.requests
 """
@@ -33,14 +33,14 @@ class Span(ctypes.Structure):
 
 
 class Coordinator:
-    """Drives the sagas of one definition. Use it from one thread at a time, and close it."""
+    """Run the sagas of one definition. Use it from one thread at a time, and close it."""
 
     def __init__(self, definition: bytes, log: bytes = b"") -> None:
         self._library = ctypes.CDLL(str(DIST / "libsagas.so"))
         self._inner, self._size = Inner(), 4096
         log_used, used, span = size_t(), size_t(), Span(0, len(definition))
         status = BUFFER_TOO_SMALL
-        while status == BUFFER_TOO_SMALL:  # nothing was opened: it is called again
+        while status == BUFFER_TOO_SMALL:  # it is still closed: call again
             self._size = max(self._size, used.value)
             buffer = ctypes.create_string_buffer(self._size)
             status = self._library.sagas_open(
@@ -51,10 +51,10 @@ class Coordinator:
         text = ctypes.string_at(buffer, used.value)
         if status != OK:
             raise ValueError(text.decode().strip() or f"status {status}")
-        self.lines = text  # to be appended to the log
+        self.lines = text  # append them to the log
 
     def answer(self, request: bytes) -> tuple[bytes, bytes]:
-        """Run a request once. Append the lines to the log before you act on the reply."""
+        """Execute a request once. Append the lines to the log before you act on the reply."""
         used, lines = size_t(), size_t()
         buffer = ctypes.create_string_buffer(self._size)
         rest = ctypes.byref(used), ctypes.byref(lines)
@@ -62,7 +62,7 @@ class Coordinator:
         status = self._library.sagas_answer(
             inner, request, size_t(len(request)), buffer, size_t(self._size), *rest
         )
-        while status == BUFFER_TOO_SMALL:  # it has run, and its reply is kept
+        while status == BUFFER_TOO_SMALL:  # it was executed, and its reply is kept
             self._size = used.value
             buffer = ctypes.create_string_buffer(self._size)
             status = self._library.sagas_reply(inner, buffer, size_t(self._size), *rest)
@@ -72,12 +72,12 @@ class Coordinator:
         return text[: lines.value], text[lines.value :]
 
     def close(self) -> None:
-        """Free what the coordinator holds."""
+        """Free the memory of the coordinator."""
         self._library.sagas_close(ctypes.byref(self._inner))
 
 
 def marked(lines: bytes) -> bytes:
-    """Put a plus before each line."""
+    """Return the lines, each after a plus sign."""
     return b"".join(b"+" + line for line in lines.splitlines(keepends=True))
 
 

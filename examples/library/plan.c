@@ -1,5 +1,9 @@
-/* Plans how the trip shall end, in the folder of the repository:
- *   cc -I dist examples/library/plan.c dist/libsagas.a -o plan && ./plan examples/trip.toml examples/trip.case.json */
+/* Prints a plan for a definition and a case, as `sagas plan` does. Run it in the root of the
+ * repository:
+ *
+ *   cc -I dist examples/library/plan.c dist/libsagas.a -o plan
+ *   ./plan examples/trip.toml examples/trip.case.json
+ */
 #include <stdio.h>
 
 #include "sagas.h"

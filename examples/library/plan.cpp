@@ -1,5 +1,8 @@
-// The same in C++: a call whose buffer grows as it is needed.
-//   c++ -std=c++17 -I dist examples/library/plan.cpp dist/libsagas.a -o plan && ./plan examples/trip.toml examples/trip.case.json
+// Prints a plan, as plan.c does. The buffer grows to the size that the output needs. Run it in the
+// root of the repository:
+//
+//   c++ -std=c++17 -I dist examples/library/plan.cpp dist/libsagas.a -o plan
+//   ./plan examples/trip.toml examples/trip.case.json
 #include <cstdlib>
 #include <fstream>
 #include <iostream>

@@ -1,4 +1,5 @@
-// The same in Go, by cgo: cd examples/library && go run plan.go ../trip.toml ../trip.case.json
+// Prints a plan, as plan.c does. It calls the library with cgo:
+// cd examples/library && go run plan.go ../trip.toml ../trip.case.json
 package main
 
 /*
@@ -23,7 +24,8 @@ func start(text []byte) *C.uint8_t {
 	return (*C.uint8_t)(unsafe.Pointer(&text[0]))
 }
 
-// Plan gives the certificate, and whether it is a plan; else it is a chain, and nothing is allowed.
+// Plan returns an answer. If yes is true, it is a plan. Otherwise, it is a chain, which proves that
+// no plan is feasible.
 func Plan(definition, sagaCase []byte) (text string, yes bool, err error) {
 	buffer := make([]byte, 4096)
 	for {

@@ -1,4 +1,4 @@
-// Plans how a saga shall end, in JavaScript: node plan.mjs DEFINITION CASE
+// Prints a plan, as plan.c does. It calls the WebAssembly module: node plan.mjs DEFINITION CASE
 import { readFileSync } from 'node:fs';
 import { INVALID, load } from '../../dist/sagas.mjs';
 

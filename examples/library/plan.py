@@ -1,4 +1,9 @@
-"""The same in Python, in its own process: PYTHONPATH=python/src python3 examples/library/plan.py examples/trip.toml examples/trip.case.json"""
+"""Print a plan, as plan.c does.
+
+The package calls the library in the process of this program. Run it in the root of the repository:
+
+PYTHONPATH=python/src python3 examples/library/plan.py examples/trip.toml examples/trip.case.json
+"""
 
 import pathlib
 import sys

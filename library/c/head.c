@@ -1,9 +1,22 @@
-/* sagas.c: the calls of sagas.h as one file, for any platform with a C11 compiler whose numbers are little-endian.
+/* sagas.c: all calls of sagas.h in one file.
+ *
+ * The file needs a C11 compiler, a C library, and a little-endian processor:
  *
  *     cc -std=c11 -O1 -c sagas.c
  *
- * It is the module of WebAssembly of the same release, sagas.wasm, translated by wasm2c (of wabt, Apache License 2.0), between a head and a tail that
- * are written by hand: the memory that the module has, and the calls over it. No access leaves that memory: each address is checked against its size.
+ * It is the WebAssembly module sagas.wasm of the same release, together with the calls of a
+ * coordinator. wasm2c, which is part of wabt (Apache License 2.0), translated the module to C. The
+ * beginning and the end of the file are written by hand: the memory of the module, and the calls.
+ * Each address is checked against the size of that memory. No access leaves the block that is
+ * allocated for it.
+ *
+ * sagas.h describes the calls. Their use of memory differs from that of libsagas in these points:
+ *
+ *   - The file allocates memory with calloc, and frees it with free.
+ *   - Each call uses a module with its own memory of at most 4 GiB, and first reserves 16 MiB.
+ *   - If the compiler has C11 atomics, one module is kept for the next call. The memory of that
+ *     module has at most 16 MiB.
+ *   - A coordinator keeps its module from sagas_open to sagas_close.
  */
 #include <math.h>
 #include <setjmp.h>
@@ -26,7 +39,7 @@
 #define LIKELY(x) (x)
 #endif
 #if defined(__OPTIMIZE__)
-/* (so that where the memory is stays in registers) */
+/* Inlining keeps the address of the memory in registers. */
 #define inline __inline __attribute__((always_inline))
 #endif
 #define wasm_rt_memcpy memcpy
@@ -34,7 +47,8 @@
 #define WASM_RT_USE_STACK_DEPTH_COUNT 0
 #define WABT_BIG_ENDIAN 0
 
-/* The memory's units; how much of it is taken at first, and how much lies behind it. */
+/* The size of a page in bytes, the maximum number of pages, the capacity that is reserved first,
+ * and the padding after the capacity. */
 enum { PAGE = 65536, MOST_PAGES = 65535, FIRST_ROOM = 16 * 1024 * 1024, BEHIND = 65536 };
 
 typedef enum {
@@ -50,15 +64,16 @@ typedef enum {
 
 typedef enum { WASM_RT_I32, WASM_RT_I64, WASM_RT_F32, WASM_RT_F64 } wasm_rt_type_t;
 
-/* The module's memory: `size` bytes of it are there, and room for `room`, all zero above `size`. Behind the room lie BEHIND bytes, so that what an
- * instruction adds to an address need not be checked with it. */
+/* The memory of the module. It has `size` bytes, and a capacity of `room` bytes. The bytes after
+ * the first `size` are zero. BEHIND bytes of padding follow the capacity, so the small offset that
+ * an instruction adds to an address needs no check. */
 typedef struct {
     uint8_t *data;
     uint32_t pages, max_pages;
     uint64_t size, room;
 } wasm_rt_memory_t;
 
-/* Tables of functions, in which nothing stands: the module calls nothing by them. */
+/* Tables of functions. They are empty, because the module makes no indirect calls. */
 typedef void (*wasm_rt_function_ptr_t)(void);
 typedef struct {
     uint32_t func_type;
@@ -76,7 +91,7 @@ typedef struct {
     uint32_t size;
 } wasm_rt_externref_table_t;
 
-/* Where a call goes on whose module has trapped; one for each thread. */
+/* Where a call continues if its module traps. Each thread has its own. */
 static _Thread_local jmp_buf *trapped;
 
 #if defined(__GNUC__)
@@ -90,7 +105,8 @@ static bool wasm_rt_is_initialized(void) {
     return true;
 }
 
-/* Gives the memory so much room, and takes along what it has; where the system gives no more, it stays as it is. */
+/* Changes the capacity of the memory, and copies its contents. Returns false and changes nothing if
+ * the system has no memory. */
 static bool give_room(wasm_rt_memory_t *memory, uint64_t room) {
     uint8_t *data = room > SIZE_MAX - BEHIND ? NULL : calloc(1, (size_t)room + BEHIND);
     if (!data) {
@@ -119,7 +135,9 @@ static void wasm_rt_free_memory(wasm_rt_memory_t *memory) {
     free(memory->data);
 }
 
-/* Room for twice as much as there was, or for as much as is wanted, where no more is given. */
+/* Grows the memory by a number of pages. Returns the previous number of pages, or UINT32_MAX if the
+ * memory cannot grow. If the capacity is too small, the function doubles it. If that is not enough,
+ * or the system refuses it, the function reserves only what is required. */
 static uint32_t wasm_rt_grow_memory(wasm_rt_memory_t *memory, uint32_t more) {
     uint32_t before = memory->pages;
     uint64_t wanted = ((uint64_t)before + more) * PAGE, ample = memory->room * 2;
@@ -151,8 +169,8 @@ static uint32_t wasm_rt_register_func_type(uint32_t given, uint32_t results, ...
     return 0;
 }
 
-/* Whether an access of so many bytes at so much behind an address would leave the memory. What is added is a constant, and nearly always small: then
- * the address alone is looked at, once for all that lies behind it. */
+/* Whether an access of `count` bytes at `address + added` leaves the memory. `added` is a constant.
+ * If it is small, as nearly always, only the address is checked, once for all its offsets. */
 #define LEAVES(memory, address, added, count) ((added) > BEHIND - 16 ? (uint64_t)(address) + (added) + (count) > (memory)->size : (address) >= (memory)->size)
 
 #define MEMORY_LOAD(name, held, widened, given)                                                     \
@@ -174,4 +192,4 @@ static uint32_t wasm_rt_register_func_type(uint32_t given, uint32_t results, ...
         memcpy(memory->data + address + added, &value, sizeof value);                                           \
     }
 
-/* -- what wasm2c has made of the module */
+/* -- The module, translated by wasm2c */

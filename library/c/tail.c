@@ -1,5 +1,5 @@
 
-/* -- the calls of sagas.h, over the module */
+/* -- The calls of sagas.h, which call the module */
 
 #if defined(__OPTIMIZE__)
 #undef inline
@@ -12,7 +12,7 @@ enum { FIRST_SIZE = 65536, MOST_TEXT = SAGAS_MAX_LOG, MOST_KEPT = 16 * 1024 * 10
 
 typedef Z_sagas_instance_t module;
 
-/* A module that no call has now, so that the next call need not make one. */
+/* A module that no call uses. The next call takes it instead of making one. */
 #if !defined(__STDC_NO_ATOMICS__)
 static _Atomic(module *) spare;
 #define TAKE_SPARE() atomic_exchange(&spare, NULL)
@@ -27,7 +27,7 @@ struct text {
     uint64_t size;
 };
 
-/* A call: the texts that go in, the buffer for the one that comes out, and what the module was given of the spans. */
+/* A call: its input texts and spans, its output buffer, and the size of its output. */
 struct call {
     int name;
     struct text texts[MOST_TEXTS];
@@ -41,7 +41,7 @@ struct call {
 
 enum { PLAN, CHECK, AUDIT, AUDIT_ALL, DRAW, DRAW_CASE, DRAW_ANSWER };
 
-/* Memory in the module, without which nothing goes on. */
+/* Allocates memory in the module. Traps if there is none. */
 static uint64_t memory_of(module *it, uint64_t size) {
     uint64_t at = Z_sagasZ_sagas_memory(it, size);
     if (!at) {
@@ -50,7 +50,7 @@ static uint64_t memory_of(module *it, uint64_t size) {
     return at;
 }
 
-/* Puts bytes into the module. None have no address. */
+/* Copies bytes into the module, and returns their address there: 0 if there are no bytes. */
 static uint64_t put(module *it, const void *bytes, uint64_t size) {
     if (size == 0) {
         return 0;
@@ -69,7 +69,7 @@ static uint64_t put_spans(module *it, const struct sagas_span *spans, size_t cou
     return at;
 }
 
-/* Calls the module with a buffer of so many bytes. */
+/* Calls the module with these addresses, and a buffer of `size` bytes. */
 static uint32_t ask(module *it, const struct call *call, const uint64_t *at, uint64_t spans, uint64_t buffer, uint64_t size, uint64_t used) {
     const struct text *text = call->texts;
     switch (call->name) {
@@ -83,7 +83,8 @@ static uint32_t ask(module *it, const struct call *call, const uint64_t *at, uin
     }
 }
 
-/* Puts the texts into the module, asks it, and takes its text; again with as large a buffer as that takes, where the caller has one so large. */
+/* Copies the texts into the module, calls it, and copies its output to the caller. If the buffer in
+ * the module is too small and the caller's is large enough, it calls again with a larger buffer. */
 static uint32_t answer(module *it, struct call *call) {
     uint64_t at[MOST_TEXTS] = {0}, size = call->buffer_size < FIRST_SIZE ? call->buffer_size : FIRST_SIZE;
     Z_sagasZ_sagas_clear(it);
@@ -112,7 +113,8 @@ static void throw_away(module *it) {
     }
 }
 
-/* A call from its beginning to its end. A module that has trapped, since memory was refused, is thrown away. */
+/* Makes a call, and returns its status. If the system has no memory, the module traps. The function
+ * then frees the module. */
 static uint32_t run(struct call *call, size_t *used) {
     jmp_buf here, *before = trapped;
     module *volatile it = NULL;
@@ -141,7 +143,7 @@ static uint32_t run(struct call *call, size_t *used) {
     return status;
 }
 
-/* A text is told to be too long by its length alone, so that no more than that of it is put into the module. */
+/* Returns a text. Of a text that is too long, the module gets only as many bytes as show that. */
 static struct text text_of(const uint8_t *at, size_t size) {
     struct text text = {at, size > MOST_TEXT ? (uint64_t)MOST_TEXT + 1 : size};
     return text;
@@ -192,15 +194,18 @@ uint32_t sagas_draw_answer(const uint8_t *definition, size_t definition_size, co
     return run(&call, used);
 }
 
-/* -- coordinators */
+/* -- Coordinators */
 
-/* A coordinator's module, which no other call has, and where in it lie the coordinator, the numbers that a call gives, and a request and a buffer. */
+/* The module of a coordinator, which no other call uses. The addresses in it are those of the
+ * coordinator, of the numbers that a call returns, of a request and of a buffer. */
 struct held {
     module it;
     uint64_t coordinator, numbers, request, buffer, buffer_size;
 };
 
-/* What the numbers of a call are: how much was used of the buffer, and of that by lines, and how much of a log. */
+/* The offsets of the numbers that a call returns: the size of the output, of its log lines, and of
+ * the log that is continued. NUMBERS and COORDINATOR are the sizes of all numbers and of a
+ * coordinator. */
 enum { USED = 0, LINES_USED = 8, LOG_USED = 16, NUMBERS = 24, COORDINATOR = 64 };
 
 static uint64_t number_of(struct held *held, uint64_t which) {
@@ -209,14 +214,15 @@ static uint64_t number_of(struct held *held, uint64_t which) {
     return number;
 }
 
-/* Memory in the module, all zero. */
+/* Allocates memory in the module that is all zero. Traps if there is none. */
 static uint64_t zeros(module *it, uint64_t size) {
     uint64_t at = memory_of(it, size);
     memset(it->w2c_memory.data + at, 0, (size_t)size);
     return at;
 }
 
-/* A buffer in the module of so many bytes, in place of the one that is there; whether the module has the memory for it. */
+/* Replaces the buffer in the module by one of `size` bytes. If the module has no memory for it, the
+ * function returns false and changes nothing. */
 static bool make_buffer(struct held *held, uint64_t size) {
     uint64_t at = Z_sagasZ_sagas_memory(&held->it, size);
     if (at && held->buffer) {
@@ -235,19 +241,19 @@ static void give_back(module *it, uint64_t at) {
     }
 }
 
-/* How much of the buffer in the module a call may use: no more than its caller has. */
+/* How many bytes of the buffer in the module a call may use: at most the size of the caller's. */
 static uint64_t usable(const struct held *held, const struct call *call) {
     return call->buffer_size < held->buffer_size ? call->buffer_size : held->buffer_size;
 }
 
-/* Gives the caller the text that a call left in the module. */
+/* Copies the output of a call from the module to the caller. */
 static void hand_out(struct held *held, struct call *call) {
     if (call->used) {
         memcpy(call->buffer, held->it.w2c_memory.data + held->buffer, (size_t)call->used);
     }
 }
 
-/* Opens the coordinator in its module: from a log, over definitions. */
+/* Opens the coordinator in its module, over definitions and a log. */
 static uint32_t open_in_module(struct held *held, struct call *call) {
     module *it = &held->it;
     const struct text *definitions = &call->texts[0], *log = &call->texts[1];
@@ -271,8 +277,9 @@ static uint32_t open_in_module(struct held *held, struct call *call) {
     return status;
 }
 
-/* Has the coordinator answer, or give the reply that it keeps where there is no request. A reply that is larger than the buffer in the module, and not than
- * the caller's, is fetched by a larger one. */
+/* Lets the coordinator answer a request. If `request` is NULL, the coordinator returns the reply
+ * that it keeps. If the output fits only into the caller's buffer, the function makes the buffer in
+ * the module larger, and fetches the reply. */
 static uint32_t ask_in_module(struct held *held, struct call *call, const struct text *request) {
     module *it = &held->it;
     uint64_t used = held->numbers + USED, lines = held->numbers + LINES_USED;
@@ -297,7 +304,8 @@ static uint32_t ask_in_module(struct held *held, struct call *call, const struct
     return status;
 }
 
-/* A call on a coordinator, whose module is thrown away where it traps: then the coordinator is closed. */
+/* Makes a call of a coordinator. If its module traps, the coordinator is closed, and its module is
+ * freed. */
 static uint32_t ask_coordinator(struct sagas_coordinator *coordinator, struct call *call, const struct text *request, size_t *used, size_t *lines_used) {
     jmp_buf here, *before = trapped;
     struct held *held = coordinator->session;

@@ -1,6 +1,8 @@
-/* Calls the library by its header: calls EXAMPLES. Says what is wrong, and ends with 1 where something is.
- * What is given, which bytes are written, what becomes of faults and of lengths at their limits, and 16 threads at once, with the
- * stack that sagas.h asks for. */
+/* Tests the calls of the library that keep no state: calls EXAMPLES
+ *
+ * It tests the results, which bytes a call writes, errors, texts at their maximum size, and 16
+ * threads at the same time, with the stack that sagas.h requires. It prints each failure. If there
+ * is one, the exit status is 1. */
 #define _POSIX_C_SOURCE 200809L
 #include <pthread.h>
 #include <stdio.h>
@@ -50,7 +52,7 @@ static struct text file(const char *folder, const char *name) {
 
 static struct text definition, saga_case, answer, saga_log;
 
-/* A call with the trip's texts: which, with this buffer. */
+/* Makes the call with the number `which`, with the texts of the trip. */
 static uint32_t call(int which, uint8_t *buffer, size_t size, size_t *used) {
     struct sagas_span spans[2];
     spans[0].start = 0, spans[0].end = definition.size;
@@ -78,7 +80,8 @@ static int is_marked(const uint8_t *from, size_t size) {
     return 1;
 }
 
-/* Each call with a buffer of 0 bytes to enough, one byte more at a time: nothing behind the text is written, and nothing at all where it does not fit. */
+/* Makes each call with each buffer size, from 0 to one byte more than the output. A call writes
+ * nothing after its output, and nothing at all if the output does not fit. */
 static void buffers(void) {
     static uint8_t whole[8192], buffer[8192];
     int which;

@@ -1,9 +1,12 @@
-/* A coordinator over the calls of sagas.h, as `sagas drive --lines LOG DEFINITION..`: coordinate BUFFER LOG DEFINITION..
- * Requests are lines of standard input. Each line of the log that a request writes is shown behind a `+`, before its reply. The calls get a
- * buffer of BUFFER bytes; what does not fit is fetched by sagas_reply. LOG may be `-` for none.
+/* A coordinator that answers as `sagas drive --lines` does: coordinate BUFFER LOG DEFINITION..
  *
- * With -DREFUSING and -Wl,--wrap=malloc,--wrap=realloc,--wrap=free the variable REFUSED names a growth of memory that is refused, counted
- * from 0, and each call that it stops is made again. The last line of standard error then says how many growths there were. */
+ * Standard input has the requests, one per line. The program prints the log lines of a request,
+ * each after a `+`, and then its reply. The calls get a buffer of BUFFER bytes. If the output does
+ * not fit, sagas_reply fetches it. LOG may be `-` for an empty log.
+ *
+ * With -DREFUSING and -Wl,--wrap=malloc,--wrap=realloc,--wrap=free, the environment variable
+ * REFUSED is the number of an allocation, counted from 0, that is refused. Each call that fails for
+ * that reason is made again. The last line of standard error is the number of all allocations. */
 #include <stdio.h>
 #include <stdlib.h>
 #include <string.h>
@@ -58,7 +61,7 @@ static void fail(const char *why) {
     exit(2);
 }
 
-/* Behind a text what a file has. */
+/* Appends the contents of a file to a text. */
 static void add(struct text *to, FILE *file) {
     size_t count;
     if (!file) fail("a file cannot be read");
@@ -100,7 +103,7 @@ int main(int count, char **words) {
         spans[number].end = definitions.size;
     }
 
-    /* what is closed does nothing */
+    /* A closed coordinator answers nothing. */
     if (CALL(sagas_answer(&it, (const uint8_t *)"{}", 2, whole, ANY, &used, &lines)) != SAGAS_REJECTED || used || lines) fail("answered while closed");
     if (CALL(sagas_reply(&it, whole, ANY, &used, &lines)) != SAGAS_REJECTED || used || lines) fail("replied while closed");
     sagas_close(&it);
@@ -135,7 +138,7 @@ int main(int count, char **words) {
             const uint8_t *reply = small;
             CALL(sagas_answer(&it, request, request_size, small, size, &used, &lines));
             if (status == SAGAS_BUFFER_TOO_SMALL) {
-                /* it was run, and is kept: another is not run, and nothing is lost */
+                /* The request was executed, and its reply is kept: no other request is executed. */
                 size_t kept = used, none, no_lines;
                 if (CALL(sagas_answer(&it, request, request_size, whole, ANY, &none, &no_lines)) != SAGAS_REJECTED || none) fail("run over a kept reply");
                 if (kept && (CALL(sagas_reply(&it, whole, kept - 1, &used, &lines)) != SAGAS_BUFFER_TOO_SMALL || used != kept)) fail("a kept reply that is too long");

@@ -1,6 +1,8 @@
-/* Refuses each growth of memory in turn, alone and with all behind it: refusing EXAMPLES. Each call then says SAGAS_NO_MEMORY and leaves the buffer as
- * it was, or answers rightly; no block is lost, and the same call succeeds afterwards. To be linked with libsagas.a and
- * -Wl,--wrap=malloc,--wrap=realloc,--wrap=free. */
+/* Refuses each allocation in turn, alone and with all later ones: refusing EXAMPLES
+ *
+ * Each call then returns SAGAS_NO_MEMORY and leaves the buffer unchanged, or it returns the right
+ * result. It frees every block, and the same call succeeds afterwards. Link the program with
+ * libsagas.a and -Wl,--wrap=malloc,--wrap=realloc,--wrap=free. */
 #include <stdio.h>
 #include <stdlib.h>
 #include <string.h>
@@ -11,7 +13,8 @@ void *__real_malloc(size_t size);
 void *__real_realloc(void *at, size_t size);
 void __real_free(void *at);
 
-/* How many growths are granted before one is refused (-1: all), whether those behind it are too, and how many blocks are held. */
+/* The number of allocations before one is refused, or -1 to refuse none. Whether all later ones are
+ * refused too. The number of blocks that are not freed. */
 static long left = -1, held;
 static int and_the_rest;
 
@@ -54,7 +57,7 @@ static uint32_t call(int which, uint8_t *buffer, size_t size, size_t *used) {
     }
 }
 
-/* How often a call was refused memory before it went through, or -1 where something is wrong. */
+/* Returns how often a call was refused memory before it succeeded, or -1 if something is wrong. */
 static long tried(int which) {
     static uint8_t buffer[4096], was[4096], right[4096];
     size_t length = 0, used;

@@ -1,4 +1,5 @@
-//! The same in Rust: cd examples/library/rust && cargo run --example plan ../../trip.toml ../../trip.case.json
+//! Prints a plan, as plan.c does:
+//! cd examples/library/rust && cargo run --example plan ../../trip.toml ../../trip.case.json
 use std::{env, fs, process};
 
 fn main() {

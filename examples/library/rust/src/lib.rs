@@ -1,4 +1,4 @@
-//! Plans, judges and audits sagas, by the proved calls of `libsagas`.
+//! Makes and verifies plans of sagas, and audits their logs, with the proved calls of `libsagas`.
 //!
 //! ```
 //! let definition = "format = 1\nname = \"trip\"\nstep = [{ name = \"car\", undo = 5, keep = 3 }]\n";
@@ -9,7 +9,7 @@
 use std::fmt;
 use std::os::raw::c_uint;
 
-/// What is answered: yes or no, and the text that the program prints.
+/// The result of a call: yes or no, and the text that the program prints.
 #[derive(Debug, Clone, PartialEq, Eq)]
 pub struct Answer {
     pub yes: bool,
@@ -18,9 +18,9 @@ pub struct Answer {
 
 #[derive(Debug, Clone, PartialEq, Eq)]
 pub enum Error {
-    /// A text is not of its form: the program's line.
+    /// An input text is not valid. The text is the error line of the program.
     BadText(String),
-    /// Memory was refused; the same call may succeed later.
+    /// There is not enough memory. The same call may succeed later.
     NoMemory,
 }
 
@@ -50,7 +50,7 @@ extern "C" {
     fn sagas_audit(log: *const u8, log_size: usize, definition: *const u8, definition_size: usize, buffer: *mut u8, buffer_size: usize, used: *mut usize) -> c_uint;
 }
 
-/// Makes a call with a buffer, and again with one as large as its text takes.
+/// Makes a call. If the buffer is too small, makes it again with a buffer of the required size.
 fn with_buffer(call: impl Fn(*mut u8, usize, *mut usize) -> c_uint) -> Result<Answer, Error> {
     let mut buffer = vec![0; FIRST_SIZE];
     loop {
@@ -70,25 +70,27 @@ fn with_buffer(call: impl Fn(*mut u8, usize, *mut usize) -> c_uint) -> Result<An
     }
 }
 
-/// Plans how a saga shall end: yes with a plan that costs least, no with a chain that shows that nothing is allowed.
+/// Makes an answer for a case: yes with a minimum-cost plan, or no with a chain, which proves that no
+/// plan is feasible.
 pub fn plan(definition: impl AsRef<[u8]>, case: impl AsRef<[u8]>) -> Result<Answer, Error> {
     let (definition, case) = (definition.as_ref(), case.as_ref());
-    // SAFETY: texts and buffer are slices of their lengths, and the buffer is borrowed by nobody else.
+    // SAFETY: The lengths are those of the slices, and nothing else borrows the buffer.
     with_buffer(|buffer, size, used| unsafe { sagas_plan(definition.as_ptr(), definition.len(), case.as_ptr(), case.len(), buffer, size, used) })
 }
 
-/// Judges an answer: yes with `least N` or `blocked`, no with `no FAULT`.
+/// Verifies an answer: yes with `least N` or `blocked`, or no with `no FAULT`.
 pub fn check(definition: impl AsRef<[u8]>, case: impl AsRef<[u8]>, answer: impl AsRef<[u8]>) -> Result<Answer, Error> {
     let (definition, case, answer) = (definition.as_ref(), case.as_ref(), answer.as_ref());
-    // SAFETY: as in `plan`.
+    // SAFETY: As in `plan`.
     with_buffer(|buffer, size, used| unsafe {
         sagas_check(definition.as_ptr(), definition.len(), case.as_ptr(), case.len(), answer.as_ptr(), answer.len(), buffer, size, used)
     })
 }
 
-/// Audits the log of sagas of a definition: yes with numbers, no with the first event that was not allowed.
+/// Audits the log of sagas of a definition: yes with totals, or no with the first event that was not
+/// allowed.
 pub fn audit(log: impl AsRef<[u8]>, definition: impl AsRef<[u8]>) -> Result<Answer, Error> {
     let (log, definition) = (log.as_ref(), definition.as_ref());
-    // SAFETY: as in `plan`.
+    // SAFETY: As in `plan`.
     with_buffer(|buffer, size, used| unsafe { sagas_audit(log.as_ptr(), log.len(), definition.as_ptr(), definition.len(), buffer, size, used) })
 }
