@@ -1,4 +1,6 @@
-/* engine.c: the calls of sagas.h as a program, for platforms that no program was released for. It asks for C11 and nothing else.
+/* engine.c: the calls of sagas.h as a program, for platforms without a released program.
+ *
+ * It needs C11, and nothing else of the platform:
  *
  *     cc -std=c11 -O1 -o sagas engine.c sagas.c -lm
  *
@@ -6,10 +8,21 @@
  *     sagas draw DEF [CASE [ANSWER]]    sagas audit LOG DEF..
  *     sagas drive [--lines] [--from F] DEF..
  *
- * What it prints, and its status, are those of the program `sagas` for the same texts: 0 ok, 1 rejected, 3 a text is not of its form, 4 the system or
- * memory refused something, 2 it was called otherwise. It keeps no log: `drive --log`, `run` and a certificate on standard input are not there; and a
- * drive without --lines has the room of a log, too. A drive has the definitions that it was started with: with --lines, too, `define` is refused as
- * `fixed-shelf`.
+ * For the same texts, its output and its exit status are those of the program `sagas`:
+ *
+ *     0   SAGAS_OK, or the end of a drive
+ *     1   SAGAS_REJECTED
+ *     2   The arguments are not valid.
+ *     3   SAGAS_INVALID: an input text is not valid.
+ *     4   The system refused a file, an output or memory.
+ *
+ * It has only these commands and --version. It differs from the program `sagas` in these points:
+ *
+ *   - It writes no log file. `drive --log` and `run` do not exist.
+ *   - Without arguments, it does not verify an answer on standard input.
+ *   - `drive` limits the size of the log also without --lines.
+ *   - `drive` has only the definitions that it was started with. It refuses `define` with
+ *     `fixed-shelf`, also with --lines.
  */
 #include <signal.h>
 #include <stdint.h>
@@ -17,7 +30,8 @@
 #include <stdlib.h>
 #include <string.h>
 
-/* Of a system of the kind of Unix, a read that gives what has arrived: requests that were sent together are answered together. */
+/* On Unix, read() returns the bytes that have arrived. Requests that arrive together are answered
+ * together. */
 #if defined(__unix__) || defined(__APPLE__)
 #include <unistd.h>
 #define HAS_READ 1
@@ -38,7 +52,7 @@ struct text {
     size_t size;
 };
 
-/* Says what it cannot do, and ends. */
+/* Reports an error of the system, and exits. */
 static void stop(const char *what, const char *of) {
     fprintf(stderr, "sagas: %s%s\n", what, of);
     exit(CANNOT);
@@ -52,7 +66,7 @@ static void *memory_for(void *at, size_t size) {
     return memory;
 }
 
-/* A file's bytes, no more than one past the most that a text may have. */
+/* Reads a file, until it ends or is longer than a text may be. */
 static struct text read_file(const char *path) {
     struct text text = {NULL, 0};
     size_t held = 0;
@@ -80,7 +94,7 @@ static struct text read_file(const char *path) {
     return text;
 }
 
-/* The definitions of an audit or a drive in one text, with their spans. */
+/* Reads the definitions of an audit or a drive into one text, and sets their spans. */
 static struct text joined(char **paths, int count, struct sagas_span *spans) {
     struct text all = {memory_for(NULL, 1), 0};
     for (int i = 0; i < count; i++) {
@@ -97,9 +111,9 @@ static struct text joined(char **paths, int count, struct sagas_span *spans) {
     return all;
 }
 
-/* -- drive */
+/* -- The command drive */
 
-/* What waits to be written to standard output. */
+/* The bytes that are not yet written to standard output. */
 struct output {
     uint8_t *bytes;
     size_t size, held;
@@ -118,7 +132,7 @@ static void add(struct output *output, const void *bytes, size_t size) {
     output->size += size;
 }
 
-/* Adds lines of the log, each behind a plus. */
+/* Adds log lines, each after a plus sign. */
 static void add_lines(struct output *output, const uint8_t *lines, size_t size) {
     while (size) {
         const uint8_t *end = memchr(lines, '\n', size);
@@ -140,7 +154,8 @@ static void write_out(struct output *output) {
     output->size = 0;
 }
 
-/* Words of a drive, and what goes on while it drives: the coordinator, a buffer for what it gives, and what waits to be told. */
+/* The options and definitions of a drive, its coordinator, a buffer for the coordinator, and the
+ * output that is not yet written. */
 struct drive {
     int shows;
     const char *from;
@@ -158,7 +173,7 @@ static void make_buffer(struct drive *drive, size_t size) {
     drive->buffer_size = size;
 }
 
-/* Opens the coordinator. Gives the status of the drive where there is none. */
+/* Opens the coordinator. Returns 0, or the exit status if the coordinator cannot be opened. */
 static int open_coordinator(struct drive *drive) {
     static struct sagas_span spans[SAGAS_MAX_DEFINITIONS];
     struct text definitions = joined(drive->definitions, drive->count, spans), log = {NULL, 0};
@@ -193,7 +208,7 @@ static int open_coordinator(struct drive *drive) {
     return 0;
 }
 
-/* Answers a request. What it comes to waits to be written. */
+/* Answers a request. Adds the log lines and the reply to the output. */
 static void answer(struct drive *drive, const uint8_t *request, size_t size) {
     size_t used, lines;
     uint32_t status = sagas_answer(&drive->coordinator, request, size, drive->buffer, drive->buffer_size, &used, &lines);
@@ -213,7 +228,8 @@ static void answer(struct drive *drive, const uint8_t *request, size_t size) {
     }
 }
 
-/* Takes what has arrived, at least a byte, of standard input: at most so many bytes; 0 at its end. */
+/* Reads at least one and at most `most` bytes from standard input: the bytes that have arrived, or
+ * without read() those of a line. Returns 0 at the end of the input. */
 static size_t arrived(uint8_t *at, size_t most) {
 #if HAS_READ
     ssize_t count = read(0, at, most);
@@ -234,7 +250,8 @@ static size_t arrived(uint8_t *at, size_t most) {
 #endif
 }
 
-/* The requests of standard input, a line each, until it ends. Of a line that is too long only the beginning is kept, which tells that it is. */
+/* Answers the requests on standard input, one per line, until the input ends. Of a line that is too
+ * long, it keeps only the beginning, which is enough to refuse it. */
 static void converse(struct drive *drive) {
     static uint8_t line[SAGAS_MAX_REQUEST + 1], buffer[FIRST_SIZE];
     size_t size = 0, count;
@@ -258,7 +275,7 @@ static void converse(struct drive *drive) {
     write_out(&drive->output);
 }
 
-/* The words behind `drive`; whether they are of its form. */
+/* Reads the arguments after `drive`. Returns whether they are valid. */
 static int read_words(struct drive *drive, int count, char **words) {
     int is_only_files = 0;
     drive->definitions = words;
@@ -297,11 +314,11 @@ static int run_drive(int count, char **words) {
     return status;
 }
 
-/* -- the other commands */
+/* -- The other commands */
 
 enum command { PLAN, CHECK, DRAW, AUDIT, NONE };
 
-/* A command line: its texts, and of an audit its spans. */
+/* A command with its texts, and for an audit the spans of its definitions. */
 struct asked {
     enum command command;
     struct text texts[3];
@@ -339,7 +356,7 @@ static enum command command_of(int count, char **words) {
     return NONE;
 }
 
-/* Prints what was answered, and gives the status. */
+/* Prints the output of a call, and returns the exit status. */
 static int told(uint32_t status, const uint8_t *buffer, size_t used) {
     FILE *to = status == SAGAS_INVALID ? stderr : stdout;
     if (status == SAGAS_NO_MEMORY) {
@@ -351,7 +368,7 @@ static int told(uint32_t status, const uint8_t *buffer, size_t used) {
     return (int)status;
 }
 
-/* A command that answers once. */
+/* Executes a command that makes one call. Returns the exit status. */
 static int answered(int count, char **words) {
     static struct asked asked;
     asked.command = command_of(count, words);
