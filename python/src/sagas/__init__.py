@@ -108,7 +108,7 @@ from sagas.definition.step import NEVER, Backoff, Cost, Step
 from sagas.definition.task import Task
 from sagas.engine.library import InvalidText, Verdict, audit, check, plan
 from sagas.engine.plan import Choice, Plan
-from sagas.runtime.external_queue import Heartbeat, LeasedTask, Queue
+from sagas.runtime.leased_tasks import Heartbeat, LeasedTask, Queue
 from sagas.storage import factory
 from sagas.storage.batches import BatchResult
 from sagas.storage.folder_blobs import FolderBlobStore

@@ -3,14 +3,14 @@
 from __future__ import annotations
 
 import builtins
-from collections.abc import Iterable
+from collections.abc import Callable, Iterable
 from typing import Any
 
 from sagas.api.store_access import StoreAccess
 from sagas.core import outcomes
 from sagas.core.outcomes import reported
 from sagas.definition.control import checked
-from sagas.runtime.external_queue import Heartbeat, LeasedTask, Queue, Word
+from sagas.runtime.leased_tasks import Heartbeat, LeasedTask, Queue, Word
 from sagas.storage.interface import Peers
 
 
@@ -87,6 +87,21 @@ class Workers:
         external = self._access.inside.external
         return await external.heartbeat(attempt_id, lease, holder, seconds, told)
 
+    async def give_back(self, tasks: Iterable[LeasedTask], *, holder: str = "") -> None:
+        """Give back tasks that nobody performs, so that others may claim them at once.
+
+        If the database does not answer, the leases end when their time is over.
+
+        Args:
+            tasks: What `claim` returned, or a part of it.
+            holder: As given to `claim`.
+
+        Raises:
+            InvalidLease: A lease was not issued for its task to this holder.
+            Closed: The store is closed.
+        """
+        await self._access.inside.external.give_back(tasks, holder)
+
     async def report(
         self,
         attempt_id: str,
@@ -97,6 +112,7 @@ class Workers:
         final: bool = False,
         unknown: str | None = None,
         holder: str = "",
+        stored: Callable[[], object] | None = None,
     ) -> bool:
         """Report how a task ended. When it returns, the report is durable.
 
@@ -111,6 +127,8 @@ class Workers:
             final: With `error`: whether the failure is permanent (default: False).
             unknown: Why the outcome is unknown (default: None: it is known).
             holder: As given to `claim`.
+            stored: Called once the report is stored, if this node executes the saga. The report
+                becomes part of the saga after that (default: None).
 
         Returns:
             False if the same was reported before.
@@ -129,7 +147,8 @@ class Workers:
             outcome = outcomes.unknown(unknown)
         else:
             outcome = reported(result, error, final)
-        return await self._access.inside.external.report(attempt_id, lease, holder, outcome)
+        external = self._access.inside.external
+        return await external.report(attempt_id, lease, holder, outcome, stored)
 
     async def queues(self) -> builtins.list[Queue]:
         """Return what waits for workers at any node, by step.

@@ -64,11 +64,10 @@ class Reading:
             self._aborts(asked.aborts, left)
         if asked.reports:
             self._reports(asked.reports, left)
+        if asked.defines:
+            self._defines(asked, left)
         if asked.opens:
             self._opens(asked.opens, left)
-        if asked.defines:
-            for _ in range(asked.defines):
-                self._driver.identity.definitions.defined(next(left))
         if asked.claims:
             self._next(next(left))
         for number, reply in zip(asked.looks, left) if asked.looks else ():
@@ -203,6 +202,15 @@ class Reading:
             self._batch.more.cancelled.append(row)
 
     # -- opens
+
+    def _defines(self, asked: Question, replies: Iterator[str]) -> None:
+        definitions = self._driver.identity.definitions
+        for _ in range(asked.defines):
+            definitions.defined(next(replies))
+        if definitions.is_fixed:
+            for saga in asked.opens:
+                if saga.place >= definitions.known:
+                    raise Disagrees(f"definition {definitions.known} was to be added")
 
     def _opens(self, sagas: Sequence[SagaInstance], replies: Iterator[str]) -> None:
         driver, batch, first = self._driver, self._batch, self._first

@@ -234,11 +234,10 @@ class ShardDriver:
         if self.reports:
             asked.reports = self._ask_reports(asked, lines)
         if self.opens:
+            defines = self.identity.definitions.define_lines()
+            asked.defines = len(defines)
+            lines += defines
             asked.opens = self._ask_opens(lines)
-            if self.is_undefined:  # its saga is opened by the next question, once that is known
-                defines = self.identity.definitions.define_lines()
-                asked.defines = len(defines)
-                lines += defines
         if lines:
             self.hungry = True
         if self.hungry and free_slots > 0:
@@ -278,8 +277,8 @@ class ShardDriver:
     def _ask_opens(self, lines: list[str]) -> Sequence[SagaInstance]:
         """As many as a question may have."""
         lot: list[SagaInstance] = []
-        opens, known = self.opens, self.identity.definitions.known
-        while opens and opens[0].place < known and len(lines) < MOST_REPORTS:
+        opens, usable = self.opens, self.identity.definitions.usable
+        while opens and opens[0].place < usable and len(lines) < MOST_REPORTS:
             saga = opens.popleft()
             self.sent[saga], saga.shard = None, self
             lines.append(protocol.open_line(saga.place, self.opened + len(lot)))

@@ -20,10 +20,12 @@ class ShardDefinitions:
         kinds: The same with this program's functions.
         stored: How many of them the store has, or will have.
         known: How many of them the engine knows.
-        is_fixed: Whether an engine learns none behind its start: then another one takes its place.
+        has_grown: Whether the engine has learned one behind its start: then sagas of the next ones
+            are opened by the same question.
+        is_fixed: Whether it has refused one: then another one takes its place.
     """
 
-    __slots__ = ("digest", "texts", "kinds", "stored", "known", "is_fixed", "_places")
+    __slots__ = ("digest", "texts", "kinds", "stored", "known", "has_grown", "is_fixed", "_places")
 
     def __init__(self, kinds: Sequence[Kind], digest: str = "") -> None:
         self.digest = digest
@@ -31,7 +33,12 @@ class ShardDefinitions:
         self.texts = [kind.text for kind in kinds]
         self._places = {text: place for place, text in enumerate(self.texts)}
         self.stored = self.known = len(self.texts)
-        self.is_fixed = False
+        self.has_grown = self.is_fixed = False
+
+    def started(self) -> None:
+        """An engine is started with all of them."""
+        self.known = len(self.texts)
+        self.has_grown = self.is_fixed = False
 
     def has_room(self, kind: Kind) -> bool:
         """Whether it has this one, or may get it."""
@@ -45,6 +52,13 @@ class ShardDefinitions:
             self.texts.append(kind.text)
             self.kinds.append(kind)
         return place
+
+    @property
+    def usable(self) -> int:
+        """How many of them a saga may have that is opened by the next question, which begins with
+        `define_lines`.
+        """
+        return len(self.texts) if self.has_grown and not self.is_fixed else self.known
 
     def define_lines(self) -> list[str]:
         """The requests by which the engine learns those that it does not know."""
@@ -63,6 +77,7 @@ class ShardDefinitions:
         """
         if not self.is_fixed and protocol.is_defined(reply, self.known):
             self.known += 1
+            self.has_grown = True
         else:
             self.is_fixed = True
 

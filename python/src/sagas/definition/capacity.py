@@ -12,10 +12,11 @@ SHARD_CAPACITY = 1000
 in that log."""
 MOST_DEFINITIONS = 64
 """How many definitions a log has at most, if it gets none later."""
-MOST_ADDED = 128
-"""How many definitions a log has at most, if it gets them one by one, for sagas whose steps come
-from their input. With fewer, more shards share what is under way, and their batches are smaller.
-With more, an engine takes longer for each new definition, because it reads its events again.
+MOST_ADDED = 256
+"""How many definitions a log has at most, if it gets them while it is executed, for sagas whose
+steps come from their input. With fewer, more shards share what is under way, and their batches are
+smaller. With more, an engine takes longer for the definitions of a question, because it reads its
+events again.
 """
 HEADER = '{"format":2}\n'
 """The first line of each log."""

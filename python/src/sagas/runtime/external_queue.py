@@ -8,8 +8,7 @@ from __future__ import annotations
 
 import asyncio
 import contextlib
-import dataclasses
-from collections.abc import Sequence
+from collections.abc import Iterable, Sequence
 from typing import TYPE_CHECKING, Any
 
 from sagas.base.errors import LeaseLost, SagasError, StoreUnavailable
@@ -26,6 +25,7 @@ from sagas.definition.task import Task
 from sagas.definition.task_data import Told
 from sagas.runtime import given_values
 from sagas.runtime.external_reports import ExternalReports
+from sagas.runtime.leased_tasks import Heartbeat, LeasedTask, Queue, Word
 from sagas.runtime.retries import until_answered
 from sagas.storage import queries
 from sagas.storage.external import Claim
@@ -33,8 +33,6 @@ from sagas.storage.external import Claim
 if TYPE_CHECKING:
     from sagas.runtime.coordinator import Coordinator
 
-Word = tuple[str, str, str]
-"""A saga's name, a step's, and `run` or `undo`."""
 AGAIN = 2.0
 """Seconds after which what the store did not answer is asked again."""
 LOOK = 0.5
@@ -49,60 +47,6 @@ OF_SAGA = (
     f"FROM {queries.DEFINED} WHERE s.id = ?"
 )
 RESULTS = "SELECT step, value FROM attempts WHERE id = ? AND action = 'run' AND event = 'commit'"
-
-
-@dataclasses.dataclass(frozen=True, slots=True)
-class LeasedTask:
-    """Hold a task that a worker has claimed.
-
-    Attributes:
-        attempt_id: The id of the attempt, under which it is reported.
-        lease: The lease under which it is reported.
-        until: When the lease ends, in seconds since 1970.
-        task: What the step's function is called with.
-        given: `task.given` as JSON.
-    """
-
-    attempt_id: str
-    lease: str
-    until: float
-    task: Task[Any]
-    given: str = "null"
-
-
-@dataclasses.dataclass(frozen=True, slots=True)
-class Heartbeat:
-    """Answer a worker's heartbeat.
-
-    Attributes:
-        until: When the lease ends, in seconds since 1970.
-        cancelled: Why the saga is being undone, as `task.cancelled.reason` says it: `aborted` or
-            `failed`; None while it is not.
-    """
-
-    until: float
-    cancelled: str | None
-
-
-@dataclasses.dataclass(frozen=True, slots=True)
-class Queue:
-    """Count the tasks of one step that are for workers.
-
-    Attributes:
-        saga: The saga's name.
-        step: The step's name.
-        undo: Whether the step's compensation is meant.
-        ready: How many tasks no worker has.
-        oldest: Since when the oldest of them waits, in seconds since 1970, or None.
-        claimed: How many tasks workers have.
-    """
-
-    saga: str
-    step: str
-    undo: bool
-    ready: int
-    oldest: float | None
-    claimed: int
 
 
 def _set(future: asyncio.Future[None]) -> None:
@@ -137,7 +81,7 @@ class ExternalQueue(ExternalReports):
                     self._has_any |= manner.external or manner.queue is not None
                     if manner.queue is not None and not self.owner.store.shared:
                         self._pause = LOOK_AT_FILE
-        self._table.begin(self.owner.commits.kept, self.owner.clock)
+        self._table.begin(self.owner.commits.kept, self.owner.clock, self._unwanted)
         if self.leased:
             self._signer = Signer(await self.owner.store.secret())
         self._look_later()
@@ -250,8 +194,8 @@ class ExternalQueue(ExternalReports):
             claims = await self._claimed(tasks, most, seconds, worker)
             for task in tasks if claims else ():  # there may be more than were taken
                 self.wake(task)
-            leased = [await self._leased(claim, worker, holder) for claim in claims]
-            found, left = [one for one in leased if one], deadline - self.owner.loop.time()
+            found = await self._all_leased(claims, worker, holder)
+            left = deadline - self.owner.loop.time()
             if found or left <= 0:
                 return found
             if claims:  # none of them could be handed out
@@ -262,26 +206,44 @@ class ExternalQueue(ExternalReports):
     async def _claimed(
         self, tasks: Sequence[str], most: int, seconds: float, worker: str
     ) -> list[Claim]:
-        """Claims; what nobody hears of any more is given back."""
         limited = [task for task in tasks if task in self._limited]
-        work = self._table.claim(tasks, limited, most, seconds, worker)
-        claiming = self.owner.loop.create_task(work)
-        try:
-            found: list[Claim] = await asyncio.shield(claiming)
-        except asyncio.CancelledError:
-            claiming.add_done_callback(self._unwanted)
-            raise
+        found = await self._table.claim(tasks, limited, most, seconds, worker)
         self.takeovers += sum(claim.is_takeover for claim in found)
         return found
 
-    def _unwanted(self, claiming: asyncio.Task[list[Claim]]) -> None:
-        if not claiming.cancelled() and not claiming.exception() and not self.owner.closed:
-            for claim in claiming.result():
-                self.owner.spawn(self._give_back(claim))
+    async def _all_leased(
+        self, claims: Sequence[Claim], worker: str, holder: str
+    ) -> list[LeasedTask]:
+        """What a worker is handed. If that cannot be read, all of it is given back. A claim that
+        cannot be handed out keeps its lease, so that it is not in the way of the others.
+        """
+        found: list[LeasedTask | None] = []
+        for claim in claims:
+            try:
+                found.append(await self._leased(claim, worker, holder))
+            except BaseException as error:
+                is_passing = isinstance(error, (StoreUnavailable, asyncio.CancelledError))
+                self._unwanted([one for one in claims if is_passing or one is not claim])
+                raise
+        return [one for one in found if one]
 
-    async def _give_back(self, claim: Claim) -> None:
+    def _unwanted(self, claims: Sequence[Claim]) -> None:
+        """Nobody hears of them any more: they are given back."""
+        if not self.owner.closed:
+            for claim in claims:
+                self.owner.spawn(self._give_back(claim.attempt, claim.lease))
+
+    async def give_back(self, tasks: Iterable[LeasedTask], holder: str) -> None:
+        """As `Store.workers.give_back`."""
+        self._raise_if_closed()
+        numbers = {
+            one.attempt_id: self._signer.number(one.attempt_id, one.lease, holder) for one in tasks
+        }
+        await asyncio.gather(*(self._give_back(*one) for one in numbers.items()))
+
+    async def _give_back(self, attempt: str, lease: int) -> None:
         with contextlib.suppress(StoreUnavailable):  # then it runs out
-            await self._table.heartbeat(claim.attempt, claim.lease, 0.0)
+            await self._table.heartbeat(attempt, lease, 0.0)
             self.offered_elsewhere()
 
     async def _come(self, tasks: Sequence[str], seconds: float) -> None:
@@ -321,7 +283,7 @@ class ExternalQueue(ExternalReports):
             given = given_values.text_of(task)
         except given_values.DeclarationMissing as error:
             logger.warning("%s: %s", claim.attempt, error)
-            await self._give_back(claim)
+            await self._give_back(claim.attempt, claim.lease)
             return None
         except Exception as error:  # of the user's function
             with contextlib.suppress(SagasError):  # the lease ends, and it is handed out again

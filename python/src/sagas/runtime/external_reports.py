@@ -10,7 +10,7 @@ from __future__ import annotations
 import asyncio
 import contextlib
 import secrets
-from collections.abc import Iterator
+from collections.abc import Callable, Iterator
 from typing import TYPE_CHECKING
 
 from sagas.base.errors import (
@@ -90,8 +90,15 @@ class ExternalReports:
                 return one
         return None
 
-    async def report(self, token: str, lease: str, holder: str, outcome: Outcome) -> bool:
-        """As `Store.report`.
+    async def report(
+        self,
+        token: str,
+        lease: str,
+        holder: str,
+        outcome: Outcome,
+        stored: Callable[[], object] | None = None,
+    ) -> bool:
+        """As `Store.workers.report`.
 
         The lease is judged before anything is looked up, so that who has none learns nothing about
         the task."""
@@ -101,6 +108,8 @@ class ExternalReports:
         if shard is None:
             return await self._repeated(token, number, outcome)
         if shard in self.owner.shards.runners:
+            if stored is not None:
+                stored()
             await self._apply(Report(token, str(outcome.kind), outcome.value))
         else:
             await self._table.tell()

@@ -109,7 +109,7 @@ def engine_on(
     """Start an engine on a shard's event log. It knows all definitions of the shard."""
     definitions = driver.identity.definitions
     engine = EngineProcess(parts.program, definitions.texts, log_text, listener)
-    definitions.known = len(definitions.texts)
+    definitions.started()
     return engine
 
 

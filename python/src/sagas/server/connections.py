@@ -15,14 +15,53 @@ Peer = tuple[str, int]
 """The client's end of a connection: no two that are open have the same."""
 
 
+class Outlet:
+    """A transport that can hold back what is written, to send it together: each part that is sent
+    alone takes a call of the system, and wakes the client.
+    """
+
+    def __init__(self, transport: asyncio.Transport) -> None:
+        self._transport = transport
+        self._held: list[bytes] | None = None
+
+    def __getattr__(self, name: str) -> Any:
+        return getattr(self._transport, name)
+
+    def is_closing(self) -> bool:
+        return self._transport.is_closing()
+
+    def write(self, data: bytes) -> None:
+        if self._held is None:
+            self._transport.write(data)
+        else:
+            self._held.append(data)
+
+    def hold(self) -> None:
+        """What is written from now on is sent by `flush`."""
+        if self._held is None:
+            self._held = []
+
+    def flush(self) -> None:
+        """Sends what was held."""
+        held, self._held = self._held, None
+        if held:
+            self._transport.write(b"".join(held))
+
+    def close(self) -> None:
+        self.flush()
+        self._transport.close()
+
+
 class Connection(asyncio.Protocol):
     """One connection. `inner`: the server's protocol, which gets all that this one gets.
 
     Attributes:
         gone: Done once the client is gone, or nothing more is said to it.
+        outlet: By which the server's protocol answers.
     """
 
     transport: asyncio.Transport
+    outlet: Outlet
 
     def __init__(self, inner: Any, connections: Connections) -> None:
         self._inner, self._connections = inner, connections
@@ -33,10 +72,10 @@ class Connection(asyncio.Protocol):
 
     def connection_made(self, transport: asyncio.BaseTransport) -> None:
         assert isinstance(transport, asyncio.Transport)
-        self.transport = transport
+        self.transport, self.outlet = transport, Outlet(transport)
         name = transport.get_extra_info("peername")
         self.peer = (str(name[0]), int(name[1])) if isinstance(name, tuple) else None
-        self._inner.connection_made(transport)
+        self._inner.connection_made(self.outlet)
         self._connections.came(self)
 
     def connection_lost(self, error: Exception | None) -> None:
@@ -88,6 +127,7 @@ class Connection(asyncio.Protocol):
 
     def ends(self) -> None:
         """The request is answered."""
+        self.outlet.flush()
         self.at_work = False
         self._connections.owes(self)
 

@@ -13,7 +13,7 @@ from prometheus_client.core import CounterMetricFamily, GaugeMetricFamily, Metri
 from prometheus_client.exposition import CONTENT_TYPE_LATEST, generate_latest
 
 from sagas.base.events import Event
-from sagas.runtime.external_queue import Queue
+from sagas.runtime.leased_tasks import Queue
 from sagas.server.durations import Durations
 
 if TYPE_CHECKING:

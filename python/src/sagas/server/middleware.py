@@ -15,6 +15,8 @@ from collections.abc import Awaitable, Callable, MutableMapping
 from typing import TYPE_CHECKING, Any
 from urllib.parse import unquote_to_bytes, urlsplit
 
+from starlette.requests import ClientDisconnect
+
 from sagas.server import problems
 from sagas.server.connections import Connection, Connections
 from sagas.server.problems import Problem
@@ -239,6 +241,8 @@ class Passage:
     async def _through(self) -> None:
         try:
             await self.guard.app(self.scope, self.receive, self.send)
+        except ClientDisconnect:  # while its body was read: there is no client to answer
+            return
         except Exception:
             if self._refused:
                 return
@@ -288,7 +292,13 @@ class Passage:
             message["headers"] = [*message["headers"], *more]
             if self.guard.service.is_stopping and b"connection" not in there:
                 message["headers"].append((b"connection", b"close"))
+            if self._connection and b"content-length" in there:  # its body follows at once
+                self._connection.outlet.hold()
+            await self._send(message)
+            return
         await self._send(message)
+        if self._connection:
+            self._connection.outlet.flush()
 
     async def _refuse(self, problem: Problem) -> None:
         if self.status or self.scope[GONE].done():

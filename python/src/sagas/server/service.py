@@ -26,7 +26,7 @@ from sagas.inspection import activity
 from sagas.inspection import saga as one_saga
 from sagas.inspection.question import Question, StoreReader
 from sagas.inspection.views import SagaView
-from sagas.runtime.external_queue import Queue
+from sagas.runtime.leased_tasks import Queue
 from sagas.server import renderer, webhook_file
 from sagas.server.auth import Rates, Sessions, Tokens, Who
 from sagas.server.event_stream import Hub

@@ -12,7 +12,7 @@ from __future__ import annotations
 
 import json
 from collections.abc import Awaitable, Callable, Sequence
-from typing import NamedTuple, Protocol
+from typing import NamedTuple, Protocol, Union
 
 from sagas.core.batch import Batch
 from sagas.core.spans import LEASED_WORD
@@ -66,6 +66,27 @@ class Claim(NamedTuple):
     is_takeover: bool
 
 
+class Wanted(NamedTuple):
+    """A claim of at most so many attempts of these tasks, for so many seconds."""
+
+    tasks: tuple[str, ...]
+    most: int
+    seconds: float
+    worker: str
+
+
+class Reported(NamedTuple):
+    """How an attempt ended, as it is reported under a lease."""
+
+    attempt: str
+    lease: int
+    outcome: str
+    value: str
+
+
+Asked = Union[Wanted, Reported]
+
+
 class Beat(NamedTuple):
     """For how many seconds a lease holds, and why the task is to be undone, if it is."""
 
@@ -106,8 +127,14 @@ class ExternalAttempts(Protocol):
     deliveries: Deliveries
     """What is posted to webhooks."""
 
-    def begin(self, write: Callable[[Batch], Awaitable[None]], clock: Callable[[], float]) -> None:
-        """`write`: puts a batch into the next transaction."""
+    def begin(
+        self,
+        write: Callable[[Batch], Awaitable[None]],
+        clock: Callable[[], float],
+        unwanted: Callable[[Sequence[Claim]], object],
+    ) -> None:
+        """`write`: puts a batch into the next transaction. `unwanted`: hears of claims whose
+        caller was cancelled before it had them."""
 
     async def claim(
         self, tasks: Sequence[str], limited: Sequence[str], most: int, seconds: float, worker: str

@@ -16,7 +16,7 @@ from sagas.definition.labels import checked
 from sagas.inspection import lists
 from sagas.inspection import wording as words
 from sagas.inspection.lists import COUNTED
-from sagas.runtime.external_queue import Queue
+from sagas.runtime.leased_tasks import Queue
 from sagas.server import renderer
 from sagas.server.access import address, service_of
 from sagas.server.auth import May, Who

@@ -7,7 +7,6 @@ an approval ended.
 from __future__ import annotations
 
 import asyncio
-import contextlib
 from collections.abc import Callable
 from typing import Any, Optional
 from urllib.parse import quote
@@ -23,10 +22,10 @@ from sagas.inspection import picture as picture_module
 from sagas.inspection import what_if as what_if_module
 from sagas.inspection.views import SagaView
 from sagas.server import answers, json_views, renderer, unfolding
-from sagas.server.access import check_definition, check_still, is_still, maker, service_of
+from sagas.server.access import check_definition, is_still, maker, service_of
 from sagas.server.auth import May, Who
-from sagas.server.event_stream import CHECK, Listener
-from sagas.server.middleware import GONE
+from sagas.server.client_waits import first
+from sagas.server.event_stream import Listener
 from sagas.server.operations import Answer, Call, Routes
 from sagas.server.problems import Problem
 from sagas.server.responses import Json, tagged
@@ -194,36 +193,6 @@ async def wait(call: Call) -> Response:
     if await first(call.request, call.who, ending, call.query["seconds"]):
         ending.result()  # raises, where there is no such saga
     return tagged(call.request, json_views.saga(await view_of(call)))
-
-
-async def first(request: Request, who: Who, work: "asyncio.Future[Any]", seconds: float) -> bool:
-    """Waits for a piece of work, but no longer than the client, its token and the service are
-    there. Whether it is done; else it is cancelled, to its end. Raises `Problem` where the token
-    has ended."""
-    others, loop = (request.scope[GONE], service_of(request).stopping), asyncio.get_running_loop()
-    slice = seconds if service_of(request).tokens is None else min(seconds, CHECK)
-    until = loop.time() + seconds
-    try:
-        while not (done := await waited(work, others, min(slice, until - loop.time()))):
-            check_still(request, who)
-            if loop.time() >= until:
-                return False
-        return work in done
-    finally:
-        if not work.done():
-            work.cancel()
-            with contextlib.suppress(asyncio.CancelledError, Exception):
-                await work
-
-
-async def waited(
-    work: "asyncio.Future[Any]", others: tuple["asyncio.Future[None]", ...], seconds: float,
-) -> "set[asyncio.Future[Any]]":  # fmt: skip
-    """Those that are done, once one of them is, or the time has passed."""
-    some: set[asyncio.Future[Any]] = {work, *others}
-    first = asyncio.FIRST_COMPLETED
-    done, _ = await asyncio.wait(some, timeout=max(0.0, seconds), return_when=first)
-    return set(done)
 
 
 @routes.post(

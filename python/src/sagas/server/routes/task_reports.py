@@ -13,7 +13,8 @@ from sagas.server.auth import May
 from sagas.server.operations import Answer, Call, Routes
 from sagas.server.problems import Problem
 from sagas.server.responses import Json
-from sagas.server.routes.tasks import LEASE, MORE, check_next, claimed
+from sagas.server.routes.task_claims import NextClaim
+from sagas.server.routes.tasks import LEASE, MORE, check_next
 from sagas.server.shapes import Anything, Choice, Field, Flag, Nullable, Record, Several, Text
 
 routes = Routes("workers", "/v1/tasks")
@@ -54,13 +55,15 @@ def outcome_of(report: dict[str, Any], place: int) -> dict[str, Any]:
     return {"error": error, "final": report["final"]}
 
 
-async def _kept(call: Call, report: dict[str, Any], outcome: dict[str, Any]) -> dict[str, Any]:
+async def _kept(
+    call: Call, claim: NextClaim, report: dict[str, Any], outcome: dict[str, Any]
+) -> dict[str, Any]:
     """Keeps one report; gives what is answered of it."""
     attempt_id = report["attempt_id"]
     told: dict[str, Any] = {"attempt_id": attempt_id, "kept": True, "repeated": False}
     try:
         kept = await call.service.store.workers.report(
-            attempt_id, report["lease"], holder=call.who.name, **outcome
+            attempt_id, report["lease"], holder=call.who.name, stored=claim.stored, **outcome
         )
     except SagasError as error:
         return {**told, "kept": False, "problem": problems.body(problems.of(error))}
@@ -79,6 +82,8 @@ async def report(call: Call) -> Response:
     body, more = call.body, call.body["next"]
     outcomes = [outcome_of(one, place) for place, one in enumerate(body["reports"])]
     check_next(call, more)
-    told = await asyncio.gather(*(_kept(call, *one) for one in zip(body["reports"], outcomes)))
-    found = None if more is None else await claimed(call, more)
+    async with NextClaim(call, more, len(outcomes)) as claim:
+        some = (_kept(call, claim, *one) for one in zip(body["reports"], outcomes))
+        told = await asyncio.gather(*some)
+        found = await claim.answer()
     return Json({"reports": told, "next": found})

@@ -2,28 +2,21 @@
 
 from __future__ import annotations
 
-import asyncio
-import re
 from typing import Any
 
 from starlette.responses import Response
 
-from sagas.runtime.external_queue import LeasedTask, Word
-from sagas.server import answers, json_views, problems
+from sagas.server import answers, problems
 from sagas.server.access import check_steps
 from sagas.server.auth import May
 from sagas.server.operations import Answer, Call, Routes
 from sagas.server.problems import Problem
 from sagas.server.responses import Json, times
-from sagas.server.routes.sagas import first
+from sagas.server.routes.task_claims import NextClaim, claimed, words_of
 from sagas.server.shapes import Anything, Field, Flag, Nullable, Number, Record, Several, Text
 
 routes = Routes("workers", "/v1/tasks")
-NAME = "[a-z][a-z0-9_-]{0,31}"
-WORD = re.compile(rf"({NAME})/((?:{NAME}/)*?{NAME})(/undo)?\Z")
 LONGEST_LEASE = 3600.0
-HEARTBEATS = 3
-"""How many heartbeats fit into a lease, so that two of them may be lost."""
 CLAIM = {
     "steps": Field(
         Several(Text(most=200), least=1, most=1000),
@@ -89,49 +82,6 @@ REPORTED = {200: Answer("It is stored.", answers.REPORTED)}
 OWN = ("NoSuchTask", "InvalidLease", "LeaseLost", "OwnerUnavailable")
 
 
-def words_of(steps: list[str], place: str = "steps") -> list[Word]:
-    """The steps that are asked for. Raises `Problem`."""
-    found: list[Word] = []
-    for number, step in enumerate(steps):
-        told = WORD.match(step)
-        if told is None:
-            where = f"{place}.{number}"
-            raise Problem(
-                "InvalidRequest",
-                f"{where}: {step[:80]!r}: a step is saga/step, or saga/step/undo",
-                where,
-            )
-        found.append((told[1], told[2], "undo" if told[3] else "run"))
-    return found
-
-
-async def claimed(call: Call, body: dict[str, Any]) -> dict[str, Any]:
-    """Claims, as long as the client is there; none where the service is about to stop."""
-    service, who, steps = call.service, call.who, body["steps"]
-    found: list[LeasedTask] = []
-    if not service.is_stopping:
-        name = f"{who.name}/{body['worker']}" if body["worker"] else who.name
-        service.saw(name, steps)
-        work = service.store.workers.claim(
-            words_of(steps),
-            limit=body["limit"],
-            wait=body["wait"],
-            lease=body["lease"],
-            worker=name,
-            holder=who.name,
-        )
-        taking = asyncio.ensure_future(work)
-        if await first(call.request, who, taking, body["wait"] + 25.0):
-            found = taking.result()
-    now = service.store.now()
-    return {
-        "tasks": [json_views.task(one, now) for one in found],
-        "heartbeat_seconds": round(body["lease"] / HEARTBEATS, 3),
-        "repeat_statuses": problems.REPEAT,
-        "unknown_steps": sorted(set(steps) - service.words()),
-    }
-
-
 @routes.post(
     "/claim", "claimTasks", may=May.WORK, body=CLAIM_REQUEST,
     answers={200: Answer("The tasks.", answers.CLAIMED, example=CLAIMED_EXAMPLE)},
@@ -175,13 +125,15 @@ def check_next(call: Call, more: dict[str, Any] | None) -> None:
 
 
 async def _report(call: Call, **outcome: Any) -> Response:
-    """Keeps the report, and then claims what is wanted next."""
+    """Keeps the report, and claims what is wanted next once it is stored."""
     body, more = call.body, call.body["next"]
     check_next(call, more)
-    kept = await call.service.store.workers.report(
-        call.path["attempt_id"], body["lease"], holder=call.who.name, **outcome
-    )
-    told = None if more is None else await claimed(call, more)
+    async with NextClaim(call, more) as claim:
+        kept = await call.service.store.workers.report(
+            call.path["attempt_id"], body["lease"], holder=call.who.name,
+            stored=claim.stored, **outcome,
+        )  # fmt: skip
+        told = await claim.answer()
     return Json({"kept": True, "repeated": not kept, "next": told})
 
 

@@ -1,4 +1,4 @@
-"""External attempts: one statement for all claims, and one for all reports."""
+"""External attempts: claims and reports of many in one statement."""
 
 from __future__ import annotations
 
@@ -6,21 +6,35 @@ import asyncio
 import contextlib
 import functools
 import json
-from collections.abc import Sequence
-from typing import Any, NamedTuple
+from collections.abc import Awaitable, Callable, Sequence
+from typing import Any, Optional, Union
 
 from sagas.base.errors import StoreUnavailable
+from sagas.core.batch import Batch
 from sagas.definition.serialization import clean
+from sagas.storage import external
 from sagas.storage.deliveries import Deliveries
-from sagas.storage.external import OPEN, REPORTED, TAKES, Beat, Claim, Report, Row, Waiting, earlier
+from sagas.storage.external import (
+    OPEN,
+    TAKES,
+    Asked,
+    Beat,
+    Claim,
+    Report,
+    Reported,
+    Row,
+    Waiting,
+    Wanted,
+    earlier,
+)
+from sagas.storage.lots import Lots
 from sagas.storage.postgresql import connections, prepared
 from sagas.storage.postgresql.connections import Asker
 from sagas.storage.postgresql.deliveries import PostgreSQLDeliveries
-from sagas.storage.postgresql.lots import Lots
 
 CHANNEL = "sagas_reports"
-MOST_CLAIMS, MOST_REPORTS = 100, 200
-"""In one statement."""
+MOST = 200
+"""Claims and reports in one statement."""
 CLOCK = "clock AS MATERIALIZED (SELECT extract(epoch FROM clock_timestamp())::float8 AS now)"
 HELD = (
     f"SELECT count(*) FROM external_attempts t WHERE t.task = {{}} AND t.{OPEN} AND t.until > "
@@ -30,15 +44,15 @@ BOUND = (
     f"(SELECT o.concurrency FROM external_attempts o WHERE o.task = w.task AND o.{OPEN} AND "
     "o.concurrency IS NOT NULL LIMIT 1)"
 )
-CLAIM = f"""
-WITH {CLOCK},
+LAPSED = "e.until <= clock.now"
+CLAIMED = f"""
 found AS MATERIALIZED (
   SELECT x.* FROM unnest(%(tasks)s::text[]) AS w(task), clock,
   LATERAL (SELECT {BOUND} AS bound) b, LATERAL (
     SELECT e.attempt, e.offered_at, e.lease IS NOT NULL AND NOT e.given_back AS is_takeover,
       e.since, e.worker, e.lease, e.until
     FROM external_attempts e
-    WHERE e.task = w.task AND e.{OPEN} AND (e.until IS NULL OR e.until <= clock.now)
+    WHERE e.task = w.task AND e.{OPEN} AND (e.until IS NULL OR {LAPSED})
     ORDER BY e.offered_at
     LIMIT CASE WHEN b.bound IS NULL THEN %(most)s::bigint
       ELSE greatest(0, least(%(most)s::bigint, b.bound - ({HELD.format("w.task")}))) END
@@ -54,13 +68,14 @@ taken AS (
   WHERE e.attempt = f.attempt
   RETURNING e.attempt, e.lease, e.until - clock.now AS seconds, e.id, e.step, e.action, e.cancelled,
     f.is_takeover, place, e.number, f.since, f.worker, f.lease AS had, f.until)
-SELECT json_agg(json_build_array(attempt, lease, seconds, id, step, action, cancelled, is_takeover,
-  place, number, since, worker, had, until) ORDER BY place)::text FROM taken
 """
-"""For many claims of the same tasks: a worker and its seconds for each that may be claimed. All
-rows come as one text, which is read in less time than several cells of each.
+"""For many claims of the same tasks: a worker and its seconds for each that may be claimed."""
+ROWS = """
+json_agg(json_build_array(attempt, lease, seconds, id, step, action, cancelled, is_takeover, place,
+  number, since, worker, had, until) ORDER BY place)::text
 """
-CLAIM_WIRED = prepared.numbered(CLAIM, "tasks", "most", "workers", "seconds")
+"""All rows as one text, which is read in less time than several cells of each."""
+CLAIM = f"WITH {CLOCK}, {CLAIMED} SELECT {ROWS} FROM taken"
 EARLIER = """
 INSERT INTO attempt_spans VALUES(%(id)s, %(step)s, %(action)s, %(number)s, %(at)s, %(spans)s)
 ON CONFLICT DO NOTHING RETURNING 1
@@ -85,10 +100,10 @@ UPDATE external_attempts SET outcome = %(outcome)s, value = %(value)s, reported 
 WHERE attempt = %(attempt)s AND {TAKES.format(lease="%(lease)s", outcome="%(outcome)s")}
 RETURNING shard
 """
-REPORTS = f"""
-WITH r AS MATERIALIZED (
-  SELECT * FROM unnest($1::text[], $2::bigint[], $3::text[], $4::text[])
-    AS r(attempt, number, came, told)),
+REPORTED = f"""
+r AS MATERIALIZED (
+  SELECT * FROM unnest(%(attempts)s::text[], %(leases)s::bigint[], %(outcomes)s::text[],
+    %(values)s::text[]) AS r(attempt, number, came, told)),
 free AS MATERIALIZED (
   SELECT e.attempt FROM external_attempts e JOIN r USING (attempt) FOR UPDATE OF e SKIP LOCKED),
 kept AS (
@@ -96,15 +111,31 @@ kept AS (
   FROM free JOIN r USING (attempt) WHERE external_attempts.attempt = free.attempt
     AND {TAKES.format(lease="r.number", outcome="r.came")}
   RETURNING free.attempt, shard)
-SELECT json_object_agg(attempt, shard)::text FROM kept
 """
 """Each attempt once. One whose row another transaction has is passed over: who waits for several
 rows may wait for somebody who waits for this one.
 """
+UNREPORTED = CLAIMED.replace(LAPSED, f"{LAPSED} AND e.attempt <> ALL(%(attempts)s::text[])")
+"""Claims beside reports: what is reported is not claimed by the same statement, which changes a row
+once.
+"""
+SHARDS = "json_object_agg(attempt, shard)::text"
+CLAIM_WORDS = ("tasks", "most", "workers", "seconds")
+REPORT_WORDS = ("attempts", "leases", "outcomes", "values")
+CLAIMS_WIRED = prepared.numbered(
+    f"WITH {CLOCK}, {CLAIMED} SELECT {ROWS}, NULL FROM taken", *CLAIM_WORDS
+)
+REPORTS_WIRED = prepared.numbered(f"WITH {REPORTED} SELECT NULL, {SHARDS} FROM kept", *REPORT_WORDS)
+BOTH_WIRED = prepared.numbered(
+    f"WITH {CLOCK}, {UNREPORTED}, {REPORTED} "
+    f"SELECT (SELECT {ROWS} FROM taken), (SELECT {SHARDS} FROM kept)",
+    *CLAIM_WORDS, *REPORT_WORDS,
+)  # fmt: skip
+"""The rows of claims, and the shards of the reports that count."""
 FIND = "SELECT lease, outcome, value, reported FROM external_attempts WHERE attempt = %(attempt)s"
 ALL_REPORTED = (
     "SELECT attempt, outcome, value FROM external_attempts WHERE shard = "
-    f"ANY(%(shards)s::bigint[]) AND {REPORTED}"
+    f"ANY(%(shards)s::bigint[]) AND {external.REPORTED}"
 )
 WAITING = f"""
 WITH {CLOCK}
@@ -126,21 +157,13 @@ RETURNING 1
 TELL = f"SELECT pg_notify('{CHANNEL}', 'reported')"
 
 
-class _Wanted(NamedTuple):
-    """A claim of at most so many tasks, for so many seconds."""
-
-    most: int
-    seconds: float
-    worker: str
+_Told = Union[list[list[Any]], Optional[int]]
+"""The rows of a claim; the shard of a report, or None if it does not count."""
 
 
-class _Reported(NamedTuple):
-    """A report."""
-
-    attempt: str
-    lease: int
-    outcome: str
-    value: str
+def _group(one: Asked) -> tuple[str, ...] | None:
+    """Claims of the same tasks are made by one statement; any reports go with them."""
+    return one.tasks if isinstance(one, Wanted) else None
 
 
 def rows_of(text: str | bytes | None) -> list[list[Any]]:
@@ -149,14 +172,26 @@ def rows_of(text: str | bytes | None) -> list[list[Any]]:
     return found
 
 
+def _divided(wanted: Sequence[Wanted], rows: Sequence[list[Any]]) -> list[list[list[Any]]]:
+    """The rows of each claim: those that came first have those that have waited longest."""
+    by_place = {row[8]: row for row in rows}
+    found, place = [], 0
+    for one in wanted:
+        places = range(place + 1, place + one.most + 1)
+        found.append([by_place[at] for at in places if at in by_place])
+        place += one.most
+    return found
+
+
 class PostgreSQLExternalAttempts:
     """As `ExternalAttempts`, by a node's connections.
 
     Claims and reports share a connection of their own, which is made with the first of them and
-    repeats prepared statements. Claims of tasks with a concurrency use the pool, and so do all
-    others while the server has no connection to spare. Measured on 2026-11-28 in lots of ten, on
-    a busy machine: a claim takes 33 us to 48 us of the node's processor in place of 121 us by the
-    pool, and a report 30 us to 37 us in place of 81 us to 90 us.
+    repeats prepared statements. Those that come while it is at work go into its next statement.
+    Claims of tasks with a concurrency use the pool, and so do all others while the server has no
+    connection to spare. Measured on 2026-11-28 in lots of ten, on a busy machine: a claim takes
+    33 us to 48 us of the node's processor in place of 121 us by the pool, and a report 30 us to
+    37 us in place of 81 us to 90 us.
     """
 
     def __init__(self, url: str, asker: Asker) -> None:
@@ -164,60 +199,92 @@ class PostgreSQLExternalAttempts:
         self._own = prepared.Kept(url, asker.where)
         asker.attach(self._own)
         self._locking = asyncio.Lock()  # claims that wait for other nodes hold one of the pool
-        self._claims: dict[tuple[str, ...], Lots[_Wanted, list[list[Any]]]] = {}
-        self._reports = Lots(self._report_all, MOST_REPORTS)
+        self._lots: Lots[Asked, Any] = Lots(self._ask_all, MOST, self._dropped, _group)
+        self._unwanted: Callable[[Sequence[Claim]], object] = lambda claims: None
         self.deliveries: Deliveries = PostgreSQLDeliveries(asker)
 
-    def begin(self, *_: object) -> None:
+    def begin(
+        self,
+        write: Callable[[Batch], Awaitable[None]],
+        clock: Callable[[], float],
+        unwanted: Callable[[Sequence[Claim]], object],
+    ) -> None:
         """Each call is a statement of its own."""
+        self._unwanted = unwanted
 
     async def claim(
         self, tasks: Sequence[str], limited: Sequence[str], most: int, seconds: float, worker: str
     ) -> list[Claim]:
-        wanted, found = _Wanted(most, float(seconds), clean(worker)), []
-        tasks = [*map(clean, tasks)]
+        names = (*map(clean, tasks),)
+        wanted = Wanted(names, max(0, most), float(seconds), clean(worker))
         if limited:
-            rows = await self._alone(tasks, limited, wanted)
+            rows = await self._alone(limited, wanted)
         else:
-            rows = await self._lot(tuple(tasks)).ask(wanted)
-        for *claim, _, number, since, had, lease, until in rows:
-            found.append(Claim(*claim))
+            rows = await self._lots.ask(wanted)
+        found = [Claim(*row[:8]) for row in rows]
+        try:
+            await self._note_earlier(rows)
+        except asyncio.CancelledError:
+            self._unwanted(found)
+            raise
+        return found
+
+    async def _note_earlier(self, rows: Sequence[list[Any]]) -> None:
+        """Note the earlier leases of what was claimed."""
+        for _, _, _, id, step, action, _, _, _, number, since, had, lease, until in rows:
             if since is not None:
                 told = {"at": since, "spans": earlier(since, had, lease, until)}
-                at = {"id": claim[3], "step": claim[4], "action": claim[5], "number": number}
+                at = {"id": id, "step": step, "action": action, "number": number}
                 with contextlib.suppress(StoreUnavailable):
                     await self._asker.ask(EARLIER, **at, **told)
-        return found
 
-    def _lot(self, tasks: tuple[str, ...]) -> Lots[_Wanted, list[list[Any]]]:
-        """The claims of these tasks."""
-        if tasks not in self._claims:
-            self._claims = {name: one for name, one in self._claims.items() if not one.is_idle}
-            ask = functools.partial(self._claim_all, tasks)
-            self._claims[tasks] = Lots(ask, MOST_CLAIMS)
-        return self._claims[tasks]
+    def _dropped(self, what: Asked, answer: Any) -> None:
+        if isinstance(what, Wanted):
+            self._unwanted([Claim(*row[:8]) for row in answer])
 
-    async def _claim_all(
-        self, tasks: Sequence[str], some: Sequence[_Wanted]
-    ) -> list[list[list[Any]]]:
-        """The rows of each claim: those that came first have those that have waited longest."""
-        each = [one for one in some for _ in range(one.most)]
-        workers, seconds = [one.worker for one in each], [one.seconds for one in each]
+    async def _ask_all(self, some: Sequence[Asked]) -> list[_Told]:
+        """The answers to claims of the same tasks, and to reports."""
+        wanted = [one for one in some if isinstance(one, Wanted)]
+        reports = {one.attempt: one for one in reversed(some) if isinstance(one, Reported)}
         if self._own.is_open or await self._has_own():
-            words = [prepared.array(tasks), b"%d" % len(each), prepared.array(workers)]
-            ((text,),) = await self._own.ask(
-                CLAIM_WIRED, *words, prepared.array(map(repr, seconds))
-            )
+            rows, shards = await self._ask_own(wanted, [*reports.values()])
         else:
-            told = {"tasks": [*tasks], "most": len(each), "workers": workers, "seconds": seconds}
-            ((text,),) = await self._asker.ask(CLAIM, **told)
-        by_place = {row[8]: row for row in rows_of(text)}
-        found, place = [], 0
-        for one in some:
-            places = range(place + 1, place + one.most + 1)
-            found.append([by_place[at] for at in places if at in by_place])
-            place += one.most
-        return found
+            rows, shards = await self._claim_all(wanted), {}  # each report goes alone
+        claims = iter(_divided(wanted, rows))
+        return [
+            next(claims)
+            if isinstance(one, Wanted)
+            else shards.get(one.attempt)
+            if reports[one.attempt] is one
+            else None
+            for one in some
+        ]
+
+    async def _ask_own(
+        self, wanted: Sequence[Wanted], reports: Sequence[Reported]
+    ) -> tuple[list[list[Any]], dict[str, int]]:
+        words: list[bytes] = []
+        if wanted:
+            each = [one for one in wanted for _ in range(one.most)]
+            seconds = prepared.array([repr(one.seconds) for one in each])
+            workers = prepared.array([one.worker for one in each])
+            words += [prepared.array(wanted[0].tasks), b"%d" % len(each), workers, seconds]
+        if reports:
+            attempts, leases, outcomes, values = zip(*reports)
+            words += map(prepared.array, (attempts, map(str, leases), outcomes, values))
+        text = CLAIMS_WIRED if not reports else BOTH_WIRED if wanted else REPORTS_WIRED
+        ((rows, shards),) = await self._own.ask(text, *words)
+        return rows_of(rows), json.loads(shards) if shards else {}
+
+    async def _claim_all(self, wanted: Sequence[Wanted]) -> list[list[Any]]:
+        """The rows of claims of the same tasks, by the pool."""
+        if not wanted:
+            return []
+        each = [one for one in wanted for _ in range(one.most)]
+        told = {"workers": [one.worker for one in each], "seconds": [one.seconds for one in each]}
+        tasks = [*wanted[0].tasks]
+        ((text,),) = await self._asker.ask(CLAIM, tasks=tasks, most=len(each), **told)
+        return rows_of(text)
 
     async def _has_own(self) -> bool:
         """Connect, if the server has a connection to spare."""
@@ -227,11 +294,23 @@ class PostgreSQLExternalAttempts:
             return False
         return True
 
-    async def _alone(
-        self, tasks: Sequence[str], limited: Sequence[str], wanted: _Wanted
-    ) -> list[list[Any]]:
-        """A claim of tasks with a concurrency. No other node claims them meanwhile."""
-        words = {"tasks": [*tasks], "most": wanted.most, "workers": [wanted.worker] * wanted.most}
+    async def _alone(self, limited: Sequence[str], wanted: Wanted) -> list[list[Any]]:
+        """A claim of tasks with a concurrency. It goes on where its caller is cancelled."""
+        claiming = asyncio.get_running_loop().create_task(self._claim_limited(limited, wanted))
+        try:
+            return await asyncio.shield(claiming)
+        except asyncio.CancelledError:
+            claiming.add_done_callback(functools.partial(self._over, wanted))
+            raise
+
+    def _over(self, wanted: Wanted, claiming: asyncio.Task[list[list[Any]]]) -> None:
+        if not claiming.cancelled() and not claiming.exception():
+            self._dropped(wanted, claiming.result())
+
+    async def _claim_limited(self, limited: Sequence[str], wanted: Wanted) -> list[list[Any]]:
+        """The rows of a claim of tasks with a concurrency. No other node claims them meanwhile."""
+        workers = [wanted.worker] * wanted.most
+        words = {"tasks": [*wanted.tasks], "most": wanted.most, "workers": workers}
         with connections.faults(self._asker.where):
             async with self._locking, self._asker.pool.connection() as link, link.transaction():
                 await link.execute(LOCK, {"limited": list(limited)})
@@ -248,22 +327,12 @@ class PostgreSQLExternalAttempts:
         await self._asker.ask(ADVANCE, **words)
 
     async def report(self, attempt: str, lease: int, outcome: str, value: str) -> int | None:
-        one = _Reported(attempt, lease, outcome, clean(value))
-        shard = await self._reports.ask(one)
+        one = Reported(attempt, lease, outcome, clean(value))
+        shard: int | None = await self._lots.ask(one)
         if shard is None:  # it does not count, or somebody has its row
             rows = await self._asker.ask(REPORT, **one._asdict())
             shard = int(rows[0][0]) if rows else None
         return shard
-
-    async def _report_all(self, some: Sequence[_Reported]) -> list[int | None]:
-        if not self._own.is_open and not await self._has_own():
-            return [None for _ in some]  # each is reported alone
-        first = {one.attempt: one for one in reversed(some)}
-        attempts, leases, outcomes, values = zip(*first.values())
-        words = [attempts, map(str, leases), outcomes, values]
-        rows = await self._own.ask(REPORTS, *map(prepared.array, words))
-        taken: dict[str, int] = json.loads(rows[0][0] or "{}")
-        return [taken.get(one.attempt) if first[one.attempt] is one else None for one in some]
 
     async def find(self, attempt: str) -> Row | None:
         rows = await self._asker.read(FIND, attempt=attempt)

@@ -1,0 +1,65 @@
+"""What workers get of external steps, and how many tasks wait for them."""
+
+from __future__ import annotations
+
+import dataclasses
+from typing import Any
+
+from sagas.definition.task import Task
+
+Word = tuple[str, str, str]
+"""A saga's name, a step's, and `run` or `undo`."""
+
+
+@dataclasses.dataclass(frozen=True, slots=True)
+class LeasedTask:
+    """Hold a task that a worker has claimed.
+
+    Attributes:
+        attempt_id: The id of the attempt, under which it is reported.
+        lease: The lease under which it is reported.
+        until: When the lease ends, in seconds since 1970.
+        task: What the step's function is called with.
+        given: `task.given` as JSON.
+    """
+
+    attempt_id: str
+    lease: str
+    until: float
+    task: Task[Any]
+    given: str = "null"
+
+
+@dataclasses.dataclass(frozen=True, slots=True)
+class Heartbeat:
+    """Answer a worker's heartbeat.
+
+    Attributes:
+        until: When the lease ends, in seconds since 1970.
+        cancelled: Why the saga is being undone, as `task.cancelled.reason` says it: `aborted` or
+            `failed`; None while it is not.
+    """
+
+    until: float
+    cancelled: str | None
+
+
+@dataclasses.dataclass(frozen=True, slots=True)
+class Queue:
+    """Count the tasks of one step that are for workers.
+
+    Attributes:
+        saga: The saga's name.
+        step: The step's name.
+        undo: Whether the step's compensation is meant.
+        ready: How many tasks no worker has.
+        oldest: Since when the oldest of them waits, in seconds since 1970, or None.
+        claimed: How many tasks workers have.
+    """
+
+    saga: str
+    step: str
+    undo: bool
+    ready: int
+    oldest: float | None
+    claimed: int

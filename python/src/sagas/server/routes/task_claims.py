@@ -1,0 +1,162 @@
+"""Claims of workers: alone, and with a report."""
+
+from __future__ import annotations
+
+import asyncio
+import contextlib
+import functools
+import re
+from typing import Any
+
+from sagas.base.errors import SagasError
+from sagas.runtime.leased_tasks import LeasedTask, Word
+from sagas.server import json_views, problems
+from sagas.server.client_waits import first
+from sagas.server.middleware import GONE
+from sagas.server.operations import Call
+from sagas.server.problems import Problem
+
+NAME = "[a-z][a-z0-9_-]{0,31}"
+WORD = re.compile(rf"({NAME})/((?:{NAME}/)*?{NAME})(/undo)?\Z")
+HEARTBEATS = 3
+"""How many heartbeats fit into a lease, so that two of them may be lost."""
+PATIENCE = 25.0
+"""Seconds that a claim may take, beside those that it waits for tasks."""
+
+
+def words_of(steps: list[str], place: str = "steps") -> list[Word]:
+    """The steps that are asked for. Raises `Problem`."""
+    found: list[Word] = []
+    for number, step in enumerate(steps):
+        word = _word_of(step)
+        if word is None:
+            where = f"{place}.{number}"
+            raise Problem(
+                "InvalidRequest",
+                f"{where}: {step[:80]!r}: a step is saga/step, or saga/step/undo",
+                where,
+            )
+        found.append(word)
+    return found
+
+
+@functools.lru_cache(1000)  # workers ask for the same again
+def _word_of(step: str) -> Word | None:
+    told = WORD.match(step)
+    return (told[1], told[2], "undo" if told[3] else "run") if told else None
+
+
+async def claimed(call: Call, body: dict[str, Any]) -> dict[str, Any]:
+    """Claims, as long as the client is there; none where the service is about to stop."""
+    found = await _claimed(call, body, body["limit"], body["wait"])
+    return _answer(call, body, await _handed(call, found))
+
+
+class NextClaim:
+    """What is claimed with reports.
+
+    The claim begins when the last report is stored: meanwhile the reports become part of their
+    sagas. What is offered because of them is claimed behind it, up to the limit. What no client
+    hears of is given back.
+    """
+
+    def __init__(self, call: Call, body: dict[str, Any] | None, reports: int = 1) -> None:
+        """`body`: what is to be claimed; None: nothing is."""
+        self._call, self._body, self._missing = call, body, reports
+        self._claiming: asyncio.Task[list[LeasedTask]] | None = None
+        self._found: list[LeasedTask] = []
+
+    async def __aenter__(self) -> NextClaim:
+        return self
+
+    async def __aexit__(self, fault: type[BaseException] | None, *_: object) -> None:
+        if fault is None:
+            return
+        if self._claiming is not None:
+            self._claiming.cancel()
+            with contextlib.suppress(asyncio.CancelledError, Exception):
+                self._found = await self._claiming
+        await _give_back(self._call, self._found)
+
+    def stored(self) -> None:
+        """A report is stored."""
+        self._missing -= 1
+        if self._body is None or self._missing:
+            return
+        if not self._call.service.is_stopping and not _is_gone(self._call):
+            self._claiming = _claim(self._call, self._body, self._body["limit"], 0.0)
+
+    async def answer(self) -> dict[str, Any] | None:
+        """What is answered, once the reports are over."""
+        if self._body is None:
+            return None
+        call, body = self._call, self._body
+        if self._claiming is not None:
+            if not await _is_over(call, self._claiming, 0.0):
+                return _answer(call, body, [])
+            claiming, self._claiming = self._claiming, None
+            self._found = claiming.result()
+        if not self._found:
+            self._found = await _claimed(call, body, body["limit"], body["wait"])
+        elif len(self._found) < body["limit"]:
+            with contextlib.suppress(SagasError):  # the client gets those that it has
+                self._found += await _claimed(call, body, body["limit"] - len(self._found), 0.0)
+        return _answer(call, body, await _handed(call, self._found))
+
+
+def _is_gone(call: Call) -> bool:
+    """Whether nobody hears the answer."""
+    is_gone: bool = call.request.scope[GONE].done()
+    return is_gone
+
+
+async def _handed(call: Call, found: list[LeasedTask]) -> list[LeasedTask]:
+    """What the client gets. If it is gone, others may claim that at once."""
+    if not _is_gone(call):
+        return found
+    await _give_back(call, found)
+    return []
+
+
+async def _give_back(call: Call, found: list[LeasedTask]) -> None:
+    with contextlib.suppress(SagasError):  # then the leases end by themselves
+        await call.service.store.workers.give_back(found, holder=call.who.name)
+
+
+def _claim(
+    call: Call, body: dict[str, Any], limit: int, wait: float
+) -> asyncio.Task[list[LeasedTask]]:
+    service, who = call.service, call.who
+    name = f"{who.name}/{body['worker']}" if body["worker"] else who.name
+    service.saw(name, body["steps"])
+    work = service.store.workers.claim(
+        words_of(body["steps"]),
+        limit=limit,
+        wait=wait,
+        lease=body["lease"],
+        worker=name,
+        holder=who.name,
+    )
+    return asyncio.get_running_loop().create_task(work)
+
+
+async def _is_over(call: Call, claiming: asyncio.Task[list[LeasedTask]], wait: float) -> bool:
+    """Whether it came to an end while the client was there; else it is cancelled."""
+    return claiming.done() or await first(call.request, call.who, claiming, wait + PATIENCE)
+
+
+async def _claimed(call: Call, body: dict[str, Any], limit: int, wait: float) -> list[LeasedTask]:
+    if call.service.is_stopping:
+        return []
+    claiming = _claim(call, body, limit, wait)
+    return claiming.result() if await _is_over(call, claiming, wait) else []
+
+
+def _answer(call: Call, body: dict[str, Any], found: list[LeasedTask]) -> dict[str, Any]:
+    now = call.service.store.now()
+    return {
+        "tasks": [json_views.task(one, now) for one in found],
+        "heartbeat_seconds": round(body["lease"] / HEARTBEATS, 3),
+        "repeat_statuses": problems.REPEAT,
+        "unknown_steps": sorted(set(body["steps"]) - call.service.words()),
+    }
