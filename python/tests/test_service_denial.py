@@ -123,6 +123,22 @@ def answered(one: socket.socket) -> tuple[int, str]:
     return int(head.split(b" ")[1]), told.get("type", "").rpartition(":")[2]
 
 
+def test_a_client_that_goes_before_its_body_is_whole(tmp_path: pathlib.Path) -> None:
+    """It is no fault of the service, whose log says that the request got no answer."""
+    with served(tmp_path, DEFINITIONS, "--log", "json") as service:
+        with raw(service) as one:
+            one.sendall(
+                f"POST /v1/sagas/k/abort HTTP/1.1\r\nHost: {service.address}\r\nContent-Type: "
+                "application/json\r\nContent-Length: 20\r\n\r\n{".encode()
+            )
+        deadline = time.monotonic() + LONG
+        while not (told := [line for line in service.told().splitlines() if "/k/abort" in line]):
+            assert time.monotonic() < deadline
+            time.sleep(0.05)
+    (line,) = map(json.loads, told)
+    assert (line["logger"], line["status"]) == ("sagas.http", 0)
+
+
 POSTS = ("/v1/sagas", "/v1/tasks/claim", "/v1/sagas/x/steps/y/complete", "/v1/sagas/x/abort", "/v1/tasks/x/complete")
 REFUSED: list[tuple[str, str | None, set[int]]] = [
     *((path, name, {401, 429}) for path in POSTS for name in (None, "wrong")),

@@ -20,6 +20,7 @@ from shaped import Hotel, Order, Package, Parcel, Trip, booking, order, parcels,
 
 import sagas
 from sagas.cli import store_command
+from sagas.core.shard_definitions import ShardDefinitions
 from sagas.definition.capacity import MOST_ADDED
 from sagas.runtime import shard_parts
 from sagas.storage import admin
@@ -186,9 +187,7 @@ def test_each_its_own_definition(place: str) -> None:
     assert rows(place, "SELECT count(*) FROM definitions") == [(150,)]
 
 
-def test_definitions_start_no_further_engine(
-    place: str, monkeypatch: pytest.MonkeyPatch
-) -> None:
+def test_definitions_start_no_further_engine(place: str, monkeypatch: pytest.MonkeyPatch) -> None:
     """Each saga has a definition of its own, and each shard still has one engine, its first."""
     engines: list[str] = []
 
@@ -323,6 +322,39 @@ def test_engines_are_killed_while_definitions_come(place: str) -> None:
             ends = await asyncio.gather(*(one(number) for number in range(40)))
             killer.cancel()
             assert kills > 3
+            assert all(end.ok == (number % 3 != 1) for number, end in enumerate(ends))
+            assert is_good(await store.audit())
+
+    run(main())
+
+
+def test_an_engine_refuses_definitions_while_sagas_of_them_are_opened(
+    place: str, monkeypatch: pytest.MonkeyPatch
+) -> None:
+    """Those behind a refused one have other places in that engine. No saga gets one of them."""
+    refused, asked = 0, ShardDefinitions.define_lines
+
+    def define_lines(self: ShardDefinitions) -> list[str]:
+        nonlocal refused
+        lines = asked(self)
+        if self.has_grown and len(lines) > 1:  # the second one gets the place of the first
+            refused += 1
+            lines[0] = '{"definition":"","do":"define"}'
+        return lines
+
+    monkeypatch.setattr(ShardDefinitions, "define_lines", define_lines)
+
+    async def main() -> None:
+        async with sagas.open(place, [order, plain]) as store:
+
+            async def one(number: int) -> sagas.SagaResult:
+                await asyncio.sleep(number // 10 / 10)
+                bad = 1 if number % 3 == 1 else None
+                given = parcels(number % 7 + 2, bad, lambda item: number * 9 + item)
+                return await surely_ended(store, order, f"o{number}", given)
+
+            ends = await asyncio.gather(*(one(number) for number in range(100)))
+            assert refused
             assert all(end.ok == (number % 3 != 1) for number, end in enumerate(ends))
             assert is_good(await store.audit())
 

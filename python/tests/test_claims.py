@@ -1,0 +1,363 @@
+"""Claims and reports that come together, and callers that are cancelled."""
+
+from __future__ import annotations
+
+import asyncio
+import contextlib
+import json
+import pathlib
+import socket
+import types
+from collections.abc import Callable, Sequence
+from typing import Any
+
+import pytest
+from cases import run
+from serving import served, start, take
+
+import sagas
+from sagas.base.errors import Closed, StoreUnavailable
+from sagas.server.middleware import GONE, SERVICE
+from sagas.server.problems import Problem
+from sagas.server.routes import task_claims
+from sagas.storage.lots import Lots
+
+WORD = [("far", "a", "run")]
+
+
+def opened(place: str, saga: sagas.Saga) -> sagas.Store:
+    """A store that serves workers."""
+    store = sagas.open(place, [saga])
+    store.leased = True
+    return store
+
+
+class Table:
+    """Answers a lot when it is told to, and keeps what it was asked."""
+
+    def __init__(self) -> None:
+        self.asked: list[list[str]] = []
+        self.dropped: list[tuple[str, str]] = []
+        self.may = asyncio.Event()
+        self.fault: Exception | None = None
+        self.then: Callable[[], object] = lambda: None
+        self.lots: Lots[str, str] = Lots(self.ask, 4, self.drop, self.group)
+
+    def drop(self, what: str, answer: str) -> None:
+        self.dropped.append((what, answer))
+
+    def group(self, what: str) -> str | None:
+        return what[0] if what[0].isupper() else None
+
+    async def ask(self, some: Sequence[str]) -> list[str]:
+        self.asked.append([*some])
+        await self.may.wait()
+        self.then()
+        if self.fault:
+            raise self.fault
+        return [what * 2 for what in some]
+
+
+def test_a_lot_has_one_group_at_most() -> None:
+    """What comes while the first is asked waits. Each lot has what has waited longest."""
+
+    async def main() -> None:
+        table = Table()
+        first = asyncio.create_task(table.lots.ask("A0"))
+        await asyncio.sleep(0.01)
+        rest = [
+            asyncio.create_task(table.lots.ask(what))
+            for what in ("A1", "B1", "x", "A2", "B2", "y", "z")
+        ]
+        await asyncio.sleep(0.01)
+        assert table.asked == [["A0"]]
+        table.may.set()
+        assert await first == "A0A0"
+        assert await asyncio.gather(*rest) == ["A1A1", "B1B1", "xx", "A2A2", "B2B2", "yy", "zz"]
+        assert table.asked[1:] == [["A1", "x", "A2", "y"], ["B1", "B2", "z"]]
+        assert not table.dropped
+
+    run(main())
+
+
+def test_a_lot_that_fails() -> None:
+    """Its callers hear of it, and the next lot is asked."""
+
+    async def main() -> None:
+        table = Table()
+        table.fault = StoreUnavailable("away")
+        table.may.set()
+        for _ in range(2):
+            with pytest.raises(StoreUnavailable):
+                await table.lots.ask("x")
+        table.fault = None
+        assert await table.lots.ask("y") == "yy"
+
+    run(main())
+
+
+def test_callers_that_are_cancelled() -> None:
+    """Their answers are dropped: also that of a caller who was told, and has not gone on yet."""
+
+    async def main() -> None:
+        table = Table()
+        some = [asyncio.create_task(table.lots.ask(what)) for what in ("x", "y", "z")]
+        await asyncio.sleep(0.01)
+        some[0].cancel()
+        table.then = lambda: asyncio.get_running_loop().call_soon(some[1].cancel)
+        table.may.set()
+        for one in some[:2]:
+            with pytest.raises(asyncio.CancelledError):
+                await one
+        assert await some[2] == "zz"
+        assert table.dropped == [("x", "xx"), ("y", "yy")]
+
+    run(main())
+
+
+def test_what_is_cancelled_before_it_is_asked() -> None:
+    """It is not asked: a claim would take from the others what is given back at once."""
+
+    async def main() -> None:
+        table = Table()
+        some = [asyncio.create_task(table.lots.ask(what)) for what in ("A0", "B1", "B2", "C3")]
+        await asyncio.sleep(0.01)
+        some[1].cancel()
+        some[3].cancel()
+        table.may.set()
+        assert await some[0] == "A0A0" and await some[2] == "B2B2"
+        await asyncio.sleep(0.01)
+        assert table.asked == [["A0"], ["B2"]] and not table.dropped
+        assert await table.lots.ask("x") == "xx"
+
+    run(main())
+
+
+def test_a_claim_that_is_cancelled_is_given_back(place: str) -> None:
+    """Wherever it was: the task can be claimed at once, though its lease would be long."""
+    saga = sagas.Saga("far")
+    saga.step(name="a", external=True, undo=0)
+
+    async def main() -> None:
+        async with opened(place, saga) as store:
+            await store.start(saga, "k")
+            for turns in range(25):
+                claiming = asyncio.create_task(store.workers.claim(WORD, wait=0, lease=600))
+                for _ in range(turns):
+                    await asyncio.sleep(0)
+                claiming.cancel()
+                with contextlib.suppress(asyncio.CancelledError):
+                    for task in await claiming:  # it was over by then
+                        await store.workers.heartbeat(task.attempt_id, task.lease, 0.0)
+            (task,) = await store.workers.claim(WORD, wait=30, lease=600)
+            assert await store.workers.report(task.attempt_id, task.lease, 5)
+            assert (await (await store.start(saga, "k")).wait(60)).results == {"a": 5}
+
+    run(main())
+
+
+def test_many_at_once(place: str) -> None:
+    """Each task is claimed once, and one of two reports of a task does not count."""
+    saga = sagas.Saga("far")
+    saga.step(name="a", external=True, undo=0)
+
+    async def main() -> None:
+        async with opened(place, saga) as store:
+            for number in range(12):
+                await store.start(saga, f"k{number}")
+            wanted = [
+                store.workers.claim(WORD, limit=limit, wait=30, lease=600) for limit in (1, 3, 2)
+            ]
+            found = await asyncio.gather(*wanted)
+            assert [len(tasks) for tasks in found] == [1, 3, 2]
+            tasks = [task for some in found for task in some]
+            reports = [
+                store.workers.report(task.attempt_id, task.lease, number)
+                for number, task in enumerate(tasks)
+            ]
+            again = store.workers.report(tasks[0].attempt_id, tasks[0].lease, "other")
+            more = store.workers.claim(WORD, limit=50, lease=600)
+            *kept, other, rest = await asyncio.gather(*reports, again, more, return_exceptions=True)
+            assert kept == [True] * 6 and isinstance(other, sagas.ConflictingReport)
+            assert not isinstance(rest, BaseException) and len(rest) == 6
+            assert len({task.attempt_id for task in [*tasks, *rest]}) == 12
+
+    run(main())
+
+
+def test_a_wrong_claim_is_in_nobodys_way(place: str) -> None:
+    """Half of a pair of characters in a worker's name, or a limit below 0: claims and reports
+    beside it are kept.
+    """
+    saga = sagas.Saga("far")
+    saga.step(name="a", external=True, undo=0)
+
+    async def main() -> None:
+        async with opened(place, saga) as store:
+            for number in range(3):
+                await store.start(saga, f"k{number}")
+            (task,) = await store.workers.claim(WORD, wait=30, lease=600)
+            one, none, other, kept = await asyncio.gather(
+                store.workers.claim(WORD, wait=30, lease=600),
+                store.workers.claim(WORD, limit=-1, lease=600),
+                store.workers.claim(WORD, wait=30, lease=600, worker="w\ud800"),
+                store.workers.report(task.attempt_id, task.lease, 5),
+            )
+            assert kept and not none
+            assert len({task.attempt_id, one[0].attempt_id, other[0].attempt_id}) == 3
+
+    run(main())
+
+
+@pytest.mark.parametrize("fault", [StoreUnavailable("away"), ValueError("odd"), None])
+def test_tasks_that_cannot_be_read_are_given_back(
+    place: str, fault: Exception | None, monkeypatch: pytest.MonkeyPatch
+) -> None:
+    """Also where their claim is cancelled meanwhile. What this node cannot hand out at all keeps
+    its lease: else nobody would get what has waited less long.
+    """
+    saga = sagas.Saga("far")
+    saga.step(name="a", external=True, undo=0)
+
+    async def main() -> None:
+        async with opened(place, saga) as store:
+            for number in range(3):
+                await store.start(saga, f"k{number}")
+            external, reading = store._inside.external, asyncio.Event()
+            whole, count = external._leased, 0
+
+            async def leased(*words: Any) -> Any:
+                nonlocal count
+                count += 1
+                if count == 2:
+                    reading.set()
+                    if fault:
+                        raise fault
+                    await asyncio.Event().wait()
+                return await whole(*words)
+
+            monkeypatch.setattr(external, "_leased", leased)
+            await asyncio.sleep(0.2)  # all are offered
+            claiming = asyncio.create_task(store.workers.claim(WORD, limit=3, wait=30, lease=600))
+            await reading.wait()
+            claiming.cancel() if fault is None else None
+            with pytest.raises(type(fault) if fault else asyncio.CancelledError):
+                await claiming
+            found: list[Any] = []
+            async with asyncio.timeout(20):
+                while len(found) < (2 if isinstance(fault, ValueError) else 3):
+                    found += await store.workers.claim(WORD, limit=3, wait=1, lease=600)
+            assert not await store.workers.claim(WORD, lease=600)
+
+    run(main())
+
+
+def test_what_is_reported_is_not_claimed(place: str) -> None:
+    """The lease is over, and its worker reports *done* when another one claims: in any order."""
+    saga = sagas.Saga("far")
+    saga.step(name="a", external=True, undo=0)
+
+    async def main() -> None:
+        async with opened(place, saga) as store:
+            for number in range(6):
+                started = await store.start(saga, f"k{number}")
+                (task,) = await store.workers.claim(WORD, wait=30, lease=0.01)
+                await asyncio.sleep(0.05)
+                both: list[Any] = [
+                    store.workers.claim(WORD, lease=600),
+                    store.workers.report(task.attempt_id, task.lease, number),
+                ]
+                turn = 1 if number % 2 else -1
+                found, kept = (await asyncio.gather(*both[::turn]))[::turn]
+                assert (found, kept) == ([], True)
+                assert (await started.wait(60)).results == {"a": number}
+
+    run(main())
+
+
+ONE = 'format = 2\nname = "one"\n[[step]]\nname = "a"\nundo = "never"\n'
+
+
+def test_a_client_that_goes_with_its_report_keeps_no_lease(
+    tmp_path: pathlib.Path, place: str
+) -> None:
+    """What was claimed for it can be claimed at once."""
+    with served(tmp_path, {"one.toml": ONE}, store=place) as service, service.client() as client:
+        for number in range(40):
+            start(client, "one", f"k{number}")
+        host, port = service.address.split(":")
+        for task in take(client, "one/a", most=20):
+            body = json.dumps(
+                {"lease": task["lease"], "next": {"steps": ["one/a"], "lease": 600}}
+            ).encode()
+            head = (
+                f"POST /v1/tasks/{task['attempt_id']}/complete HTTP/1.1\r\nHost: {host}\r\n"
+                f"Content-Type: application/json\r\nContent-Length: {len(body)}\r\n\r\n"
+            )
+            with socket.create_connection((host, int(port))) as link:
+                link.sendall(head.encode() + body)
+        found: list[object] = []
+        while some := take(client, "one/a", most=100, wait=2):
+            found += some
+        assert len(found) == 20
+
+
+class Claims:
+    """A service whose claims and reports come out as the case says."""
+
+    def __init__(self, *outcomes: list[str] | BaseException) -> None:
+        self.outcomes, self.given_back, self.is_stopping = [*outcomes], list[str](), False
+        self.store = types.SimpleNamespace(workers=self, now=lambda: 0.0)
+        self.tokens, self.stopping = None, asyncio.get_running_loop().create_future()
+        self.gone: asyncio.Future[None] = asyncio.get_running_loop().create_future()
+
+    def saw(self, *_: object) -> None:
+        ...
+
+    def words(self) -> set[str]:
+        return set()
+
+    async def claim(self, *_: object, **__: object) -> list[str]:
+        outcome = self.outcomes.pop(0)
+        if isinstance(outcome, BaseException):
+            raise outcome
+        return outcome
+
+    async def give_back(self, tasks: list[str], holder: str) -> None:
+        self.given_back += tasks
+
+
+@pytest.mark.parametrize(
+    ("second", "of_report", "found", "back"),
+    [
+        (["t2"], None, ["t1", "t2"], []),
+        (Closed("closed"), None, ["t1"], []),
+        (Problem("RightsChanged", "ask again"), None, None, ["t1"]),
+        (["t2"], ValueError("of the report"), None, ["t1"]),
+        (["t2"], asyncio.CancelledError(), None, ["t1"]),
+    ],
+)
+def test_what_was_claimed_and_is_not_answered(
+    second: list[str] | BaseException, of_report: BaseException | None,
+    found: list[str] | None, back: list[str], monkeypatch: pytest.MonkeyPatch,
+) -> None:  # fmt: skip
+    """It is given back, whether the report or the claim behind it raises."""
+    monkeypatch.setattr(task_claims.json_views, "task", lambda one, now: one)
+
+    async def main() -> None:
+        service = Claims(["t1"], second)
+        request: Any = types.SimpleNamespace(scope={GONE: service.gone, SERVICE: service})
+        who: Any = types.SimpleNamespace(name="w")
+        call: Any = types.SimpleNamespace(service=service, who=who, request=request)
+        body = {"steps": ["far/a"], "limit": 3, "wait": 0.0, "lease": 9.0, "worker": ""}
+        told: Any = None
+        with contextlib.suppress(Problem, ValueError, asyncio.CancelledError):
+            async with task_claims.NextClaim(call, body) as claim:
+                claim.stored()
+                await asyncio.sleep(0.01)
+                if of_report:
+                    raise of_report
+                told = await claim.answer()
+        assert (told and told["tasks"], service.given_back) == (found, back)
+
+    run(main())

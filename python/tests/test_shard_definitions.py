@@ -1,0 +1,110 @@
+"""What an engine is asked about a shard's definitions, with the real engine."""
+
+from __future__ import annotations
+
+import pathlib
+from collections.abc import Iterator, Sequence
+from contextlib import contextmanager
+from typing import Any
+
+import pytest
+from core_world import Engine
+
+import sagas
+from sagas.core.replies import Disagrees
+from sagas.core.saga_instance import SagaInstance
+from sagas.core.shard import ShardDriver, ShardIdentity
+from sagas.core.shard_definitions import ShardDefinitions
+from sagas.core.states import ShardState
+from sagas.definition.compiled import Kind
+
+
+def kind(name: str) -> Kind:
+    """A definition of one step."""
+    saga = sagas.Saga(name)
+
+    @saga.step
+    async def step(task: sagas.Task[Any]) -> None:
+        ...
+
+    return Kind(saga.toml(), saga)
+
+
+@contextmanager
+def engine(folder: pathlib.Path, kinds: Sequence[Kind]) -> Iterator[Engine]:
+    """`sagas drive --lines` with these definitions."""
+    paths = [folder / f"{number}.toml" for number in range(len(kinds))]
+    for path, one in zip(paths, kinds):
+        path.write_text(one.text)
+    started = Engine(paths, None)
+    try:
+        yield started
+    finally:
+        started.kill()
+
+
+def turn(driver: ShardDriver, engine: Engine, *opened: SagaInstance) -> list[str]:
+    """Open sagas by one question. Returns its lines."""
+    for saga in opened:
+        driver.open(saga)
+    lines = driver.requests(0)
+    answer = driver.replies(*engine.ask(lines), 1.0)
+    assert not isinstance(answer, list)
+    driver.writes(answer)
+    driver.committed(answer)
+    return lines
+
+
+def driver_of(kinds: Sequence[Kind]) -> tuple[ShardDriver, ShardDefinitions]:
+    definitions = ShardDefinitions(kinds)
+    driver = ShardDriver.created(ShardIdentity(0, "shard", definitions))
+    driver.to(ShardState.STARTING)
+    driver.to(ShardState.ACTIVE)
+    return driver, definitions
+
+
+def instance(definitions: ShardDefinitions, of: Kind) -> SagaInstance:
+    return SagaInstance(of.name, "null", of, definitions.place(of))
+
+
+def test_the_first_definition_is_known_before_a_saga_of_it_is_opened(
+    tmp_path: pathlib.Path,
+) -> None:
+    """Behind it, a saga is opened by the same question as its definition is added."""
+    first, second, third, fourth = map(kind, ("first", "second", "third", "fourth"))
+    driver, definitions = driver_of([first])
+    with engine(tmp_path, [first]) as started:
+        asked = turn(driver, started, instance(definitions, first), instance(definitions, second))
+        assert ['"do":"define"' in line for line in asked] == [True, False]
+        assert (driver.opened, definitions.known) == (1, 2)
+        assert len(turn(driver, started)) == 1 and driver.opened == 2
+        both = instance(definitions, third), instance(definitions, fourth)
+        asked = turn(driver, started, *both, instance(definitions, third))
+        assert ['"do":"define"' in line for line in asked] == [True, True, False, False, False]
+    assert (driver.opened, definitions.known) == (5, 4)
+    assert [saga.place for saga in driver.sagas.values()] == [0, 1, 2, 3, 2]
+
+
+def test_no_saga_is_opened_with_another_definition(tmp_path: pathlib.Path) -> None:
+    """The engine gives a definition another place: nothing that it said of it counts, and an
+    engine is wanted that begins with all definitions.
+    """
+    first, second, third = map(kind, ("first", "second", "third"))
+    driver, definitions = driver_of([first])
+    with engine(tmp_path, [first]) as started:
+        turn(driver, started, instance(definitions, second))
+        turn(driver, started)
+        started.ask([kind_line(kind("beside"))])
+        with pytest.raises(Disagrees, match="definition 2"):
+            turn(driver, started, instance(definitions, third))
+        assert definitions.is_fixed and definitions.known == 2
+        assert [saga.kind.name for saga in driver.sagas.values()] == ["second"]
+        driver.fail()
+        assert driver.state is ShardState.STALE
+
+
+def kind_line(of: Kind) -> str:
+    """The request that adds a definition, which the driver does not know of."""
+    definitions = ShardDefinitions([])
+    definitions.place(of)
+    return definitions.define_lines()[0]
