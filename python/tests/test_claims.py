@@ -32,6 +32,13 @@ def opened(place: str, saga: sagas.Saga) -> sagas.Store:
     return store
 
 
+def far() -> sagas.Saga:
+    """One step, which workers do."""
+    saga = sagas.Saga("far")
+    saga.step(name="a", external=True, undo=0)
+    return saga
+
+
 class Table:
     """Answers a lot when it is told to, and keeps what it was asked."""
 
@@ -135,8 +142,7 @@ def test_what_is_cancelled_before_it_is_asked() -> None:
 
 def test_a_claim_that_is_cancelled_is_given_back(place: str) -> None:
     """Wherever it was: the task can be claimed at once, though its lease would be long."""
-    saga = sagas.Saga("far")
-    saga.step(name="a", external=True, undo=0)
+    saga = far()
 
     async def main() -> None:
         async with opened(place, saga) as store:
@@ -158,8 +164,7 @@ def test_a_claim_that_is_cancelled_is_given_back(place: str) -> None:
 
 def test_many_at_once(place: str) -> None:
     """Each task is claimed once, and one of two reports of a task does not count."""
-    saga = sagas.Saga("far")
-    saga.step(name="a", external=True, undo=0)
+    saga = far()
 
     async def main() -> None:
         async with opened(place, saga) as store:
@@ -185,12 +190,11 @@ def test_many_at_once(place: str) -> None:
     run(main())
 
 
-def test_a_wrong_claim_is_in_nobodys_way(place: str) -> None:
+def test_a_wrong_claim_fails_no_other(place: str) -> None:
     """Half of a pair of characters in a worker's name, or a limit below 0: claims and reports
     beside it are kept.
     """
-    saga = sagas.Saga("far")
-    saga.step(name="a", external=True, undo=0)
+    saga = far()
 
     async def main() -> None:
         async with opened(place, saga) as store:
@@ -214,10 +218,9 @@ def test_tasks_that_cannot_be_read_are_given_back(
     place: str, fault: Exception | None, monkeypatch: pytest.MonkeyPatch
 ) -> None:
     """Also where their claim is cancelled meanwhile. What this node cannot hand out at all keeps
-    its lease: else nobody would get what has waited less long.
+    its lease: it would block what has waited less long.
     """
-    saga = sagas.Saga("far")
-    saga.step(name="a", external=True, undo=0)
+    saga = far()
 
     async def main() -> None:
         async with opened(place, saga) as store:
@@ -254,8 +257,7 @@ def test_tasks_that_cannot_be_read_are_given_back(
 
 def test_what_is_reported_is_not_claimed(place: str) -> None:
     """The lease is over, and its worker reports *done* when another one claims: in any order."""
-    saga = sagas.Saga("far")
-    saga.step(name="a", external=True, undo=0)
+    saga = far()
 
     async def main() -> None:
         async with opened(place, saga) as store:

@@ -88,7 +88,7 @@ class Workers:
         return await external.heartbeat(attempt_id, lease, holder, seconds, told)
 
     async def give_back(self, tasks: Iterable[LeasedTask], *, holder: str = "") -> None:
-        """Give back tasks that nobody performs, so that others may claim them at once.
+        """Give back tasks that are not performed, so that others may claim them at once.
 
         If the database does not answer, the leases end when their time is over.
 

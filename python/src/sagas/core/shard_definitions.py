@@ -20,9 +20,9 @@ class ShardDefinitions:
         kinds: The same with this program's functions.
         stored: How many of them the store has, or will have.
         known: How many of them the engine knows.
-        has_grown: Whether the engine has learned one behind its start: then sagas of the next ones
-            are opened by the same question.
-        is_fixed: Whether it has refused one: then another one takes its place.
+        has_grown: Whether the engine has learned one after its start: then a question that adds
+            definitions also opens their sagas.
+        is_fixed: Whether the engine has refused one: then another engine takes its place.
     """
 
     __slots__ = ("digest", "texts", "kinds", "stored", "known", "has_grown", "is_fixed", "_places")

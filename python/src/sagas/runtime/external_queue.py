@@ -214,8 +214,8 @@ class ExternalQueue(ExternalReports):
     async def _all_leased(
         self, claims: Sequence[Claim], worker: str, holder: str
     ) -> list[LeasedTask]:
-        """What a worker is handed. If that cannot be read, all of it is given back. A claim that
-        cannot be handed out keeps its lease, so that it is not in the way of the others.
+        """What a worker gets. If the store does not answer, all claims are given back. A claim
+        whose task cannot be read at all keeps its lease, so that it does not block the others.
         """
         found: list[LeasedTask | None] = []
         for claim in claims:
@@ -228,7 +228,7 @@ class ExternalQueue(ExternalReports):
         return [one for one in found if one]
 
     def _unwanted(self, claims: Sequence[Claim]) -> None:
-        """Nobody hears of them any more: they are given back."""
+        """Give back claims whose caller was cancelled."""
         if not self.owner.closed:
             for claim in claims:
                 self.owner.spawn(self._give_back(claim.attempt, claim.lease))

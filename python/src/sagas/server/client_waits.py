@@ -4,7 +4,6 @@ from __future__ import annotations
 
 import asyncio
 import contextlib
-from collections.abc import Sequence
 from typing import Any
 
 from starlette.requests import Request
@@ -19,11 +18,12 @@ async def first(request: Request, who: Who, work: "asyncio.Future[Any]", seconds
     """Waits for a piece of work, but no longer than the client, its token and the service are
     there. Whether it is done; else it is cancelled, to its end. Raises `Problem` where the token
     has ended."""
-    others, loop = (request.scope[GONE], service_of(request).stopping), asyncio.get_running_loop()
-    slice = seconds if service_of(request).tokens is None else min(seconds, CHECK)
+    service, loop = service_of(request), asyncio.get_running_loop()
+    some = {work, request.scope[GONE], service.stopping}
+    slice = seconds if service.tokens is None else min(seconds, CHECK)
     until = loop.time() + seconds
     try:
-        while not await waited((work, *others), min(slice, until - loop.time())):
+        while not await _any_done(some, min(slice, until - loop.time())):
             check_still(request, who)
             if loop.time() >= until:
                 return False
@@ -35,24 +35,9 @@ async def first(request: Request, who: Who, work: "asyncio.Future[Any]", seconds
                 await work
 
 
-async def waited(some: Sequence["asyncio.Future[Any]"], seconds: float) -> bool:
-    """Waits until one of them is done; False where none was in this time."""
-    if any(one.done() for one in some):
-        return True
-    loop = asyncio.get_running_loop()
-    over = loop.create_future()
-
-    def tell(_: object = None) -> None:
-        if not over.done():
-            over.set_result(None)
-
-    timer = loop.call_later(max(0.0, seconds), tell)
-    for one in some:
-        one.add_done_callback(tell)
-    try:
-        await over
-    finally:
-        timer.cancel()
-        for one in some:
-            one.remove_done_callback(tell)
-    return any(one.done() for one in some)
+async def _any_done(some: "set[asyncio.Future[Any]]", seconds: float) -> bool:
+    """Whether one of them is done, at the latest after this time."""
+    done, _ = await asyncio.wait(
+        some, timeout=max(0.0, seconds), return_when=asyncio.FIRST_COMPLETED
+    )
+    return bool(done)

@@ -241,7 +241,7 @@ class Passage:
     async def _through(self) -> None:
         try:
             await self.guard.app(self.scope, self.receive, self.send)
-        except ClientDisconnect:  # while its body was read: there is no client to answer
+        except ClientDisconnect:  # while its body was read
             return
         except Exception:
             if self._refused:

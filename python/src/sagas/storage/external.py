@@ -67,7 +67,7 @@ class Claim(NamedTuple):
 
 
 class Wanted(NamedTuple):
-    """A claim of at most so many attempts of these tasks, for so many seconds."""
+    """A claim of attempts of these tasks: the maximum number, and the seconds of a lease."""
 
     tasks: tuple[str, ...]
     most: int
@@ -133,8 +133,8 @@ class ExternalAttempts(Protocol):
         clock: Callable[[], float],
         unwanted: Callable[[Sequence[Claim]], object],
     ) -> None:
-        """`write`: puts a batch into the next transaction. `unwanted`: hears of claims whose
-        caller was cancelled before it had them."""
+        """`write`: puts a batch into the next transaction. `unwanted`: called with claims whose
+        caller was cancelled before it received them."""
 
     async def claim(
         self, tasks: Sequence[str], limited: Sequence[str], most: int, seconds: float, worker: str

@@ -1,6 +1,6 @@
 """One transaction for all that is asked while the database is at work on the one before.
 
-So many that ask at once cost one transaction, as those of a commit do.
+Callers that ask at the same time share a transaction, as those of a commit do.
 """
 
 from __future__ import annotations
@@ -17,9 +17,7 @@ A = TypeVar("A")
 
 
 class Lots(Generic[W, A]):
-    """Asks for lots, one behind the other. A lot has things of one group at most, and with them
-    those that have no group.
-    """
+    """Asks for lots, one after the other. The items of a lot are of one group, or of none."""
 
     def __init__(
         self,
@@ -33,8 +31,8 @@ class Lots(Generic[W, A]):
         Args:
             ask: Gives the answers to a lot, in its order.
             most: Maximum number in a lot.
-            dropped: Hears of each answer whose caller was cancelled meanwhile.
-            group: Gives the group of a thing; None if it has none (default: none has one).
+            dropped: Called with an item and its answer if its caller was cancelled meanwhile.
+            group: Gives the group of an item, or None (default: no item has a group).
         """
         self._ask, self._most, self._dropped, self._group = ask, most, dropped, group
         self._waiting: deque[tuple[W, asyncio.Future[A]]] = deque()

@@ -21,7 +21,7 @@ WORD = re.compile(rf"({NAME})/((?:{NAME}/)*?{NAME})(/undo)?\Z")
 HEARTBEATS = 3
 """How many heartbeats fit into a lease, so that two of them may be lost."""
 PATIENCE = 25.0
-"""Seconds that a claim may take, beside those that it waits for tasks."""
+"""Seconds that a claim may take, in addition to those that it waits for tasks."""
 
 
 def words_of(steps: list[str], place: str = "steps") -> list[Word]:
@@ -55,9 +55,9 @@ async def claimed(call: Call, body: dict[str, Any]) -> dict[str, Any]:
 class NextClaim:
     """What is claimed with reports.
 
-    The claim begins when the last report is stored: meanwhile the reports become part of their
-    sagas. What is offered because of them is claimed behind it, up to the limit. What no client
-    hears of is given back.
+    The claim begins when the last report is stored. Meanwhile the reports become part of their
+    sagas. A second claim takes tasks that are offered because of them, up to the limit. Tasks that
+    the client does not receive are given back.
     """
 
     def __init__(self, call: Call, body: dict[str, Any] | None, reports: int = 1) -> None:
@@ -105,7 +105,7 @@ class NextClaim:
 
 
 def _is_gone(call: Call) -> bool:
-    """Whether nobody hears the answer."""
+    """Whether the client is gone."""
     is_gone: bool = call.request.scope[GONE].done()
     return is_gone
 

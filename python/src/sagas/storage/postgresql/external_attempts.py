@@ -44,15 +44,20 @@ BOUND = (
     f"(SELECT o.concurrency FROM external_attempts o WHERE o.task = w.task AND o.{OPEN} AND "
     "o.concurrency IS NOT NULL LIMIT 1)"
 )
-LAPSED = "e.until <= clock.now"
-CLAIMED = f"""
+
+
+def _claimed(lapsed: str) -> str:
+    """For many claims of the same tasks: a worker and its seconds for each that may be claimed.
+    `lapsed`: which of those may be that had a lease.
+    """
+    return f"""
 found AS MATERIALIZED (
   SELECT x.* FROM unnest(%(tasks)s::text[]) AS w(task), clock,
   LATERAL (SELECT {BOUND} AS bound) b, LATERAL (
     SELECT e.attempt, e.offered_at, e.lease IS NOT NULL AND NOT e.given_back AS is_takeover,
       e.since, e.worker, e.lease, e.until
     FROM external_attempts e
-    WHERE e.task = w.task AND e.{OPEN} AND (e.until IS NULL OR {LAPSED})
+    WHERE e.task = w.task AND e.{OPEN} AND (e.until IS NULL OR {lapsed})
     ORDER BY e.offered_at
     LIMIT CASE WHEN b.bound IS NULL THEN %(most)s::bigint
       ELSE greatest(0, least(%(most)s::bigint, b.bound - ({HELD.format("w.task")}))) END
@@ -69,7 +74,13 @@ taken AS (
   RETURNING e.attempt, e.lease, e.until - clock.now AS seconds, e.id, e.step, e.action, e.cancelled,
     f.is_takeover, place, e.number, f.since, f.worker, f.lease AS had, f.until)
 """
-"""For many claims of the same tasks: a worker and its seconds for each that may be claimed."""
+
+
+CLAIMED = _claimed("e.until <= clock.now")
+UNREPORTED = _claimed("e.until <= clock.now AND e.attempt <> ALL(%(attempts)s::text[])")
+"""For claims in a statement that also has reports: it does not claim what it reports, because a
+statement changes a row once.
+"""
 ROWS = """
 json_agg(json_build_array(attempt, lease, seconds, id, step, action, cancelled, is_takeover, place,
   number, since, worker, had, until) ORDER BY place)::text
@@ -114,10 +125,6 @@ kept AS (
 """
 """Each attempt once. One whose row another transaction has is passed over: who waits for several
 rows may wait for somebody who waits for this one.
-"""
-UNREPORTED = CLAIMED.replace(LAPSED, f"{LAPSED} AND e.attempt <> ALL(%(attempts)s::text[])")
-"""Claims beside reports: what is reported is not claimed by the same statement, which changes a row
-once.
 """
 SHARDS = "json_object_agg(attempt, shard)::text"
 CLAIM_WORDS = ("tasks", "most", "workers", "seconds")
@@ -295,7 +302,7 @@ class PostgreSQLExternalAttempts:
         return True
 
     async def _alone(self, limited: Sequence[str], wanted: Wanted) -> list[list[Any]]:
-        """A claim of tasks with a concurrency. It goes on where its caller is cancelled."""
+        """A claim of tasks with a concurrency. It continues if its caller is cancelled."""
         claiming = asyncio.get_running_loop().create_task(self._claim_limited(limited, wanted))
         try:
             return await asyncio.shield(claiming)

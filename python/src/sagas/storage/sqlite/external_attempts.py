@@ -95,7 +95,7 @@ def _answers(db: sqlite3.Connection, some: Sequence[Asked], now: float) -> list[
 
 
 def _reported(db: sqlite3.Connection, one: Reported) -> int | None:
-    """Keeps a report; gives the attempt's shard, or None where it does not count."""
+    """Keeps a report; gives the attempt's shard, or None if it does not count."""
     if not db.execute(REPORT, one._asdict()).rowcount:  # `RETURNING` would make a table for it
         return None
     ((shard,),) = db.execute(SHARD, (one.attempt,)).fetchall()
