@@ -1,29 +1,30 @@
-// sagas.mjs: plans, judges, draws and audits sagas, by the proved calls in sagas.wasm: in Node (18 and later), Deno, Bun, browsers and at the edge.
+// sagas.mjs plans, checks, draws and audits sagas with the proved functions of sagas.wasm. It runs in Node.js (18 and later), Deno, Bun, browsers and
+// edge runtimes.
 //
 //     import { load } from './sagas.mjs';
 //     const sagas = await load();
 //     const { status, text } = sagas.plan(definition, saga_case);
 //
-// `load` takes sagas.wasm from beside this file; or what it is given: its bytes, or a WebAssembly.Module, where a platform compiles it itself
-// (import module from './sagas.wasm'; await load(module)). Texts are strings or bytes (Uint8Array), of the forms of docs/FORMATS.md. `status`
-// is that of the program: OK 0, REJECTED 1, or INVALID 3, whose text is the program's line on standard error. Where memory is refused a call throws
-// a RangeError, and later calls go on.
-// The proved calls of a module of WebAssembly: bytes in, a status and bytes out. Both the page and sagas.mjs have this file.
+// `load()` reads sagas.wasm from the folder of this file. You can also pass the bytes of the module, or a WebAssembly.Module if your platform compiles
+// the module itself (import module from './sagas.wasm'; await load(module)). A text is a string or a Uint8Array; docs/FORMATS.md describes the
+// formats. `status` is the exit status of the program: OK (0), REJECTED (1) or INVALID (3). If it is INVALID, `text` is the line that the program
+// prints on standard error. If memory runs out, a call throws a RangeError. Later calls work.
+// Calls of the proved functions of the WebAssembly module: bytes in, a status and bytes out. The page and sagas.mjs both contain this file.
 
 const OK = 0, REJECTED = 1, INVALID = 3, NO_MEMORY = 4, BUFFER_TOO_SMALL = 5;
 const FIRST_SIZE = 65536;
 
-// The part of the module's memory from an address on. (It is asked for anew each time, since the memory may have grown.)
+// A view of the module's memory from an address. (Each use makes a new view, because the memory may have grown.)
 const part = (library, at, size) => new Uint8Array(library.memory.buffer, Number(at), size);
 
-// Memory for so many bytes, for one call.
+// The address of this number of bytes, for one call.
 function memory_of(library, size) {
   const at = library.sagas_memory(BigInt(size));
   if (at === 0n) throw new RangeError('no memory');
   return at;
 }
 
-// The words of a text: its address and its length.
+// The arguments for a text: its address and its length.
 function words_of(library, text) {
   if (text.length === 0) return [0n, 0n];
   const at = memory_of(library, text.length);
@@ -31,7 +32,7 @@ function words_of(library, text) {
   return [at, BigInt(text.length)];
 }
 
-// The words of spans: pairs of places, 8 bytes each.
+// The arguments for spans: the address and the number of pairs of offsets, 8 bytes for each offset.
 function words_of_spans(library, spans) {
   if (spans.length === 0) return [0n, 0n];
   const at = memory_of(library, spans.length * 16);
@@ -40,7 +41,7 @@ function words_of_spans(library, spans) {
   return [at, BigInt(spans.length)];
 }
 
-// Calls a function of the module's, and gives its status and its bytes. A call that ends in a trap leaves the module unusable.
+// Calls a function of the module, and returns its status and its bytes. After a trap, the instance cannot be used again.
 function called(library, name, texts, spans) {
   library.sagas_clear();
   const words = texts.map(text => words_of(library, text)).flat();
@@ -83,17 +84,17 @@ class Sagas {
     return { status: reply.status, text: text_of(reply.bytes) };
   }
 
-  // How a saga shall end that stands as the case says: OK with a plan that costs least, REJECTED with a chain that shows that nothing is allowed.
+  // Plans how a saga ends, from the states of a case: OK with a minimum-cost plan, or REJECTED with a chain that shows that no outcome is feasible.
   plan(definition, saga_case) {
     return this.#ask('sagas_plan', [definition, saga_case]);
   }
 
-  // Judges an answer, whoever made it: OK with `least N` or `blocked`, REJECTED with `no FAULT`.
+  // Checks an answer from any source: OK with `least N` or `blocked`, or REJECTED with `no FAULT`.
   check(definition, saga_case, answer) {
     return this.#ask('sagas_check', [definition, saga_case, answer]);
   }
 
-  // Audits a log over its definitions, in their order: OK with numbers, REJECTED with the first event that was not allowed.
+  // Audits a log with its definitions, in order: OK with counts, or REJECTED with the first event that was not allowed.
   audit(log, ...definitions) {
     const texts = definitions.map(given);
     const spans = [];
@@ -104,7 +105,7 @@ class Sagas {
     return this.#ask('sagas_audit_all', [log, all], spans);
   }
 
-  // Draws a definition, with the states of a case and the marks of an answer where they are given, in Graphviz's language.
+  // Draws a definition in Graphviz's language. The graph shows the states of a case and the marks of an answer if you pass them.
   draw(definition, saga_case, answer) {
     const texts = [definition, saga_case, answer].filter(text => text !== undefined);
     return this.#ask(['sagas_draw', 'sagas_draw_case', 'sagas_draw_answer'][texts.length - 1], texts);

@@ -1,7 +1,7 @@
 #!/usr/bin/env bash
-# The C library of dist/, as others use it: from C by both of its forms and under sanitizers, from C++, Rust, Python, JavaScript (by the module of
-# WebAssembly) and, where it is there, Go; the calls as one C file, compiled here; with faults, each size of a buffer, refused memory and 16 threads; and whether it gives the same bytes as the program.
-# Takes no kit.
+# Tests the C library of dist/ as programs use it: from C, as archive and as shared library, and with sanitizers; from C++, Rust, Python, Go, and
+# JavaScript with the WebAssembly module; and as one C file, compiled here. The tests have invalid inputs, each size of a buffer, allocation
+# failures and 16 threads, and compare the bytes of the library with those of the program. They need no toolchain.
 set -uo pipefail
 cd "$(dirname "$0")/.." || exit 1
 top=$PWD
@@ -15,7 +15,7 @@ fail() {
   echo "wrong: $*"
 }
 
-# runs WHAT COMMAND..: whether it ends with status 0; what it says is shown where it does not.
+# runs WHAT COMMAND...: checks that a command exits with status 0, and shows its output if not.
 runs() {
   local what=$1
   shift
@@ -23,7 +23,7 @@ runs() {
   "$@" >"$work/said" 2>&1 || fail "$what: $(tail -n 20 "$work/said")"
 }
 
-# answers WHAT COMMAND..: whether an example that plans does so for a trip and for a licence, and tells a fault.
+# answers WHAT COMMAND...: checks that an example plans a trip and a licence, and reports an invalid definition.
 answers() {
   local what=$1 name wanted
   shift
@@ -38,7 +38,7 @@ answers() {
   [ "$found" = $'sagas: definition: not-toml\n3' ] || fail "$what, no definition: $found"
 }
 
-# drives WHAT COMMAND..: whether an example that is a coordinator answers as the program does, and tells a fault.
+# drives WHAT COMMAND...: checks that a coordinator example replies as the program does, and reports an invalid definition.
 drives() {
   local what=$1
   shift
@@ -66,7 +66,7 @@ runs 'C, memory refused' cc "${c[@]}" -o "$work/refusing" tests/library/refusing
 runs 'calls with memory refused' "$work/refusing" examples
 cat "$work/said"
 
-# The calls of a coordinator, over the shared library, under sanitizers, and with each growth of memory refused in turn.
+# The calls of a coordinator: with the shared library, with sanitizers, and with each allocation refused in turn.
 conversations() {
   runs "$1" env PYTHONDONTWRITEBYTECODE=1 LD_LIBRARY_PATH="$work/lib" SAGAS="$(tests/program)" "${@:4}" /usr/bin/python3 tests/library/coordinated.py "$2" "$3"
 }

@@ -1,19 +1,19 @@
-// The proved calls of a module of WebAssembly: bytes in, a status and bytes out. Both the page and sagas.mjs have this file.
+// Calls of the proved functions of the WebAssembly module: bytes in, a status and bytes out. The page and sagas.mjs both contain this file.
 
 const OK = 0, REJECTED = 1, INVALID = 3, NO_MEMORY = 4, BUFFER_TOO_SMALL = 5;
 const FIRST_SIZE = 65536;
 
-// The part of the module's memory from an address on. (It is asked for anew each time, since the memory may have grown.)
+// A view of the module's memory from an address. (Each use makes a new view, because the memory may have grown.)
 const part = (library, at, size) => new Uint8Array(library.memory.buffer, Number(at), size);
 
-// Memory for so many bytes, for one call.
+// The address of this number of bytes, for one call.
 function memory_of(library, size) {
   const at = library.sagas_memory(BigInt(size));
   if (at === 0n) throw new RangeError('no memory');
   return at;
 }
 
-// The words of a text: its address and its length.
+// The arguments for a text: its address and its length.
 function words_of(library, text) {
   if (text.length === 0) return [0n, 0n];
   const at = memory_of(library, text.length);
@@ -21,7 +21,7 @@ function words_of(library, text) {
   return [at, BigInt(text.length)];
 }
 
-// The words of spans: pairs of places, 8 bytes each.
+// The arguments for spans: the address and the number of pairs of offsets, 8 bytes for each offset.
 function words_of_spans(library, spans) {
   if (spans.length === 0) return [0n, 0n];
   const at = memory_of(library, spans.length * 16);
@@ -30,7 +30,7 @@ function words_of_spans(library, spans) {
   return [at, BigInt(spans.length)];
 }
 
-// Calls a function of the module's, and gives its status and its bytes. A call that ends in a trap leaves the module unusable.
+// Calls a function of the module, and returns its status and its bytes. After a trap, the instance cannot be used again.
 function called(library, name, texts, spans) {
   library.sagas_clear();
   const words = texts.map(text => words_of(library, text)).flat();

@@ -1,13 +1,13 @@
-// From the text of a drawing to its steps, and to a picture.
+// Reads the text of a drawing, and makes a picture of it.
 
 const STATES = ['waiting', 'committed', 'failed', 'undone', 'fixed'];
-// A state in the words of the dashboard; the case has the program's own.
+// The dashboard's word for a state. A case has the program's words.
 const state_words = state => ({ committed: 'done', fixed: 'undo failed' })[state] || state;
 const NEVER = Infinity;
 
 const cost_of = word => word === 'never' ? NEVER : Number(word);
 
-// A step of a drawing: its name, its state where it has one, and its costs.
+// A step of a drawing: its name, its state if there is one, and its costs.
 function step_of(lines) {
   const step = { name: lines[0], state: null, run: 0, undo: 0, skip: 0, keep: 0, lines: [] };
   for (const line of lines.slice(1)) {
@@ -20,7 +20,7 @@ function step_of(lines) {
   return step;
 }
 
-// What a drawing says: the saga's name, its steps, and its needs as pairs of steps' numbers.
+// The contents of a drawing: the saga's name, its steps, and its needs as pairs of step numbers.
 function read_drawing(text) {
   const drawing = { name: '', steps: [], needs: [] }, numbers = new Map();
   for (const line of text.split('\n')) {
@@ -35,7 +35,7 @@ function read_drawing(text) {
   return drawing;
 }
 
-// The column of each step: how many steps stand behind one another before it.
+// The column of each step: the length of the longest chain of needs before it.
 function columns_of(drawing) {
   const users = drawing.steps.map(() => []), left = drawing.steps.map(() => 0), column = drawing.steps.map(() => 0);
   for (const [user, need] of drawing.needs) { users[need].push(user); left[user]++; }
@@ -50,7 +50,7 @@ function columns_of(drawing) {
 const LINE = 16, GAP = 22, BETWEEN = 62, EDGE = 18;
 const MOST_CROSSED = 4000;
 
-// Where everything lies: a box a step, and for each need its way, with a point in each column that it crosses (unless these are very many).
+// The layout: a box for each step, and a path for each need, with a point in each column that it crosses (unless there are very many).
 function placed(drawing) {
   const column = columns_of(drawing);
   const boxes = drawing.steps.map((step, i) => {
@@ -73,7 +73,7 @@ function placed(drawing) {
   return { boxes, ways, ...spread(boxes, columns) };
 }
 
-// Puts what lies in each column in such an order that ways are short: each by the middle of its neighbours, to and fro.
+// Orders each column so that paths are short: by the mean place of the neighbors, in alternating sweeps.
 function order(boxes, ways, columns) {
   const before = boxes.map(() => []), after = boxes.map(() => []), rank = boxes.map(() => 0);
   for (const way of ways) for (let k = 0; k + 1 < way.length; k++) {
@@ -93,7 +93,7 @@ function order(boxes, ways, columns) {
   }
 }
 
-// Gives each box its place; gives the size of all.
+// Places each box, and returns the size of the picture.
 function spread(boxes, columns) {
   let x = EDGE, tallest = 0;
   const heights = columns.map(column => {
@@ -115,7 +115,7 @@ function spread(boxes, columns) {
 const SPACE = 'http://www.w3.org/2000/svg';
 const round = value => Math.round(value * 10) / 10;
 
-// svg('rect', {x: 1}, child..): an element of a picture. Text is put in as text.
+// svg('rect', {x: 1}, ...children): a new element of the picture. A string becomes a text node.
 function svg(tag, words, ...children) {
   const made = document.createElementNS(SPACE, tag);
   for (const [key, value] of Object.entries(words)) made.setAttribute(key, typeof value === 'number' ? round(value) : value);
@@ -147,7 +147,7 @@ function node_of(box, marked, is_chain) {
   return node;
 }
 
-// The way of a need, from the step to the one that it needs; thick where both are marked.
+// The path of a need, from a step to the step that it needs. It is thick if both are marked.
 function way_of(boxes, way, marked) {
   const last = way.length - 1, is_marked = marked.has(way[0]) && marked.has(way[last]);
   const points = way.map((i, k) => [boxes[i].x + (k === 0 ? -boxes[i].w / 2 : k === last ? boxes[i].w / 2 + 12 : 0), boxes[i].y]);
@@ -160,12 +160,12 @@ function way_of(boxes, way, marked) {
   return [svg('path', { class: 'edge', d: path, 'stroke-width': is_marked ? 2.6 : 1.4 }), svg('path', { class: 'tip', d: `M${round(x - 9)},${round(y)} l11,-5 l0,10 z` })];
 }
 
-// The picture of a drawing, with what an answer marks: an element.
+// The picture of a drawing with the marks of an answer, as an element.
 function picture_of(drawing, marked, is_chain, title) {
   const { boxes, ways, width, height } = placed(drawing);
   const made = svg('svg', { width, height, viewBox: `0 0 ${round(width)} ${round(height)}`, role: 'group', 'aria-label': title,
     'font-family': 'system-ui, sans-serif', 'font-size': '13' });
-  // (as wide as there is room for, but not so small that it could not be read)
+  // (as wide as the page, but not too small to read)
   made.style.maxWidth = `${round(width)}px`;
   made.style.minWidth = `${round(width * 0.7)}px`;
   for (const way of ways) made.append(...way_of(boxes, way, marked));

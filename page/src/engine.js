@@ -1,4 +1,4 @@
-// The module in the page.
+// The WebAssembly module in the page.
 
 let compiled, library;
 
@@ -13,7 +13,7 @@ async function renew() {
   library = (await WebAssembly.instantiate(compiled, {})).exports;
 }
 
-// Calls a function. A call that ends in a trap leaves the module unusable, so that another is made.
+// Calls a function. After a trap, the instance cannot be used again, so a new one replaces it.
 async function call(name, texts, spans) {
   try {
     return called(library, 'sagas_' + name, texts, spans);

@@ -1,18 +1,18 @@
-// The page: what is given, what is answered, and how it is shown.
+// The planner page: its inputs, its results, and how it shows them.
 
 const at = id => document.getElementById(id);
 const FIELDS = ['log', 'definition', 'case', 'answer'];
 const MOST_DRAWN = 150, MOST_ROWS = 100;
 const PAUSE = 250;
 
-// What was shown last: the drawing with its states, so that a step's state can be changed.
+// The drawing that is shown, with its states. A change of a step's state starts from it.
 let shown = null;
 let rounds = 0;
 
 const mode = () => document.querySelector('input[name=mode]:checked').value;
 const given = field => bytes_of(at(field).value);
 
-// element('li', {class: 'x'}, child..): an element of the page. Text is put in as text.
+// element('li', {class: 'x'}, ...children): a new element of the page. A string becomes a text node.
 function element(tag, words, ...children) {
   const made = document.createElement(tag);
   for (const [key, value] of Object.entries(words)) made.setAttribute(key, value);
@@ -20,7 +20,7 @@ function element(tag, words, ...children) {
   return made;
 }
 
-// ---- What is told.
+// ---- Messages.
 
 function tell(kind, verdict, checked = '', remedy = '') {
   at('told').className = `card told ${kind}`;
@@ -29,7 +29,7 @@ function tell(kind, verdict, checked = '', remedy = '') {
   at('remedy').textContent = remedy;
 }
 
-// The entry of a line in the table of lines: cause and remedy. Its numbers stand there as letters.
+// The cause and the remedy of a message, from the error reference. There, letters stand for the numbers of a message.
 function entry_of(line) {
   for (const letters of ['', 'N', 'P', 'K']) {
     const entry = LINES[letters ? line.replace(/\d+/, letters) : line];
@@ -41,7 +41,7 @@ function entry_of(line) {
 const quoted_words = text => text.replace(/`([^`]*)`/g, '“$1”');
 const sentence = text => text && text[0].toUpperCase() + text.slice(1) + '.';
 
-// Tells a fault below the field that has it.
+// Shows an error below its field.
 function tell_at(field, line, quoted = '', other = '') {
   const entry = entry_of(line), { cause } = entry, remedy = other || entry.remedy;
   at(field).setAttribute('aria-invalid', 'true');
@@ -51,22 +51,22 @@ function tell_at(field, line, quoted = '', other = '') {
   return { cause, remedy };
 }
 
-// What parts definitions from one another.
+// The separator line between definitions.
 const PARTED = /^---[ \t]*\r?\n/m;
 
-// The line of a text, from 1, shortened.
+// A line of a text, shortened. Lines are numbered from 1.
 function line_of(text, number) {
   const line = text.split('\n')[number - 1] || '';
   return `${number}: ${line.length > 300 ? line.slice(0, 300) + '…' : line}`;
 }
 
-// Marks a line of a field, from 1, so that it is seen when the field is entered.
+// Selects a line of a field, so that the line is visible when the field gets the focus. Lines are numbered from 1.
 function mark_line(field, number) {
-  if (document.activeElement === at(field)) return; // (whoever types there keeps the place)
+  if (document.activeElement === at(field)) return; // (the cursor of a user who types stays)
   const lines = at(field).value.split('\n'), before = lines.slice(0, number - 1), style = getComputedStyle(at(field));
   const start = before.reduce((sum, line) => sum + line.length + 1, 0);
   at(field).setSelectionRange(start, start + (lines[number - 1] || '').length);
-  // (a line takes several rows where it is longer than the field is wide; a letter is about 0.6 as wide as it is high)
+  // (A line that is wider than the field takes several rows. A letter is about 0.6 times as wide as it is high.)
   const wide = (at(field).clientWidth - 2 * parseFloat(style.paddingLeft)) / (0.6 * parseFloat(style.fontSize));
   const rows = before.reduce((sum, line) => sum + Math.max(1, Math.ceil(line.length / wide)), 0);
   at(field).scrollTop = Math.max(0, (rows - 3) * parseFloat(style.lineHeight));
@@ -74,7 +74,7 @@ function mark_line(field, number) {
 
 const PLACES = { definition: 'definition', case: 'case', answer: 'certificate', log: 'log' };
 
-// The first line of a definition, from 1, that cannot be read as TOML: the longest part before the end that can be read stops before it.
+// The first line of a definition that is not valid TOML: the line after the longest prefix that can be read. Lines are numbered from 1.
 async function line_not_toml(text) {
   const lines = text.split('\n'), is_toml = async count => {
     const reply = await call('draw', [bytes_of(lines.slice(0, count).join('\n') + '\n')]);
@@ -84,7 +84,7 @@ async function line_not_toml(text) {
   for (let bad = lines.length; bad - good > 1;) {
     const middle = (good + bad) >> 1;
     if (await is_toml(middle)) good = middle; else bad = middle;
-    // (a list over several lines is no TOML before its end)
+    // (A list over several lines is not valid TOML before its end.)
     for (let more = 1; bad - good === 1 && more < 40 && good + more < lines.length; more++) {
       if (await is_toml(good + more)) { good += more; bad = lines.length; break; }
     }
@@ -92,7 +92,7 @@ async function line_not_toml(text) {
   return good + 1;
 }
 
-// Tells what is wrong with a text: `sagas: FIELD: WORD`, with the number of a line or of a definition where there is one.
+// Shows the error of a text: `sagas: FIELD: WORD`, with the number of a line or of a definition if there is one.
 async function tell_fault(reply) {
   if (reply.status === NO_MEMORY) return tell('bad', 'The page is out of memory', reply.error || '', 'Try a smaller saga, or use the program.');
   const line = text_of(reply.bytes).trimEnd();
@@ -124,11 +124,11 @@ function clear() {
   shown = null;
 }
 
-// ---- The picture, and the steps.
+// ---- The picture and the steps.
 
 const none = new Set();
 
-// Shows a drawing, with what an answer marks.
+// Shows a drawing with the marks of an answer.
 function show_picture(drawing, marked, is_chain, title) {
   const focused = document.activeElement?.closest?.('.node')?.dataset.step;
   at('figure').hidden = false;
@@ -150,7 +150,7 @@ function show_picture(drawing, marked, is_chain, title) {
 
 const priced = price => price === NEVER ? 'never' : price.toLocaleString('en');
 
-// A chooser of a step's state.
+// The selection of a step's state.
 function chooser(step, number) {
   const made = element('select', { 'aria-label': `State of ${step.name}`, 'data-step': number });
   for (const state of STATES) made.append(new Option(state_words(state), state, false, state === (step.state || 'waiting')));
@@ -158,7 +158,7 @@ function chooser(step, number) {
   return made;
 }
 
-// The row of a step: its state, its two costs, the decision and its reason. Without a plan there is no decision.
+// The row of a step: its state, its two costs, the decision and the reason. Without a plan there is no decision.
 function row_of(drawing, beside, kept, i, is_aborted) {
   const step = drawing.steps[i], is_kept = kept?.has(i);
   const price = (label, value, is_taken) => element('td', { class: `price${is_taken ? ' taken' : ''}`, 'data-label': label }, priced(value));
@@ -171,7 +171,7 @@ function row_of(drawing, beside, kept, i, is_aborted) {
     element('td', { class: 'why' }, kept ? why(drawing, beside, kept, i, is_aborted) : ''));
 }
 
-// The table of the steps; of very many only the first, until all are asked for.
+// The table of the steps. If there are many, it shows only the first ones until the user asks for all.
 function show_steps(drawing, kept, cost) {
   const focused = document.activeElement?.closest?.('td select')?.dataset.step;
   const body = at('steps').querySelector('tbody'), beside = neighbors_of(drawing), is_aborted = at('aborted').checked;
@@ -188,7 +188,7 @@ function show_steps(drawing, kept, cost) {
   if (focused !== undefined) body.querySelector(`select[data-step="${focused}"]`)?.focus({ preventScroll: true });
 }
 
-// States have changed: the case is written anew.
+// Writes the case again after a change of states.
 function write_case(states) {
   at('case').value = JSON.stringify(at('aborted').checked ? { aborted: true, states } : { states });
   return run();
@@ -221,7 +221,7 @@ function show_chain(drawing, chain) {
 
 const listed = (list, steps) => list.slice(0, 6).map(i => steps[i].name).join(', ') + (list.length > 6 ? ` and ${list.length - 6} more` : '');
 
-// Shows an answer that the checker found right. `says` is what it said: the cost is read there.
+// Shows an answer that the checker accepted. `says` is the text of the checker, which has the cost.
 function show_right(drawing, answer, says, is_planned) {
   const checked = `${is_planned ? 'Planned, then verified' : 'Verified'} here by the proved checker: ${says}.`;
   if (answer.kind === 'plan') {
@@ -245,7 +245,7 @@ function show_certificate(text) {
   at('certificate').hidden = false;
 }
 
-// Draws what is given, where it can be read: the definition with its states; or alone, each step where the case has it, else waiting.
+// Draws the inputs if they can be read: the definition with the states of the case. If the case cannot be read, each step has its state of the case, or is waiting.
 async function drawn() {
   for (const [name, texts] of [['draw_case', ['definition', 'case']], ['draw', ['definition']]]) {
     const reply = await call(name, texts.map(given));
@@ -257,7 +257,7 @@ async function drawn() {
   return null;
 }
 
-// The states of the case as it is typed, as far as they can be read.
+// The states in the text of the case, as far as they can be read.
 function states_typed() {
   try {
     const { states } = JSON.parse(at('case').value);
@@ -267,7 +267,7 @@ function states_typed() {
   }
 }
 
-// Sets the box by the case, where that can be read.
+// Sets the checkbox from the case if the case can be read.
 function read_aborted() {
   try {
     at('aborted').checked = JSON.parse(at('case').value).aborted === true;
@@ -297,7 +297,7 @@ async function plan_or_judge() {
   if (is_planned) show_certificate(text_of(answer).trimEnd());
 }
 
-// Tells a fault of a text; the steps stay in sight, so that a case can be mended by them.
+// Shows the error of a text. The steps stay visible, so that the user can correct a case with them.
 async function refused(reply) {
   shown = await drawn();
   await tell_fault(reply);
@@ -309,7 +309,7 @@ async function refused(reply) {
 
 // ---- Logs.
 
-// The definitions of a text with lines --- between them: their bytes together, and where each lies.
+// The definitions of a text, between lines of ---: their bytes, and the span of each.
 function shelf_of(text) {
   const parts = text.split(PARTED).map(bytes_of), spans = [];
   let start = 0;
@@ -319,7 +319,7 @@ function shelf_of(text) {
   return { all, spans };
 }
 
-// The line of the log that has an event, both counted: events from 0, lines from 1, the first of which may be a header.
+// The number of the line that has an event. Events are numbered from 0 and lines from 1. The first line may be a header.
 const line_of_event = (log, event) => event + (/^\s*\{\s*"format"/.test(log) ? 2 : 1);
 
 async function audit() {
@@ -342,7 +342,7 @@ async function audit() {
   return tell('no', `Invalid: event ${event}, in line ${number}, was not allowed`, `${checked} ${sentence(cause)}`, sentence(remedy));
 }
 
-// ---- What is chosen and typed.
+// ---- Input.
 
 async function run() {
   clear();

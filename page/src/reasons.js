@@ -1,4 +1,4 @@
-// What it costs to keep a step, and to drop it (the table of costs, as the planner has it); and the reason of its decision.
+// The cost to keep a step and the cost to drop it, as the planner has them, and the reason of a decision.
 
 function cost_to_keep(step, is_aborted) {
   switch (step.state) {
@@ -16,7 +16,7 @@ function cost_to_drop(step) {
   }
 }
 
-// The neighbors of each step: what it needs, and what needs it.
+// The neighbors of each step: the steps that it needs, and the steps that need it.
 function neighbors_of(drawing) {
   const needs = drawing.steps.map(() => []), users = drawing.steps.map(() => []);
   for (const [user, need] of drawing.needs) { needs[user].push(need); users[need].push(user); }
@@ -35,7 +35,7 @@ const why_barred = (step, is_aborted) => step.state === 'failed' ? 'it has faile
 
 const names = (list, steps) => list.slice(0, 3).map(i => steps[i].name).join(', ') + (list.length > 3 ? ` and ${list.length - 3} more` : '');
 
-// Why a step is kept, or dropped, in an optimal plan with this kept set.
+// Why a step is kept or dropped in a minimum-cost plan with this kept set.
 function why(drawing, { needs, users }, kept, i, is_aborted) {
   const step = drawing.steps[i], keep = cost_to_keep(step, is_aborted), drop = cost_to_drop(step);
   if (kept.has(i)) {
@@ -51,5 +51,5 @@ function why(drawing, { needs, users }, kept, i, is_aborted) {
   return drop === keep ? 'both cost the same' : 'this costs less together with other steps';
 }
 
-// What a plan does with a step, in the words of the dashboard.
+// What a plan does with a step, in the dashboard's words.
 const shall = (step, is_kept) => is_kept ? (step.state === 'waiting' ? 'run' : 'keep') : step.state === 'committed' ? 'undo' : 'skip';
