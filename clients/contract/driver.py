@@ -197,20 +197,21 @@ class Driver:
                 silent[0].recv(1)
             case "refused":
                 socket.create_connection(("127.0.0.1", 9))
-            case "hold" | "deaf":
-                self.hold(worker, task, word == "deaf")
+            case "hold" | "deaf" | "doubt":
+                self.hold(worker, task, word)
                 return {"done": place}
             case "big" | "huge":
                 return {"text": "x" * (1_000_000 if word == "big" else 3_000_000)}
         raise AssertionError(word)
 
-    def hold(self, worker: str, task: sagas.Task[Any], deaf: bool) -> None:
+    def hold(self, worker: str, task: sagas.Task[Any], word: str) -> None:
         released = self.released[task.key, task.step]
+        is_deaf = word == "deaf" or word == "doubt" and task.cancelled.is_set()
         while not released.wait(0.05):
-            if not deaf and task.cancelled.is_set():
+            if not is_deaf and task.cancelled.is_set():
                 why = "lease" if task.cancelled.reason == "lost" else "abort"
                 self.say({"note": "canceled", "worker": worker, "key": task.key, "step": task.step, "why": why})
-                raise sagas.Fail("no")
+                raise sagas.Fail("no") if word == "hold" else sagas.Unknown("who knows")
 
 
 NAMES = "key", "phase", "over", "aborted", "input", "states", "results", "errors"

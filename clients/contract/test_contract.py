@@ -5,6 +5,7 @@ from __future__ import annotations
 import contextlib
 import itertools
 import json
+import time
 from collections.abc import Callable, Iterator
 from typing import Any
 
@@ -450,6 +451,24 @@ def test_abort_while_a_function_runs(make: Make, service: Served, operator: str)
         end = driver.ask("wait", key=key, timeout=LONG)
         assert (end["phase"], end["aborted"]) == ("recovered", True) and end["states"]["a"] in states
         assert len(driver.calls(key, "solo/a/undo")) == ("undone" in states) and driver.calls(key, "solo/b") == []
+    driver.ask("stop", worker="w")
+
+
+def test_an_abort_cancels_once(make: Make, service: Served, operator: str) -> None:
+    """A function that does not know then is called again, and is left to find out: its heartbeats cancel it no more."""
+    driver, key = make(), fresh("doubt")
+    work(driver, service.url, operator, "w", steps=SOLO, lease=1)
+    driver.ask("start", definition="solo", key=key, input=script("doubt"))
+    driver.heard("called", key=key)
+    driver.ask("abort", key=key)
+    driver.heard("canceled", key=key, why="abort")
+    driver.heard("called", 2, key=key)
+    beats, until = service.told().count("/heartbeat 200"), time.monotonic() + LONG
+    while service.told().count("/heartbeat 200") < beats + 3 and time.monotonic() < until:
+        time.sleep(0.1)
+    driver.ask("release", key=key, step="a")
+    assert driver.ask("wait", key=key, timeout=LONG)["states"]["a"] == "undone"
+    assert len(driver.heard("canceled", key=key)) == 1 and len(driver.calls(key, "solo/a")) == 2
     driver.ask("stop", worker="w")
 
 

@@ -122,15 +122,17 @@ func Start[In any](ctx context.Context, c *Client, definition, key string, input
 
 // Get returns a saga. The error is ErrNoSuchSaga if no saga has the key.
 func (c *Client) Get(ctx context.Context, key string) (*Saga, error) {
-	return c.get(ctx, key, "")
+	return c.get(ctx, key, "", 0)
 }
 
-func (c *Client) get(ctx context.Context, key, more string) (*Saga, error) {
+// get returns a saga, for which the service may wait.
+func (c *Client) get(ctx context.Context, key, more string, wait time.Duration) (*Saga, error) {
 	if key == "" {
 		return nil, invalidArgument("the key is empty")
 	}
 	found := new(Saga)
-	if err := c.conn.call(ctx, "GET", "/v1/sagas/"+escaped(key)+more, nil, found); err != nil {
+	r := request{method: "GET", path: "/v1/sagas/" + escaped(key) + more, wait: wait}
+	if err := c.conn.send(ctx, r, nil, found); err != nil {
 		return nil, err
 	}
 	return found, nil
@@ -152,7 +154,7 @@ func (c *Client) Wait(ctx context.Context, key string) (*Saga, error) {
 		if seconds < 0 {
 			seconds = 0
 		}
-		saga, err := c.get(ctx, key, "/wait?seconds="+strconv.FormatFloat(seconds.Seconds(), 'f', 3, 64))
+		saga, err := c.get(ctx, key, "/wait?seconds="+strconv.FormatFloat(seconds.Seconds(), 'f', 3, 64), seconds)
 		switch {
 		case err == nil && saga.Over:
 			return saga, nil

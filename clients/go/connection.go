@@ -21,7 +21,8 @@ const (
 	firstPause     = 100 * time.Millisecond
 	mostPause      = 5 * time.Second
 	connectTimeout = 10 * time.Second
-	requestTimeout = 60 * time.Second
+	answerTimeout  = 20 * time.Second // of a client's request
+	requestTimeout = 60 * time.Second // of a report
 )
 
 // Logger gets what a client or worker says for people. A *log.Logger is one.
@@ -153,6 +154,7 @@ type request struct {
 	method, path string
 	body         []byte
 	timeout      time.Duration // of one attempt
+	wait         time.Duration // of the service, before it answers
 	header       http.Header   // beside those of every request; may be nil
 }
 
@@ -262,7 +264,7 @@ func (c *connection) call(ctx context.Context, method, path string, asked, answe
 
 // send is call for a request with headers of its own.
 func (c *connection) send(ctx context.Context, r request, asked, answer any) error {
-	r.timeout = requestTimeout
+	r.timeout = r.wait + answerTimeout
 	if asked != nil {
 		body, err := json.Marshal(asked)
 		if err != nil {
@@ -270,12 +272,14 @@ func (c *connection) send(ctx context.Context, r request, asked, answer any) err
 		}
 		r.body = body
 	}
-	within, cancel := context.WithTimeout(ctx, c.timeout)
+	within, cancel := context.WithTimeout(ctx, r.wait+c.timeout)
 	defer cancel()
 	body, err := c.until(within, r)
 	var unreachable *UnreachableError
 	if errors.As(err, &unreachable) {
-		unreachable.Context = ctx.Err()
+		if unreachable.Context = ctx.Err(); unreachable.Context == nil { // its caller has not given up
+			c.turnFrom(unreachable.URL)
+		}
 	}
 	if err != nil || answer == nil {
 		return err

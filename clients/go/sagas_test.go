@@ -8,6 +8,9 @@ import (
 	"fmt"
 	"log"
 	"math"
+	"net"
+	"net/http"
+	"net/http/httptest"
 	"strings"
 	"testing"
 	"time"
@@ -65,6 +68,41 @@ func TestNoServiceAnswers(t *testing.T) {
 	Step(worker, "trip", "car", func(context.Context, Task[any]) (any, error) { return nil, nil })
 	if err := worker.Run(ctx); err != nil {
 		t.Error(err)
+	}
+}
+
+// A service may keep a wait for longer than the client's timeout, which is for services that do not answer.
+func TestWaitGoesOn(t *testing.T) {
+	asked := 0
+	service := httptest.NewServer(http.HandlerFunc(func(w http.ResponseWriter, r *http.Request) {
+		asked++
+		time.Sleep(300 * time.Millisecond) // its wait
+		fmt.Fprintf(w, `{"key": "k", "over": %v}`, asked > 1)
+	}))
+	defer service.Close()
+	client, _ := NewClient(service.URL, WithTimeout(100*time.Millisecond))
+	if saga, err := client.Wait(context.Background(), "k"); err != nil || !saga.Over || asked != 2 {
+		t.Error(saga, err, asked)
+	}
+}
+
+// A service that stands still takes connections, and answers nothing.
+func TestNextServiceIsAsked(t *testing.T) {
+	still, err := net.Listen("tcp", "127.0.0.1:0")
+	if err != nil {
+		t.Fatal(err)
+	}
+	defer still.Close()
+	service := httptest.NewServer(http.HandlerFunc(func(w http.ResponseWriter, r *http.Request) {
+		fmt.Fprint(w, `{"key": "k"}`)
+	}))
+	defer service.Close()
+	client, _ := NewClient("http://"+still.Addr().String(), WithServices(service.URL), WithTimeout(100*time.Millisecond))
+	if _, err := client.Get(context.Background(), "k"); !errors.Is(err, ErrUnavailable) {
+		t.Error(err)
+	}
+	if saga, err := client.Get(context.Background(), "k"); err != nil || saga.Key != "k" {
+		t.Error(saga, err)
 	}
 }
 

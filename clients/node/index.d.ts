@@ -262,6 +262,8 @@ export interface Task<I = any, R = Record<string, any>, Result = any, Item = any
   /** The W3C trace context that the saga was started in: the parent of a span of this attempt. */
   readonly traceparent: string | null;
   readonly deadline: Date | null;
+  /** Why the task is not wanted, if that was known when it was claimed; `null` if it is wanted. It does not abort `signal`. */
+  readonly cancelled: "aborted" | "failed" | null;
   /** Aborted when the function should stop: `reason` is an `Aborted` or a `LeaseLost`. */
   readonly signal: AbortSignal;
   /** Reports how far it is: a number from 0 to 1, and a text for people. */
@@ -331,7 +333,7 @@ export class Fail extends SagasError {}
 export class Retry extends SagasError {}
 /** Throw it in a function if nobody knows whether it had an effect. Other errors mean the same. */
 export class Unknown extends SagasError {}
-/** The reason of a task's signal: the saga was aborted. */
+/** The reason of a task's signal: the saga is to be undone. */
 export class Aborted extends SagasError {}
 
 /** The service refused a request. */

@@ -37,13 +37,13 @@ function release(word) {
   return released.get(word);
 }
 
-async function hold(worker, task, isDeaf) {
+async function hold(worker, task, { isDeaf = false, fault = new Fail("no") } = {}) {
   const { gone } = release(`${task.key} ${task.step}`);
   const canceled = new Promise((resolve) => task.signal.addEventListener("abort", () => resolve(task.signal.reason)));
   const why = await (isDeaf ? gone : Promise.race([gone, canceled]));
   if (why === undefined) return;
   say({ note: "canceled", worker, key: task.key, step: task.step, why: why instanceof Aborted ? "abort" : "lease" });
-  throw new Fail("no");
+  throw fault;
 }
 
 const ok = (task) => ({ done: `${task.step}${task.isCompensation ? "/undo" : ""}` });
@@ -61,8 +61,9 @@ const WORDS = {
     signal.addEventListener("abort", () => reject(signal.reason));
   }),
   refused: () => fetch("http://127.0.0.1:9"),
-  hold: async (worker, task) => { await hold(worker, task, false); return ok(task); },
-  deaf: async (worker, task) => { await hold(worker, task, true); return ok(task); },
+  hold: async (worker, task) => { await hold(worker, task); return ok(task); },
+  deaf: async (worker, task) => { await hold(worker, task, { isDeaf: true }); return ok(task); },
+  doubt: async (worker, task) => { await hold(worker, task, { fault: new Unknown("who knows") }); return ok(task); },
   big: () => ({ text: "x".repeat(1_000_000) }),
   huge: () => ({ text: "x".repeat(3_000_000) }),
 };

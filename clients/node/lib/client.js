@@ -125,7 +125,7 @@ export class Client {
   }
 
   events(filter = {}) {
-    return new EventStream(this.#connection, filter);
+    return new EventStream(this.#connection, filter, Math.min(ANSWER, this.#timeout));
   }
 
   async #ask(method, path, { body, headers, signal, seconds = Math.min(ANSWER, this.#timeout), patience = this.#timeout }) {

@@ -46,8 +46,8 @@ export class Connection {
     for (const agent of Object.values(this.#agents)) agent.destroy();
   }
 
-  /** One request. Gives the answer whose body is not read yet; throws where there is none. */
-  open(url, method, path, { body, headers, signal } = {}) {
+  /** One request. Gives the answer whose body is not read yet; throws where there is none, or none within so many seconds. */
+  open(url, method, path, { body, headers, signal, seconds } = {}) {
     const { request } = url.protocol === "https:" ? https : http;
     const target = new URL(path, url);
     const data = body === undefined ? undefined : Buffer.from(body);
@@ -59,8 +59,13 @@ export class Connection {
           ...this.#headers, ...headers,
           ...(data && { "content-type": "application/json", "content-length": data.length }),
         },
-      }, resolve);
+      }, (answer) => {
+        clearTimeout(timer);
+        resolve(answer);
+      });
+      const timer = seconds && setTimeout(() => asked.destroy(new Unreachable(`no answer within ${seconds} s`)), 1000 * seconds);
       asked.on("error", (error) => {
+        clearTimeout(timer);
         error.wasReused = asked.reusedSocket;
         reject(error);
       });

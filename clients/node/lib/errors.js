@@ -25,7 +25,7 @@ export class Retry extends SagasError {}
 /** Throw it in a function if nobody knows whether it had an effect. Other errors mean the same. */
 export class Unknown extends SagasError {}
 
-/** The reason of a task's signal: the saga was aborted. */
+/** The reason of a task's signal: the saga is to be undone. */
 export class Aborted extends SagasError {}
 
 /** The service refused a request. */

@@ -39,13 +39,15 @@ export class EventStream {
   #stopped = new AbortController();
   #answer = null; // an open one that nobody reads yet
   #last;
+  #seconds; // that an answer may take
 
-  constructor(connection, { key, definition, lastEventId, signal }) {
+  constructor(connection, { key, definition, lastEventId, signal }, seconds) {
     const query = new URLSearchParams();
     for (const [word, value] of Object.entries({ key, definition })) if (value !== undefined) query.set(word, value);
     this.#connection = connection;
     this.#path = `v1/events?${query}`;
     this.#last = lastEventId;
+    this.#seconds = seconds;
     this.#signal = this.#stopped.signal;
     if (signal?.aborted) this.#stopped.abort(signal.reason);
     signal?.addEventListener("abort", () => this.#stopped.abort(signal.reason), { once: true, signal: this.#signal });
@@ -89,11 +91,11 @@ export class EventStream {
       let refusal;
       try {
         const headers = { accept: "text/event-stream", ...(this.#last && { "last-event-id": this.#last }) };
-        const answer = await this.#connection.open(url, "GET", this.#path, { headers, signal: this.#signal });
+        const answer = await this.#connection.open(url, "GET", this.#path, { headers, signal: this.#signal, seconds: this.#seconds });
         answer.setEncoding("utf8");
         if (answer.statusCode === 200) return answer;
         let text = "";
-        for await (const part of answer) text += part;
+        for await (const part of partsOf(answer, 1000 * this.#seconds)) text += part;
         refusal = problemOf(answer.statusCode, text);
         if (!REPEAT.includes(answer.statusCode)) throw refusal;
       } catch (error) {
@@ -107,11 +109,8 @@ export class EventStream {
   // The events of one answer, until it ends or breaks.
   async *#read(answer) {
     const reader = new EventReader();
-    const alarm = setTimeout(() => answer.destroy(new Unreachable("the stream is silent")), SILENT);
-    alarm.unref();
     try {
-      for await (const part of answer) {
-        alarm.refresh();
+      for await (const part of partsOf(answer, SILENT)) {
         for (const { id, event, data } of reader.read(part)) {
           if (id !== undefined) this.#last = id;
           if (event !== undefined && data !== undefined) yield eventOf(event, this.#last, parse(data));
@@ -119,9 +118,21 @@ export class EventStream {
       }
     } catch (error) {
       if (this.#signal.aborted) throw error; // else it is opened anew
-    } finally {
-      clearTimeout(alarm);
-      answer.destroy();
     }
+  }
+}
+
+// The parts of an answer, until it is silent for so many milliseconds.
+async function* partsOf(answer, silent) {
+  const alarm = setTimeout(() => answer.destroy(new Unreachable("the stream is silent")), silent);
+  alarm.unref();
+  try {
+    for await (const part of answer) {
+      alarm.refresh();
+      yield part;
+    }
+  } finally {
+    clearTimeout(alarm);
+    answer.destroy();
   }
 }

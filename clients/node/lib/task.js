@@ -1,6 +1,6 @@
 // A task that a worker has claimed, and the outcome of its function.
 
-import { Fail, InvalidArgument, LeaseLost, Retry, problemOf } from "./errors.js";
+import { Aborted, Fail, InvalidArgument, LeaseLost, Retry, problemOf } from "./errors.js";
 import { write } from "./json.js";
 
 const MOST_TEXT = 4000; // characters of an error
@@ -38,6 +38,7 @@ export class Task {
       originalIdempotencyKey: told.original_idempotency_key,
       traceparent: told.traceparent,
       deadline: told.deadline === null ? null : new Date(1000 * told.deadline),
+      cancelled: told.cancelled ?? null,
     });
     const hidden = { lease: told.lease, heartbeat, until: performance.now() + 500 * told.seconds, unstorable: undefined };
     for (const [name, value] of Object.entries(hidden)) Object.defineProperty(this, name, { value, writable: true });
@@ -62,6 +63,11 @@ export class Task {
 
   cancel(reason) {
     if (!this.signal.aborted) this.#cancelled.abort(reason);
+  }
+
+  /** A heartbeat said why the task is not wanted. What was known when it was claimed aborts nothing: its function is to find out what happened. */
+  unwanted(why) {
+    if (why && why !== this.cancelled) this.cancel(new Aborted(`${this.key}: ${why === "failed" ? "another step failed" : "the saga was aborted"}`));
   }
 
   /** The service refused a heartbeat. */

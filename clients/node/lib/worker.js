@@ -3,7 +3,7 @@
 import os from "node:os";
 import { setImmediate as immediate } from "node:timers/promises";
 import { Connection } from "./connection.js";
-import { Aborted, InvalidArgument } from "./errors.js";
+import { InvalidArgument } from "./errors.js";
 import { write } from "./json.js";
 import { Outbox, Report } from "./outbox.js";
 import { Task, outcomeOf, shortened } from "./task.js";
@@ -242,7 +242,7 @@ export class Worker {
     try {
       const { status, text } = await this.#connection.ask(url, "POST", `v1/tasks/${encodeURIComponent(task.attemptId)}/heartbeat`, { body, seconds: HEARTBEAT });
       if (status >= 300) task.refused(status, text, this.#logger);
-      else if (JSON.parse(text).cancelled) task.cancel(new Aborted(`${task.key}: the saga was aborted`));
+      else task.unwanted(JSON.parse(text).cancelled);
     } catch {
       this.#connection.turnFrom(url); // the next heartbeat, or the report, is heard
     }

@@ -395,7 +395,7 @@ func (d *driver) perform(ctx context.Context, c command, task sagas.Task[json.Ra
 			return nil, sagas.Fail("it was not refused")
 		}
 		return nil, err
-	case "hold", "deaf":
+	case "hold", "deaf", "doubt":
 		gone := ctx.Done()
 		if word == "deaf" {
 			gone = nil
@@ -407,6 +407,9 @@ func (d *driver) perform(ctx context.Context, c command, task sagas.Task[json.Ra
 		}
 		why := map[sagas.StopReason]string{sagas.Aborted: "abort", sagas.Lost: "lease"}[sagas.Stopped(ctx)]
 		say(object{"note": "canceled", "worker": c.Worker, "key": task.Key, "step": task.Step, "why": why})
+		if word == "doubt" {
+			return nil, sagas.Unknown("who knows")
+		}
 		return nil, sagas.Fail("no")
 	case "big":
 		return object{"text": strings.Repeat("x", 1000000)}, nil

@@ -65,9 +65,12 @@ class Batches:
         after: int | None = None,
         limit: int = 100,
     ) -> builtins.list[Summary]:
-        """Return a page of sagas, in the order in which they were started.
+        """Return a page of sagas, ordered by their ids.
 
-        A client's starts that no node has begun are left out.
+        In a shard, that is the order in which they were started. A saga of another shard may have
+        started later, and have a smaller id: another node started it, or its steps come from its
+        input. So use `on_event` to learn of new sagas, and not `after`. A client's starts that no
+        node has begun are left out.
 
         Args:
             phase: `open`, `completed`, `recovered`, `stuck` or `resolved`; or `undo_failed`, for

@@ -3,6 +3,7 @@
 from __future__ import annotations
 
 import asyncio
+import concurrent.futures
 import contextlib
 import threading
 from collections.abc import Callable, Coroutine
@@ -14,7 +15,8 @@ from sagas.core import pending
 from sagas.runtime import current_step
 
 T = TypeVar("T")
-SOON = 2.0  # seconds that a loop has to say what a saga waits for
+SOON = 2.0
+"""Seconds that a loop has to say what a saga waits for, or to end what still runs."""
 
 
 class Loop:
@@ -26,6 +28,8 @@ class Loop:
         self.where, self._closed = where, f"{what} {remedy}"
         self._opened = Opened(what)
         self._loop: asyncio.AbstractEventLoop | None = None
+        self._asked: set[concurrent.futures.Future[Any]] = set()
+        self._guard = threading.Lock()
 
     @property
     def runs(self) -> bool:
@@ -44,13 +48,16 @@ class Loop:
         self._thread.start()
 
     def end(self) -> None:
-        """Ends it."""
-        loop, self._loop = self._loop, None
+        """Ends it. Threads that still wait for something hear that it is closed."""
+        with self._guard:
+            loop, self._loop = self._loop, None
         assert loop
-        asyncio.run_coroutine_threadsafe(loop.shutdown_asyncgens(), loop).result()
+        asyncio.run_coroutine_threadsafe(_finish(loop), loop).result()
         loop.call_soon_threadsafe(loop.stop)
         self._thread.join()
         loop.close()
+        for future in [*self._asked]:
+            future.cancel()
         self._opened.end()
 
     def do(self, work: Coroutine[Any, Any, T], timeout: float | None = None) -> T:
@@ -58,23 +65,36 @@ class Loop:
         many seconds. Raises `RuntimeError` in the loop's own thread, which would wait for
         itself.
         """
-        if not self.runs or self._loop is None:
+        with self._guard:
+            loop = self._loop if self.runs else None
+            if loop and threading.current_thread() is not self._thread:
+                with current_step.blocking():
+                    future = asyncio.run_coroutine_threadsafe(work, loop)
+                self._asked.add(future)
+        if loop is None:
             work.close()
             self._opened.check(self.where)
-            raise Closed(f"{self.where}: {self._closed}")
+            raise self._is_closed()
         if threading.current_thread() is self._thread:
             work.close()
             raise RuntimeError(
                 f"{self.where}: the call would wait for its own event loop. Make the function "
                 "a plain def, or use the async API"
             )
-        with current_step.blocking():
-            future = asyncio.run_coroutine_threadsafe(work, self._loop)
         try:
             return future.result(timeout)
+        except concurrent.futures.CancelledError:
+            if self.runs:
+                raise
+            raise self._is_closed() from None
         except BaseException:
             future.cancel()
             raise
+        finally:
+            self._asked.discard(future)
+
+    def _is_closed(self) -> Closed:
+        return Closed(f"{self.where}: {self._closed}")
 
     def in_time(
         self,
@@ -93,3 +113,13 @@ class Loop:
         with contextlib.suppress(Exception):  # the loop may be held up
             found = self.do(waits(), SOON)
         raise pending.still_open(key, timeout, found)
+
+
+async def _finish(loop: asyncio.AbstractEventLoop) -> None:
+    """Cancel all that still runs in a loop, and wait until it has ended."""
+    tasks = asyncio.all_tasks(loop) - {asyncio.current_task(loop)}
+    for task in tasks:
+        task.cancel()
+    if tasks:
+        await asyncio.wait(tasks, timeout=SOON)
+    await loop.shutdown_asyncgens()

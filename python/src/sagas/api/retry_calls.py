@@ -142,5 +142,6 @@ class RetryCalls(Operators):
     ) -> builtins.list[Waits]:
         arguments.count("limit", limit)
         within = Filter(saga=name_of(saga), labels=checked(labels))
-        waits = lists.waits(limit, why=Suspension.EXHAUSTED.value, within=within)
-        return [one for one in await self._answer(waits) if step in (None, one.step)]
+        most = limit if step is None else lists.ALL  # the rows have no names of steps
+        waits = lists.waits(most, why=Suspension.EXHAUSTED.value, within=within)
+        return [one for one in await self._answer(waits) if step in (None, one.step)][:limit]

@@ -52,7 +52,7 @@ class Schedules(Batches):
         The saga of a time has the key `NAME@TIME`, for example `nightly@2026-03-01T02:00:00Z`. A
         node that has the definition starts it. The call is idempotent: make it whenever the
         program starts. A schedule that is there is changed; if nothing differs, it goes on as it
-        is, also if it is paused.
+        is, also if it is paused. A start that is on its way keeps the previous input.
 
         Args:
             name: The schedule's name: 1 to 128 printable characters without `@`.
@@ -81,12 +81,8 @@ class Schedules(Batches):
         having = json.dumps(dict(checked(labels)))
         location, text = self._location(), serialization.write(input, "input")
         self._check_input(saga, input, text)
-        text = self._stored().encode(text)
-        what, now = (saga.name, saga.version), self._now()
-        await beside(
-            location,
-            lambda link: schedules_module.Schedules(link).put(name, what, text, having, when, now),
-        )
+        words = (saga.name, saga.version), text, having, when, self._now(), self._stored()
+        await beside(location, lambda link: schedules_module.Schedules(link).put(name, *words))
 
     async def schedules(self) -> builtins.list[Schedule]:
         """Return the schedules, by name.
@@ -100,6 +96,8 @@ class Schedules(Batches):
 
     async def pause_schedule(self, name: str) -> None:
         """Start no more sagas of a schedule, until it is resumed.
+
+        A start that is on its way as the call is made goes on: one saga at each node, at most.
 
         Args:
             name: The schedule's name.

@@ -114,7 +114,7 @@ class Worker:
         self._busy = self._asking = self._moves = 0
         # seconds that a function took lately; that nothing is known makes one task at a time
         self._mean = AHEAD
-        self._fault: ServiceRefused | None = None
+        self._fault: BaseException | None = None
 
     @property
     def url(self) -> str:
@@ -185,6 +185,7 @@ class Worker:
         Raises:
             ServiceRefused: The service refuses the worker, for example its token.
             ValueError: The worker has no function.
+            Exception: A thread of the worker failed. The log has its traceback.
         """
         if not self._steps:
             raise ValueError(
@@ -196,13 +197,12 @@ class Worker:
             raise self._fault
 
     def _run(self) -> None:
+        works = {f"sagas-worker-{number}": self._work for number in range(self.concurrency)}
+        works["sagas-worker-heartbeat"] = self._keep_leases
         threads = [
-            threading.Thread(target=self._work, name=f"sagas-worker-{number}", daemon=True)
-            for number in range(self.concurrency)
+            threading.Thread(target=self._live, args=(work,), name=name, daemon=True)
+            for name, work in works.items()
         ]
-        threads.append(
-            threading.Thread(target=self._keep_leases, name="sagas-worker-heartbeat", daemon=True)
-        )
         try:
             for thread in threads:
                 thread.start()
@@ -223,23 +223,25 @@ class Worker:
         """
         self._stop.set()
 
-    def _work(self) -> None:
+    def _live(self, work: Callable[[], None]) -> None:
+        """The life of a thread. If it ends early, the worker ends with it, and says why."""
         try:
-            while one := self._one():
-                told = None
-                try:
-                    told = self._do(one)
-                finally:
-                    with self._rests:
-                        self._busy -= 1
-                        self._add(told)
-        except ServiceRefused as fault:
+            work()
+        except BaseException as fault:
+            if not isinstance(fault, ServiceRefused):
+                logger.exception("a thread of this worker failed")
             self._fault = self._fault or fault
             self.stop()
-        except Exception:
-            logger.exception("a thread of this worker failed")
-            self.stop()
-            raise
+
+    def _work(self) -> None:
+        while one := self._one():
+            told = None
+            try:
+                told = self._do(one)
+            finally:
+                with self._rests:
+                    self._busy -= 1
+                    self._add(told)
 
     def _one(self) -> _Held | None:
         """A task to begin, taken ahead or asked for now; where several may come at once, one

@@ -75,11 +75,6 @@ def task_of(told: dict[str, Any], shared: Context) -> Task[Any]:
     saga_token = told["idempotency_key"].removesuffix(f"-{step}-{'undo' if undo else 'run'}")
     results = {name: serialization.write(value) for name, value in told["results"].items()}
     result = serialization.write(told["result"]) if undo else None
-    declared, key = told.get("declared_step", step), told.get("item_key")
-    index = told.get("index") if key is None else key
-    place = None
-    if declared != step:
-        place = ToldPlace(declared, index, told.get("item"), told.get("given"))
     task: Task[Any] = Task(
         Told(
             told["definition"],
@@ -94,7 +89,7 @@ def task_of(told: dict[str, Any], shared: Context) -> Task[Any]:
             deadline=told.get("deadline"),
             traceparent=told.get("traceparent"),
             context=shared,
-            place=place,
+            place=None if told.get("shape") is None else ToldPlace(told),
         )
     )
     if reason := told.get("cancelled"):
@@ -137,7 +132,7 @@ def _outcome(
             result = asyncio.run(_awaited(manner, task, awaitables.whole(result)))
     except asyncio.CancelledError:
         return "unknown", {"error": "cancelled, since the saga was aborted"}, None
-    except Exception as error:
+    except BaseException as error:  # sys.exit() too is only the function's: its thread goes on
         kind = outcomes.classify(error, manner.unknown)
         told: dict[str, Any] = {"error": outcomes.described(error)[:MOST_TEXT]}
         if kind is outcomes.PERMANENT:

@@ -63,11 +63,23 @@ class Work:
         return {name: decoder for name, decoder in told.items() if decoder}
 
     def perform(self, told: dict[str, Any]) -> None:
-        """Does one message. Raises `Reject` where the store could not be reached for too long:
-        the message goes back.
+        """Does one message. Raises `Reject` where the store could not be reached for too long, or
+        the soft time limit came before the function: the message goes back.
         """
-        order, queue = Order.read(told), self.queue
-        begun = _surely(queue, lambda: queue.desk().begin(order))
+        order = Order.read(told)
+        try:
+            self._perform(order)
+        except SoftTimeLimitExceeded as error:
+            logger.warning(
+                "%s: the soft time limit came while the worker asked the store, so the message "
+                "goes back",
+                order.token,
+            )
+            raise Reject(str(error), requeue=True) from error
+
+    def _perform(self, order: Order) -> None:
+        queue = self.queue
+        begun = _surely(lambda: queue.desk().begin(order), time.monotonic() + queue.patience)
         if begun is None:
             logger.info(
                 "%s: ignored a late or repeated message: the attempt has ended", order.token
@@ -76,10 +88,7 @@ class Work:
         function = self.manner.function
         assert function
         if self.step.saga.outer(order.saga, order.version) is None:
-            _surely(
-                queue,
-                lambda: queue.desk().report(order, outcomes.unknown(UNKNOWN.format(order.saga))),
-            )
+            self._report(order, outcomes.unknown(UNKNOWN.format(order.saga)))
             return
         if self.manner.transaction:
             function = queue.desk().within(order, function)
@@ -91,7 +100,20 @@ class Work:
         if (
             outcome.kind is not OutcomeKind.SUCCEEDED or not self.manner.transaction
         ):  # else the report is in the store already
-            _surely(queue, lambda: queue.desk().report(order, outcome))
+            self._report(order, outcome)
+
+    def _report(self, order: Order, outcome: Outcome) -> None:
+        """Goes on where the soft time limit comes, which Celery raises once: the function has
+        ended, and how is known."""
+
+        def report() -> None:
+            self.queue.desk().report(order, outcome)
+
+        until = time.monotonic() + self.queue.patience
+        try:
+            _surely(report, until)
+        except SoftTimeLimitExceeded:
+            _surely(report, until)
 
     def _outcome(self, function: Function, task: Task[Any]) -> Outcome:
         """Calls the function, within a span where there is a tracer. Raises `Settled`."""
@@ -140,9 +162,9 @@ class Work:
         )
 
 
-def _surely(queue: Queue, ask: Callable[[], T]) -> T:
-    """Asks until the store answers, as long as the queue has patience."""
-    until, pause = time.monotonic() + queue.patience, FIRST_PAUSE
+def _surely(ask: Callable[[], T], until: float) -> T:
+    """Asks until the store answers, for so long as the queue has patience."""
+    pause = FIRST_PAUSE
     while True:
         try:
             return ask()

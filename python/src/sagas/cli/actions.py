@@ -23,7 +23,6 @@ from sagas.storage.operator_requests import reason
 from sagas.storage.queries import DEFINITION
 
 Json = dict[str, Any]
-ALL = 1 << 60
 VERBS = {"complete": "completes", "fail": "fails", "retry": "retries"}
 WITHDRAWN = "withdrawn"
 """The answer to an abort of a start that no node had taken."""
@@ -189,7 +188,7 @@ def answer(
         return request(path, words, what, report_of(words) | told, f"{words.step} {done}", refused)
     why = Suspension.EXHAUSTED.value
     with Snapshot(path) as store:
-        waits = store.ask(lists.waits(ALL, why=why, within=filter_of(words)))
+        waits = store.ask(lists.waits(lists.ALL, why=why, within=filter_of(words)))
     waits = [one for one in waits if words.only in (None, one.step)]
     if not words.yes:
         return show_count(words, len(waits), f"--yes {VERBS[what]}", "step")

@@ -18,7 +18,6 @@ from sagas.inspection.views import Waits
 from sagas.storage.filters import Filter
 
 Json = dict[str, Any]
-ALL = 1 << 60
 NEEDS = {
     AttentionReason.STUCK: "stuck",
     AttentionReason.UNDO_FAILED: "undo failed",
@@ -128,7 +127,7 @@ def definitions(path: str, words: argparse.Namespace) -> int:
 def stuck(path: str, words: argparse.Namespace) -> int:
     """List the stuck sagas that nobody has resolved."""
     with Snapshot(path) as store:
-        name, found = store.link.name, store.ask(lists.stuck(ALL))
+        name, found = store.link.name, store.ask(lists.stuck(lists.ALL))
         undo_failed = store.ask(lists.count(Filter("undo_failed")))
     if words.json:
         show_json(
@@ -155,7 +154,7 @@ def attention(path: str, words: argparse.Namespace) -> int:
     values that no program could read.
     """
     with Snapshot(path) as store:
-        entries = store.ask(lists.attention(words.limit or ALL))
+        entries = store.ask(lists.attention(words.limit or lists.ALL))
     if words.json:
         show_json([dataclasses.asdict(one) for one in entries])
         return GOOD
@@ -178,7 +177,7 @@ def pending(path: str, words: argparse.Namespace) -> int:
     Failed attempts that repeat, and tasks that no worker has claimed, are not listed.
     """
     with Snapshot(path) as store:
-        held = [held_json(one) for one in store.ask(lists.waits(ALL, person=False))]
+        held = [held_json(one) for one in store.ask(lists.waits(lists.ALL, person=False))]
         held += [start_json(*row) for row in store.link.starts()]
     if words.json:
         show_json(held)

@@ -37,7 +37,7 @@ def go_on(attempt: Attempt, outcome: Outcome, now: float) -> Decision | None:
     if attempt.instance.draining and not attempt.undo:
         return None
     made = attempt.attempt + attempt.failures
-    repeats = manner.on_exhausted == "retry" or made < (manner.max_attempts or 0)
+    repeats = manner.on_exhausted == "retry" or made < (manner.max_attempts or tries)
     if manner.on_exhausted == "fail" and (is_final or not repeats):
         return None
     told = json.loads(outcome.value)
@@ -76,11 +76,15 @@ def yields(attempt: Attempt) -> float:
 
 
 def retry(attempt: Attempt, now: float) -> Decision:
-    """Call one again at once, as a person wants: its number of attempts begins anew."""
+    """Call one again at once, as a person wants: its number of attempts begins anew.
+
+    For the engine its number stays, so what was made before is taken off the failures.
+    """
     is_unknown = attempt.reason is Suspension.UNKNOWN
     reason = Suspension.UNKNOWN if is_unknown else Suspension.RETRY
     if attempt.declared.child is None:  # else they number its children
-        attempt.rare.failures = attempt.rare.count = 0
+        attempt.rare.failures = 0 if is_unknown else 1 - attempt.attempt
+        attempt.rare.count = 0
     detail = attempt.outcome.value if attempt.outcome else ""
     if not is_unknown:
         detail = str(json.loads(detail or "{}").get("error", ""))

@@ -149,7 +149,7 @@ class Attempt(AcknowledgedAttempt):
 
     @property
     def failures(self) -> int:
-        """How often it failed, and was called again."""
+        """How often it failed, and was called again; below 0 behind a retry by a person."""
         return self.extras.failures if self.extras else 0
 
     @property

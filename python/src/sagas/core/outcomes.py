@@ -37,16 +37,18 @@ class Outcome(NamedTuple):
             could not be decoded.
         called: Whether the function was called; else the attempt was given up.
         error: What the function raised here, for the log's traceback. None for a `Fail`.
+        encoded: Whether the value is as it is stored.
     """
 
     kind: OutcomeKind
     value: str
     called: bool = True
     error: BaseException | None = None
+    encoded: bool = False
 
 
 _outcome = cast(
-    "Callable[[tuple[OutcomeKind, str, bool, None]], Outcome]",
+    "Callable[[tuple[OutcomeKind, str, bool, None, bool]], Outcome]",
     functools.partial(tuple.__new__, Outcome),
 )
 """As `Outcome`, for what is made all the time."""
@@ -70,7 +72,7 @@ def succeeded(value: Any, task: Task[Any] | None = None) -> Outcome:
         Unawaited: The result is awaitable. What it comes to is the result.
     """
     try:
-        return _outcome((SUCCEEDED, serialization.write(value), True, None))
+        return _outcome((SUCCEEDED, serialization.write(value), True, None, False))
     except NotSerializable as error:
         if isinstance(value, Answer):
             return Outcome(ANSWERED, value.written())
@@ -113,7 +115,12 @@ def failure(
 
 def unknown(text: str) -> Outcome:
     """Return the outcome of a call that may have had its effect."""
-    return Outcome(UNKNOWN, text[:MOST_TEXT])
+    return _told(UNKNOWN, text)
+
+
+def _told(kind: OutcomeKind, text: str) -> Outcome:
+    """Return an outcome with a text that every database can keep."""
+    return Outcome(kind, serialization.clean(text[:MOST_TEXT])[:MOST_TEXT])
 
 
 def raised(error: BaseException, manner: Manner) -> Outcome:
@@ -121,7 +128,7 @@ def raised(error: BaseException, manner: Manner) -> Outcome:
     kind = classify(error, manner.unknown)
     text = str(error) if isinstance(error, CannotDecode) else described(error)
     if kind is UNKNOWN or kind is CANNOT_DECODE:
-        return Outcome(kind, text[:MOST_TEXT])
+        return _told(kind, text)
     if kind is PERMANENT:
         return failure(text, final=True)
     after = error.seconds if isinstance(error, RetryAfter) else None

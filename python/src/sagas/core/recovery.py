@@ -248,7 +248,7 @@ def _resume(
         saga.busy[attempt.word] = attempt
         if row in kept and attempt.state is not FINISHED:
             *_, value, at = kept[row]
-            attempt.finish(Outcome(SUCCEEDED, value or "null"), at)
+            attempt.finish(Outcome(SUCCEEDED, value or "null", encoded=True), at)
         found.resumed.append(attempt)
     found.forgotten += old.values()
 

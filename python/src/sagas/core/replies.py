@@ -131,7 +131,7 @@ class Reading:
             assert outcome
             attempt.event = event
             value = outcome.value
-            if saga.kind.payloads.codec and outcome.kind is SUCCEEDED:
+            if saga.kind.payloads.codec and outcome.kind is SUCCEEDED and not outcome.encoded:
                 value = stored(saga.kind.payloads, value)
             row: Result = (
                 first + saga.number, attempt.step, attempt.kind, attempt.attempt, event, value,

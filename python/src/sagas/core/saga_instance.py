@@ -115,11 +115,12 @@ class SagaInstance(AcknowledgedSaga):
     @property
     def tenant(self) -> str | None:
         """Whose it is, where its definition says that. It is asked for once."""
-        by = self.kind.fair_by
+        kind = self.kind
+        by = kind.fair_by
         if by is None:
             return None
         if self.rare.tenant is None:
-            self.rare.tenant = tenant_of(by, self.text, self.kind.name)
+            self.rare.tenant = tenant_of(by, self.text, kind.payloads, kind.name)
         return self.rare.tenant
 
     @property

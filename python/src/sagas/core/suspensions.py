@@ -6,12 +6,14 @@ import dataclasses
 from collections.abc import Callable
 from typing import Any
 
+from sagas.base.errors import CannotDecode
 from sagas.base.logger import logger
 from sagas.core.batch import Wanted
 from sagas.core.states import EarlyReason, Suspension
 from sagas.definition import serialization
 from sagas.definition.compiled import Word
 from sagas.definition.control import Control
+from sagas.definition.payloads import Payloads
 from sagas.definition.shape_values import ShapeValues
 
 
@@ -88,10 +90,14 @@ class SagaExtras:
     """Whose it is, as JSON; None until that is asked."""
 
 
-def tenant_of(by: Callable[[Any], Any], text: str, name: str) -> str:
-    """Whose a saga is, by its definition's function of its input; `null` where that raises."""
+def tenant_of(by: Callable[[Any], Any], text: str, payloads: Payloads, name: str) -> str:
+    """Whose a saga is, by its definition's function of its input; `null` where that raises, or
+    the input cannot be decoded.
+    """
     try:
-        return serialization.write(by(serialization.read(text)), "fair_by")
+        return serialization.write(by(serialization.read(payloads.decode(text))), "fair_by")
+    except CannotDecode:  # its attempts are told as such
+        return "null"
     except Exception as error:
         logger.warning(
             "saga %r: fair_by raised %s. Such sagas share one tenant",

@@ -17,12 +17,21 @@ from sagas.definition import mismatches
 from sagas.definition.mismatches import Misfit
 
 Decoder = Callable[[Any], Any]
+
+
+def _decimal(value: Any) -> decimal.Decimal:
+    """A number as it is written: 19.99, and not the nearest binary fraction."""
+    if isinstance(value, bool) or not isinstance(value, (str, int, float)):
+        raise TypeError
+    return decimal.Decimal(repr(value) if isinstance(value, float) else value)
+
+
 _BY_TEXT: dict[type, Decoder] = {
     datetime.datetime: datetime.datetime.fromisoformat,
     datetime.date: datetime.date.fromisoformat,
     datetime.time: datetime.time.fromisoformat,
     uuid.UUID: uuid.UUID,
-    decimal.Decimal: decimal.Decimal,
+    decimal.Decimal: _decimal,
 }
 
 
@@ -277,18 +286,26 @@ def _of_union(words: tuple[Any, ...]) -> Decoder | None:
     found = [(word, decoder(word)) for word in words]
     parts = [part for _, part in found if part is not None]
     plain = [word for word, part in found if part is None]
+    numbers = [word for word in plain if word in (int, float) and decimal.Decimal in words]
     if not parts:
         return None
 
     def make(value: Any) -> Any:
         if value is None and type(None) in plain:
             return None
-        faults: list[Exception] = []
+        if any(_may_be(value, word) for word in numbers):  # a `Decimal` is stored as a text
+            return value
+        faults, read = list[Exception](), list[Any]()
         for part in parts:
             try:
-                return part(value)
+                read.append(part(value))
             except (TypeError, ValueError, KeyError, AttributeError) as error:
                 faults.append(error)
+                continue
+            if len(parts) == 1 or _knows(read[-1], value):
+                return read[-1]
+        if read:
+            return read[0]
         if any(_may_be(value, word) for word in plain):
             return value
         has_more = any(word is not type(None) for word in plain)
@@ -297,6 +314,20 @@ def _of_union(words: tuple[Any, ...]) -> Decoder | None:
         raise Misfit(": matches none of its types")
 
     return make
+
+
+def _knows(made: Any, value: Any) -> bool:
+    """Whether a type has all the fields of the value that was made of it."""
+    if not isinstance(value, dict):
+        return True
+    if dataclasses.is_dataclass(made):
+        names = {field.name for field in dataclasses.fields(made)}
+    else:
+        fields = getattr(type(made), "model_fields", None) or getattr(made, "__fields__", None)
+        if fields is None:
+            return True
+        names = {*fields, *(str(getattr(field, "alias", "")) for field in fields.values())}
+    return names >= set(value)
 
 
 _JSON: dict[Any, tuple[type, ...]] = {

@@ -78,6 +78,10 @@ class Layout:
         """What the names of the steps in a scope begin with."""
         return "".join(f"{name}-" if at is None else f"{name}-{at}-" for name, at in scope)
 
+    def name(self, scope: Scope, name: str, index: int | None) -> str:
+        """The whole name of a step in a scope."""
+        return self.prefix(scope) + name + ("" if index is None else f"-{index}")
+
     def within(self, scope: Scope) -> Iterator[tuple[str, str]]:
         """The steps in a scope, and in what is included there: each by its name there, and by the
         whole one.
@@ -117,3 +121,19 @@ class Layout:
             ]
         keys = values.keys_of(scope, name)
         return found if keys is None else dict(zip(keys, found))
+
+
+class ToldLayout(Layout):
+    """The same for a worker elsewhere, which knows the numbers of items, and no other steps than
+    those that have results.
+    """
+
+    def __init__(self, values: ShapeValues) -> None:
+        super().__init__((), ())
+        self._values = values
+
+    def own(self, scope: Scope, name: str, index: int | None) -> str:
+        """As of `Layout`; whether there is such a step, only the results tell."""
+        if (index is None) != (self._values.count(scope, name) is None):
+            raise KeyError(f"step {Spot(scope, name, index).word!r} is not there for this input")
+        return self.name(scope, name, index)

@@ -49,15 +49,26 @@ class Payloads:
         """Whether what is stored may be something else than the value."""
         return self.codec is not None or self.has_blobs
 
-    def encode(self, text: str) -> str:
-        """Return a text as it is stored; one that is encoded already as it is.
+    def check(self, text: str) -> None:
+        """Check the text of a value that somebody gave.
 
         Raises:
-            NotSerializable: The codec failed, or the text looks as a reference to a blob.
+            NotSerializable: It looks as what is stored in place of a value: it would be read as
+                another one.
         """
         if text.startswith(HEAD) and Reference.of(text):
             raise NotSerializable("it looks as a reference to a blob. Use another key than $blob")
-        if self.codec is None or ENVELOPE.match(text):
+        if self.codec is not None and ENVELOPE.match(text):
+            raise NotSerializable("it looks as an encoded value. Use another key than $codec")
+
+    def encode(self, text: str) -> str:
+        """Return a text as it is stored.
+
+        Raises:
+            NotSerializable: The codec failed, or as of `check`.
+        """
+        self.check(text)
+        if self.codec is None:
             return text
         try:
             data = base64.b64encode(self.codec.encode(text.encode())).decode()
@@ -85,7 +96,9 @@ class Payloads:
 
     def encode_value(self, value: Any) -> Any:
         """As `encode`, of a value that is a part of another one."""
-        return value if self.codec is None else json.loads(self.encode(json.dumps(value)))
+        if self.codec is None:
+            return value
+        return json.loads(self.encode(json.dumps(value, separators=(",", ":"))))
 
     def decode_value(self, value: Any) -> Any:
         """As `decode`, of a value that is a part of another one."""

@@ -9,7 +9,7 @@ from typing import TYPE_CHECKING, Any, Protocol
 
 from sagas.definition import serialization
 from sagas.definition.decoders import Decoder
-from sagas.definition.layout import Layout, Scope, Spot
+from sagas.definition.layout import Layout, Scope, Spot, ToldLayout
 from sagas.definition.selection import Selection
 from sagas.definition.shape_values import ShapeValues
 
@@ -61,6 +61,11 @@ class Place:
         self._reading, self._input = reading, input
 
     @property
+    def saga(self) -> str:
+        """The name of the saga in which it was declared."""
+        return self._reading.saga(self.spot.scope)
+
+    @property
     def index(self) -> int | str | None:
         """The number of its item, or the item's key in a dict; None where it has none."""
         return self.values.key(self.spot)
@@ -82,6 +87,11 @@ class Place:
             return NO_ITEM
         told = {"index": number, "item_key": key if isinstance(key, str) else None}
         return told | {"item": self.values.item(self.spot)}
+
+    @property
+    def shape(self) -> dict[str, Any]:
+        """What a worker elsewhere needs to find results by what was declared."""
+        return {"saga": self.saga, **self.values.told(self.spot.scope)}
 
     def visible(self, texts: Mapping[str, str]) -> Iterator[tuple[str, str]]:
         """Of the steps that have results, those of its own saga: by the name there, and the whole
@@ -105,7 +115,7 @@ class Place:
         Raises:
             KeyError: They are not there, or not of this saga.
         """
-        scope, name = self.spot.scope, self._reading.saga(self.spot.scope)
+        scope, name = self.spot.scope, self.saga
         if isinstance(step, str):
             whole = self.layout.prefix(scope) + step
             if whole in self.layout.spots:
@@ -147,19 +157,34 @@ class Place:
 
 
 class ToldPlace(Place):
-    """Where a task is, as a worker elsewhere was told: its results have names already."""
+    """Where a task is, as a worker elsewhere was told: its results have names already.
 
-    __slots__ = ("_index", "_item", "_given")
+    Args:
+        told: The task as the service wrote it, of a saga that has a shape.
+    """
 
-    def __init__(self, declared: str, index: int | str | None, item: Any, given: Any) -> None:
-        self.spot = Spot((), declared, None if index is None else 0)
-        self._index, self._item = index, serialization.write(item)
-        self._given = serialization.write(given)
+    __slots__ = ("_saga", "_key", "_item", "_given", "_whole", "_name")
+
+    def __init__(self, told: dict[str, Any]) -> None:
+        shape, declared, number = told["shape"], told["declared_step"], told["index"]
+        self.spot, self.values = Spot((), declared, number), ShapeValues.of_told(shape)
+        self.layout = ToldLayout(self.values)
+        self._saga, self._key, self._whole = shape["saga"], told["item_key"], told["step"]
+        self._name = self.layout.name((), declared.rpartition("/")[2], number)
+        self._item = serialization.write(told["item"])
+        self._given = serialization.write(told["given"])
+
+    @property
+    def saga(self) -> str:
+        """As of `Place`."""
+        name: str = self._saga
+        return name
 
     @property
     def index(self) -> int | str | None:
         """As of `Place`."""
-        return self._index
+        key: str | None = self._key
+        return self.spot.number if key is None else key
 
     def item(self) -> Any:
         """The item, as JSON has it: a new object at each call."""
@@ -170,8 +195,9 @@ class ToldPlace(Place):
         return ((name, name) for name in texts)
 
     def gather(self, step: Selection[Any] | str, one: Callable[[str], Any]) -> Any:
-        """The result with the step's name; of a fan-out a list or a dict."""
-        return one(step if isinstance(step, str) else step.path[-1])
+        """As of `Place`; `one` is called with names in its own saga, and of its step the whole."""
+        own, whole = self._name, self._whole
+        return super().gather(step, lambda name: one(whole if name == own else name))
 
     def given(self, about: About) -> Any:
         """What the service computed: a new object at each call."""

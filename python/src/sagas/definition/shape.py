@@ -161,7 +161,7 @@ class Shape:
     ) -> Sequence[int | None]:
         """The numbers of a part's items, which are kept; `ONE` if it has none."""
         if part.when is not None:
-            is_there = bool(_asked(part, "when", part.when, value))
+            is_there = _asked(part, "when", _truth(part.when), value)
             self.structure.append(is_there)
             if not is_there:
                 return ()
@@ -182,17 +182,10 @@ class Shape:
     def _keep(self, part: Part, group: str, value: Any) -> set[str]:
         """Keep the items of a fan-out. Return the names of their types that JSON does not have."""
         assert part.for_each is not None
-        found = _asked(part, "for_each", _reader(part.for_each), value)
-        if isinstance(found, Mapping):
-            keys = sorted(found)
-            if not all(isinstance(key, str) for key in keys):
-                raise _invalid(part, "for_each: the keys of the dict must be texts")
+        reader = _reader(part.for_each)
+        found, keys = _asked(part, "for_each", lambda given: _listed(part, reader(given)), value)
+        if keys is not None:
             self.values.keys[group] = keys
-            found = [found[key] for key in keys]
-        elif isinstance(found, (str, bytes)) or not hasattr(found, "__iter__"):
-            kind = type(found).__name__
-            raise _invalid(part, f"for_each gives a {kind}: it must be a list or a dict of items")
-        found = [*found]
         self.values.items[group] = [_plain(part, "an item", item) for item in found]
         return {type(item).__name__ for item in found if type(item) not in PLAIN}
 
@@ -344,6 +337,24 @@ def _reader(of: ForEach | str | Callable[[Any], Any]) -> Callable[[Any], Any]:
         return value
 
     return read
+
+
+def _truth(of: Callable[[Any], Any]) -> Callable[[Any], bool]:
+    """The same function; that what it returns is true or false is code of the user's, too."""
+    return lambda value: bool(of(value))
+
+
+def _listed(part: Part, found: Any) -> tuple[list[Any], list[str] | None]:
+    """The items, and their keys. Reading them may call more of the function: a generator's."""
+    if isinstance(found, Mapping):
+        if not all(isinstance(key, str) for key in found):
+            raise _invalid(part, "for_each: the keys of the dict must be texts")
+        keys = sorted(found)
+        return [found[key] for key in keys], keys
+    if isinstance(found, (str, bytes)) or not hasattr(found, "__iter__"):
+        kind = type(found).__name__
+        raise _invalid(part, f"for_each gives a {kind}: it must be a list or a dict of items")
+    return [*found], None
 
 
 def _invalid(part: Part, why: str) -> InvalidInput:

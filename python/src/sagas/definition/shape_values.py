@@ -33,6 +33,27 @@ class ShapeValues:
         told = serialization.read(text)
         return cls(told.get("inputs"), told.get("items"), told.get("keys"))
 
+    @classmethod
+    def of_told(cls, told: dict[str, Any]) -> ShapeValues:
+        """Make those of which only numbers and keys are known, of what `told` returned."""
+        items: dict[str, list[Any] | str] = {
+            group: [None] * count for group, count in told["counts"].items()
+        }
+        return cls(None, items, told["keys"])
+
+    def told(self, scope: Scope) -> dict[str, Any]:
+        """The numbers of items within a scope, and their keys, by the groups as they are there."""
+        head = f"{Spot(scope[:-1], *scope[-1]).word}/" if scope else ""
+        counts, keys = {}, {}
+        for whole in self.items:
+            if whole.startswith(head):
+                of, group = self.items[whole], whole[len(head) :]
+                same = of if isinstance(of, str) else whole
+                counts[group] = len(self.items[same])
+                if same in self.keys:
+                    keys[group] = self.keys[same]
+        return {"counts": counts, "keys": keys}
+
     def text(self) -> str:
         """Write them, as they are kept."""
         told = {"inputs": self.inputs, "items": self.items, "keys": self.keys}

@@ -255,13 +255,17 @@ class Task(Generic[I]):
 
     @property
     def plain(self) -> dict[str, Any]:
-        """`input`, `item`, `results` and `result` as JSON values, for a worker elsewhere."""
+        """`input`, `item`, `results` and `result` as JSON values, for a worker elsewhere.
+
+        With the shape of its saga.
+        """
         about, texts, place = self._about, self._texts, self._about.place
         names = place.visible(texts) if place else ((name, name) for name in texts)
         results = {name: serialization.read(texts[step]) for name, step in names}
         return {
             "declared_step": self.declared_step,
             **(place.plain if place else NO_ITEM),
+            "shape": place.shape if place else None,
             "input": serialization.read(about.input),
             "results": results | dict(place.groups(texts)) if place else results,
             "result": None if about.own is None else serialization.read(about.own),

@@ -54,7 +54,7 @@ class Timing:
             InvalidSchedule: There is none.
         """
         if self.every:
-            return (at // self.every + 1) * self.every
+            return (self._passed(at) + 1) * self.every
         start = datetime.datetime.fromtimestamp(at, UTC)
         found = Cron.parse(self.cron).next_after(start, ZoneInfo(self.timezone))
         if found is None:
@@ -79,10 +79,16 @@ class Timing:
             at = self.next_after(at)
         return times, at
 
+    def _passed(self, at: float) -> float:
+        """How many distances there are until then."""
+        whole = at // self.every
+        # a multiple is rounded, maybe to less than it is: then it is not counted yet
+        return whole + ((whole + 1) * self.every <= at)
+
     def _last(self, first: float, now: float) -> float:
         """The last time until now, of which the first is one: there may be millions between."""
         if self.every:
-            return now // self.every * self.every
+            return self._passed(now) * self.every
         low, high = first - 1, now
         while high - low > APART / 2:  # the last one is behind `low`, and not behind `high`
             middle = (low + high) / 2

@@ -72,8 +72,9 @@ class Entry:
 
     @property
     def cause(self) -> str:
-        """Its detail without numbers: the same for all of one cause."""
+        """What is meant, and its detail without numbers: the same for all of one cause."""
         of = " and ".join(self.blocking) or self.step or ""
+        of = f"undoing {of}" if self.undo else of
         return f"{of}: {NUMBERS.sub('…', self.detail)}" if self.detail else of
 
 
@@ -90,12 +91,14 @@ def entries(
     kind: str,
     of: Filter = NOTHING,
     step: str | None = None,
+    undo: bool | None = None,
     *,
     after: Place = None,
     newest: bool = False,
     most: int = 100,
 ) -> Question[list[Entry]]:
-    """A page of one of `KINDS`, by the age of the sagas. `of`: without a phase."""
+    """A page of one of `KINDS`, by the age of the sagas. `of`: without a phase; `undo`: of a
+    `step`, whether its compensation is meant; None: both are."""
     text, place = BY_KIND[kind]
     wheres, words = _among(of)
     if after is not None:
@@ -108,7 +111,9 @@ def entries(
     rows = yield Query(query, (*words, wanted))
     names = yield from names_module.of_digests(row[4] for row in rows)
     found = (_entry(kind, names, *row) for row in rows if row[4] in names)
-    return [one for one in found if step in (None, one.step)][:most]
+    if step is None:
+        return [*found]
+    return [one for one in found if one.step == step and undo in (None, one.undo)][:most]
 
 
 def _among(of: Filter) -> tuple[list[str], list[Any]]:
@@ -130,11 +135,12 @@ def _entry(
 
 
 def count(
-    kind: str, of: Filter = NOTHING, step: str | None = None, by_saga: bool = False
-) -> Question[int]:
-    """How many there are of a kind; `by_saga`: of how many sagas."""
+    kind: str, of: Filter = NOTHING, step: str | None = None, undo: bool | None = None, *,
+    by_saga: bool = False,
+) -> Question[int]:  # fmt: skip
+    """How many there are of a kind; `undo`: as of `entries`; `by_saga`: of how many sagas."""
     if step is not None:
-        return len((yield from entries(kind, of, step, most=MOST_GROUPED)))
+        return len((yield from entries(kind, of, step, undo, most=MOST_GROUPED)))
     wheres, words = _among(of)
     text = " AND ".join([BY_KIND[kind][0], *wheres])
     what = "DISTINCT c.id" if by_saga else "*"

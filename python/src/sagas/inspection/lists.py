@@ -65,7 +65,10 @@ UNION ALL SELECT saga, CASE WHEN note IS NULL THEN 'recovered' ELSE 'resolved' E
 """
 """All sagas of each definition, and those of the phases that have an index: so nothing is sorted
 but names."""
-MOST = 100
+UNASKED = """NOT EXISTS (SELECT 1 FROM operator_commands r WHERE r.key = s.key
+  AND r.command = 'abort' AND (r.answer IS NULL OR r.answer IN ('true', 'false')))"""
+"""Nobody has asked to abort a saga `s`. Where that was refused, it always is."""
+MOST, ALL = 100, 1 << 60
 
 
 def check_page(phase: str | None, after: int | None, limit: int) -> None:
@@ -134,6 +137,15 @@ def count(filter: Filter) -> Question[int]:
     where, words = filter.where()
     rows = yield Query(f"SELECT count(*) FROM sagas s WHERE {where}", (*words,))
     return int(rows[0][0])
+
+
+def to_abort(of: Filter, most: int) -> Question[tuple[int, list[str]]]:
+    """How many sagas of a filter nobody has asked to abort, and the keys of the first of them."""
+    where, words = of.where()
+    some = f"FROM sagas s WHERE {where} AND {UNASKED}"
+    rows = yield Query(f"SELECT count(*) {some}", (*words,))
+    keys = yield Query(f"SELECT s.key {some} ORDER BY s.id LIMIT ?", (*words, most))
+    return int(rows[0][0]), [str(key) for key, in keys]
 
 
 def asked(sagas: Definitions = None) -> Question[dict[str, int]]:
@@ -233,7 +245,7 @@ def _waits(
 ) -> Waits:  # fmt: skip
     since, until, detail = times
     name = names.of(digest)[step]
-    told = why, count, since, until, detail
+    told = why, max(0, count), since, until, detail
     return Waits(id, key, saga, name, action == "undo", number, *told)
 
 

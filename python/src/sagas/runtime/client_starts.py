@@ -6,7 +6,7 @@ import asyncio
 from collections.abc import Callable, Coroutine
 from typing import Protocol
 
-from sagas.base.errors import SagasError, StoreUnavailable
+from sagas.base.errors import CannotDecode, InvalidInput, SagasError, StoreUnavailable
 from sagas.base.logger import logger
 from sagas.core.batch import Batch, Start
 from sagas.core.model import SagaInstance
@@ -21,6 +21,8 @@ MANY = 64
 """Starts that are taken at once: other nodes take theirs meanwhile."""
 AGAIN = 1.0
 """Seconds after which starts that failed are taken again."""
+LEFT = 10.0
+"""Seconds for which a start whose input cannot be decoded is left to other nodes."""
 
 
 class Doubt:
@@ -70,6 +72,7 @@ class Starts:
         self._host, self._store, self._definitions, self._sagas = host, store, definitions, sagas
         self._commits, self._doubt, self._clock, self._place = commits, doubt, clock, place
         self._is_taking = self._again = False
+        self._left: dict[int, float] = {}
 
     def look(self) -> None:
         """There may be some."""
@@ -82,7 +85,7 @@ class Starts:
         try:
             while self._again and not self._host.closed:
                 self._again = False
-                rows = await self._store.starts(MANY, self._under_way())
+                rows = await self._store.starts(MANY, self._under_way(), self._left_now())
                 opening = (self._open(row) for row in rows)
                 faults = await asyncio.gather(*opening, return_exceptions=True)
                 for fault in faults:
@@ -105,7 +108,29 @@ class Starts:
             return None
         return [saga.start for saga in self._sagas.by_key.values() if saga.start is not None]
 
+    def _left_now(self) -> list[int]:
+        """Return the starts that are left to other nodes at this moment."""
+        now = asyncio.get_running_loop().time()
+        self._left = {id: until for id, until in self._left.items() if until > now}
+        return [*self._left]
+
     async def _open(self, row: Start) -> None:
+        """Open a start, or leave it to other nodes if this one cannot decode its input."""
+        try:
+            await self._begin(row)
+        except CannotDecode as error:
+            id, key, saga, *_ = row
+            self._left[id] = asyncio.get_running_loop().time() + LEFT
+            logger.warning(
+                "saga %r: the input of the start with the key %r cannot be decoded: %s. It is left "
+                "to a node that can decode it",
+                saga,
+                key,
+                error,
+            )
+            await self._store.give_back(id, None)
+
+    async def _begin(self, row: Start) -> None:
         id, key, saga, version, text, labels, deadline, traceparent = row
         by_key = self._sagas.by_key
         if key in by_key and by_key[key].start == id:
@@ -122,13 +147,17 @@ class Starts:
             batch = Batch(-1, self._clock())
             error = conflict(key, declared, text, there.saga, there.input, payloads)
             batch.more.begun.append((id, there.id if error is None else None))
-            self._commits.put_alone(batch)
+            await self._commits.kept(batch)
             return
         value = payloads.decode(text)
-        kind, shape, wrong = self._definitions.fit(declared, None, value)
+        try:
+            kind, shape, wrong = self._definitions.fit(declared, None, value)
+        except Exception as error:  # of the user's code: its text may have the input
+            kind, shape = None, None
+            wrong = InvalidInput(f"saga {saga!r}: {type(error).__name__} for this input")
         if kind is None:
             assert wrong
-            await self._store.refuse(id, str(wrong))
+            await self._store.give_back(id, str(wrong))
             return
         options = StartOptions(labels, deadline, shape=shape, traceparent=traceparent)
         instance = self._sagas.add(key, text, kind, options)

@@ -104,6 +104,8 @@ class ExternalReports:
         the task."""
         number = self._signer.number(token, lease, holder)
         self._raise_if_closed()
+        if outcome.kind is SUCCEEDED:
+            self.owner.shelf.payloads.check(outcome.value)
         shard = await self._table.report(token, number, str(outcome.kind), outcome.value)
         if shard is None:
             return await self._repeated(token, number, outcome)

@@ -58,6 +58,7 @@ class Gate:
         self._waiting: deque[Attempt] = deque()
         self._places: dict[Attempt, int] = {}
         self._works = self._given_back = self._heard = False
+        self._doubts = 0  # times that it is still to tell once more what this node has
         self._fault = ""  # the last that was told
         self._timer: asyncio.TimerHandle | None = None
 
@@ -68,8 +69,9 @@ class Gate:
         return bool(self._waiting)
 
     def is_used(self) -> bool:
-        """Whether somebody asks, waits or has a place."""
-        return bool(self._asking or self._places or self._works or self.is_waited_for())
+        """Whether somebody asks, waits or has a place, or it is in doubt what this node has."""
+        is_busy = self._asking or self._places or self._works or self._doubts
+        return bool(is_busy or self.is_waited_for())
 
     def _still(self, attempt: Attempt) -> bool:
         return attempt.state is SUSPENDED and attempt.reason is Suspension.FLEET_LIMIT
@@ -134,8 +136,9 @@ class Gate:
                             fault,
                         )
                     grant = Grant(0, [], LOOK)
-                    self._host.loop.call_later(LOOK, self._again)
-                    self._host.loop.call_later(DOUBT, self._again)
+                    for pause in (LOOK, DOUBT):
+                        self._doubts += 1
+                        self._host.loop.call_later(pause, self._again)
                 if (
                     gives_back and not self._host.store.shared
                 ):  # where there are other nodes, the database tells all of them
@@ -146,6 +149,7 @@ class Gate:
 
     def _again(self) -> None:
         """What this node has is told once more."""
+        self._doubts -= 1
         if not self._host.closed:
             self._given_back = True
             self._work()

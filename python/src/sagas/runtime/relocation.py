@@ -64,6 +64,9 @@ class Home(Protocol):
     def place(self, saga: SagaInstance) -> None:
         """Open it in a shard."""
 
+    def doubt(self) -> None:
+        """Starts of clients that are this node's may not be under way."""
+
 
 class Relocation:
     """Lets sagas go that this program does not drive, and opens others in another shard."""
@@ -100,10 +103,17 @@ class Relocation:
             self._spawn(self._move(saga))
             return
         if saga.start is not None:
-            batch = Batch(-1, self._clock())
-            batch.more.begun.append((saga.start, None if error else row.id))
-            self._commits.put_alone(batch)
+            self._spawn(self._begun(saga.start, None if error else row.id))
         self.leave(saga, error)
+
+    async def _begun(self, start: int, saga: int | None) -> None:
+        """A client's start is a saga that was there, or none: it is to be begun by nobody."""
+        batch = Batch(-1, self._clock())
+        batch.more.begun.append((start, saga))
+        try:
+            await self._commits.kept(batch)
+        except SagasError:
+            self._home.doubt()
 
     async def find_elsewhere(self, driver: ShardDriver, rows: Loaded) -> None:
         """Of the sagas that were asked to be opened in a shard, take out those whose keys are

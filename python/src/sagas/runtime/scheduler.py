@@ -73,19 +73,38 @@ class Scheduler:
         return max(pause, 0.0)
 
     async def _fire(self, one: Schedule, now: float) -> float:
+        """Start what is due of a schedule as it was read, as long as it is that one; return in how
+        many seconds its next time comes.
+        """
         times, next_at = one.timing.due(one.next_at, now, MOST)
-        error = None
+        last = error = None
         for at in times:
-            key = timing.key_of(one.name, at)
-            try:
-                await self._start(one, key)
-                error = None
-            except TemporaryError:  # the same times are due again
-                raise
-            except (SagasError, TypeError, ValueError) as fault:
-                error = f"{type(fault).__name__}: {fault}"
-                self._owner.teller.tell("schedule_failed", key=key, saga=one.saga, detail=error)
+            if not await self._is_still(one):  # the next turn sees what it is now
+                if last is None:
+                    return 0.0
+                next_at = at
+                break
+            last, error = at, await self._try(one, timing.key_of(one.name, at))
         if not times:
             self._owner.teller.tell("schedule_missed", saga=one.saga, detail=one.name)
-        await self._advance(one, next_at, times[-1] if times else None, error)
+        await self._advance(one, next_at, last, error)
         return next_at - self._owner.clock()
+
+    async def _is_still(self, one: Schedule) -> bool:
+        """Whether nobody has paused, removed or changed it, and no node has advanced it."""
+        rows = await self._owner.store.read(schedules.ONE, one.name)
+        return [schedules.of_row(row) for row in rows] == [one]
+
+    async def _try(self, one: Schedule, key: str) -> str | None:
+        """Start a saga of it; return why it cannot be started. Raises `TemporaryError`: the same
+        times are due again.
+        """
+        try:
+            await self._start(one, key)
+        except TemporaryError:
+            raise
+        except (SagasError, TypeError, ValueError) as fault:
+            error = f"{type(fault).__name__}: {fault}"
+            self._owner.teller.tell("schedule_failed", key=key, saga=one.saga, detail=error)
+            return error
+        return None

@@ -5,6 +5,7 @@ from __future__ import annotations
 from sagas.definition.declaration import COSTS
 from sagas.server import problems
 from sagas.server.auth import DEFINITION
+from sagas.server.shape_answers import SHAPE
 from sagas.server.shapes import (
     Anything,
     Choice,
@@ -227,6 +228,7 @@ TASK = Record(
         "index": Field(Nullable(COUNT), "the number of the step's item, from 0; null: it has none"),
         "item_key": Field(MAYBE, "the key of the item, where the items are of an object"),
         "item": Field(Anything(), "the step's item; null: it has none"),
+        "shape": Field(Nullable(SHAPE), "null: the saga's steps do not come from its input"),
         "undo": Field(Flag(), "its compensation is meant"),
         "attempt": Field(COUNT, "1 for the first"),
         "idempotency_key": Field(Text(), "for other services: the same for all attempts"),

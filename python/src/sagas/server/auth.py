@@ -117,9 +117,22 @@ def digest_of(token: str) -> str:
 def read(path: pathlib.Path) -> dict[str, Who]:
     """The token file: tables `[[token]]`, each with `name`, `roles`, and `sha256`, the token's
     digest. Raises `TokenFault`."""
+    return _found(path, _text_of(path))
+
+
+def _text_of(path: pathlib.Path) -> str:
+    """Raises `TokenFault`."""
     try:
-        told = tomllib.loads(path.read_text(encoding="utf-8"))
-    except (OSError, UnicodeDecodeError, tomllib.TOMLDecodeError) as error:
+        return path.read_text(encoding="utf-8")
+    except (OSError, UnicodeDecodeError) as error:
+        raise TokenFault(f"{path}: cannot be read: {error}") from error
+
+
+def _found(path: pathlib.Path, text: str) -> dict[str, Who]:
+    """The tokens of the file's text. Raises `TokenFault`."""
+    try:
+        told = tomllib.loads(text)
+    except tomllib.TOMLDecodeError as error:
         raise TokenFault(f"{path}: cannot be read: {error}") from error
     entries = told.get("token", [])
     if set(told) - {"token"} or not isinstance(entries, list):
@@ -201,10 +214,11 @@ def _moment(given: Any) -> datetime.datetime | None:
 def make(path: pathlib.Path, name: str, roles: list[str], limits: Limits = Limits()) -> str:
     """Makes a token, and puts its digest into the file, which nobody else may read. Gives the
     token, which is kept nowhere.
+
+    Raises `TokenFault` where the file is invalid, or would be: then it is as it was.
     """
     token = f"sagas_{secrets.token_urlsafe(32)}"
-    if path.exists():
-        read(path)
+    text = _text_of(path) if path.exists() else ""
     quoted = name.replace("\\", "\\\\").replace('"', '\\"')
     lines = [
         "[[token]]",
@@ -215,9 +229,12 @@ def make(path: pathlib.Path, name: str, roles: list[str], limits: Limits = Limit
     for word, some in (("definitions", limits.definitions), ("steps", limits.steps)):
         lines += [f"{word} = {_list_of(sorted(some))}"] if some is not None else []
     lines += [f"expires = {limits.expires.isoformat()}"] if limits.expires else []
+    end = "\n" if text and not text.endswith("\n") else ""  # editors may leave it out
+    more = end + "\n".join(lines) + "\n\n"
+    _found(path, text + more)
     fd = os.open(path, os.O_WRONLY | os.O_CREAT | os.O_APPEND, 0o600)
     with os.fdopen(fd, "w", encoding="utf-8") as file:
-        file.write("\n".join(lines) + "\n\n")
+        file.write(more)
     return token
 
 
@@ -226,12 +243,13 @@ def _list_of(words: Iterable[str]) -> str:
 
 
 class Tokens:
-    """The tokens of a file, which is read again when it changes; a file that cannot be read any
-    more leaves those that were there.
+    """The tokens of a file, which is read again when it changes. A file that cannot be read any
+    more leaves those that were there, and is read again at each look: what repairs it need not
+    change it, as `chown` does not.
     """
 
     def __init__(self, path: pathlib.Path, complain: Callable[[str], None]) -> None:
-        self.path, self._complain = path, complain
+        self.path, self._complain, self._fault = path, complain, ""
         self._looked, self._stamp = 0.0, self._stamp_now()
         self._there = read(path)
 
@@ -263,16 +281,19 @@ class Tokens:
         if now - self._looked > LOOK:
             self._looked = now
             stamp = self._stamp_now()
-            if stamp != self._stamp:
+            if stamp == self._stamp:
+                self._fault = ""
+            else:
                 self._again(stamp)
         return self._there.get(digest)
 
     def _again(self, stamp: tuple[int, int, int]) -> None:
         try:
-            self._there = read(self.path)
+            self._there, self._stamp, self._fault = read(self.path), stamp, ""
         except TokenFault as fault:
-            self._complain(f"{fault}; the previous tokens stay valid until it is fixed")
-        self._stamp = stamp
+            if str(fault) != self._fault:
+                self._complain(f"{fault}; the previous tokens stay valid until it is fixed")
+            self._fault = str(fault)
 
 
 @dataclasses.dataclass(slots=True)

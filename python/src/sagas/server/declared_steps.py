@@ -6,6 +6,7 @@ import dataclasses
 from collections.abc import Iterator
 from typing import Any, Union
 
+from sagas.definition.compiled import Kind
 from sagas.definition.declaration import COSTS
 from sagas.definition.layout import Scope, Spot
 from sagas.definition.parts import Inclusion
@@ -57,6 +58,14 @@ def _cost(step: Step[Any], word: str) -> Told:
         return COMPUTED
     cost = step.cost(word)
     return None if cost is NEVER else cost
+
+
+def approvals(saga: Saga, definition: str) -> set[str]:
+    """The names of a definition's steps that are approvals, also of items and of included sagas.
+    `saga`: what it is a definition of."""
+    kind = Kind(definition, saga)
+    steps = zip(kind.names, kind.steps)
+    return {name for name, step in steps if step is not None and step.kind == "approval"}
 
 
 def of(saga: Saga) -> list[DeclaredStep]:

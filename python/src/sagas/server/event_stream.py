@@ -17,6 +17,7 @@ KEPT = 2000
 MOST_WAITING = 1000
 QUIET = 15.0  # seconds after which a comment shows that the stream is open
 CHECK = 2.0  # seconds between two looks whether its token still counts
+MISSED = "event: missed\ndata: {}\n\n"
 
 
 @dataclasses.dataclass(eq=False, slots=True)
@@ -67,23 +68,26 @@ class Hub:
         self._kept.append((self.count, event))
         text: str | None = None
         for listener in list(self._listeners):
-            if not listener.wants(event):
-                continue
-            text = text or written(event)
-            if len(listener.queue) >= MOST_WAITING:
-                listener.lost = True
-                self._listeners.pop(listener, None)
-            else:
-                listener.queue.append((self.count, text))
-            listener.awake.set()
+            if listener.wants(event):
+                text = text or written(event)
+                self._send(listener, text)
 
     def missed(self) -> None:
-        """Events of other services may be lost: each listener is told, and its stream ends."""
+        """Events of other services may be lost: each stream says so, also one that goes on later
+        behind an event from before.
+        """
+        self.count += 1
         self._kept.clear()
         for listener in list(self._listeners):
+            self._send(listener, MISSED)
+
+    def _send(self, listener: Listener, text: str) -> None:
+        if len(listener.queue) >= MOST_WAITING:
             listener.lost = True
             self._listeners.pop(listener, None)
-            listener.awake.set()
+        else:
+            listener.queue.append((self.count, text))
+        listener.awake.set()
 
     def close(self) -> None:
         """Ends all streams."""
@@ -121,7 +125,7 @@ class Hub:
                 "retry: 2000\nid: "
                 f"{self.boot}-{self.count if missed or last is None else last.partition('-')[2]}\n"
             )
-            yield "event: missed\ndata: {}\n\n" if missed else ": open\n\n"
+            yield MISSED if missed else ": open\n\n"
             for count, event in events:
                 if listener.wants(event):
                     yield f"id: {self.boot}-{count}\n{written(event)}"
@@ -131,7 +135,7 @@ class Hub:
                     yield f"id: {self.boot}-{count}\n{text}"
                     told = time.monotonic()
                 if listener.lost:
-                    yield "event: missed\ndata: {}\n\n"
+                    yield MISSED
                     return
                 listener.awake.clear()
                 with contextlib.suppress(TimeoutError):

@@ -27,7 +27,7 @@ from sagas.inspection import saga as one_saga
 from sagas.inspection.question import Question, StoreReader
 from sagas.inspection.views import SagaView
 from sagas.runtime.leased_tasks import Queue
-from sagas.server import renderer, webhook_file
+from sagas.server import declared_steps, renderer, webhook_file
 from sagas.server.auth import Rates, Sessions, Tokens, Who
 from sagas.server.event_stream import Hub
 from sagas.server.figures import Figures
@@ -274,20 +274,26 @@ class Service:
                 raise NoSuchSaga(f"no saga has the key {key!r}")
 
     async def is_approval(self, key: str, step: str) -> bool:
-        """Whether a saga's step is an approval. Raises `NoSuchSaga`."""
+        """Whether a saga's step is an approval. Raises `NoSuchSaga`, and `DefinitionError` where
+        this service does not have its definition."""
 
-        def question() -> Question[tuple[str, int]]:
+        def question() -> Question[bool]:
             row = yield from one_saga.there(key)
-            return row.saga, version_of((yield from one_saga.definition(row.id)))
+            text = yield from one_saga.definition(row.id)
+            return step in self.approvals(row.saga, text)
 
-        return step in self.approvals(*await self.look(question()))
+        return await self.look(question())
 
-    def approvals(self, name: str, version: int) -> set[str]:
-        """The steps of a definition that are approvals."""
-        sagas = [
-            saga for saga in self.settings.sagas if (saga.name, saga.version) == (name, version)
-        ]
-        return {one.name for saga in sagas for one in saga.steps if one.kind == "approval"}
+    def approvals(self, name: str, definition: str) -> set[str]:
+        """The steps of a saga's definition that are approvals. Raises `DefinitionError` where this
+        service does not have it."""
+        for saga in self.settings.sagas:
+            if (saga.name, saga.version) == (name, version_of(definition)):
+                return declared_steps.approvals(saga, definition)
+        raise DefinitionError(
+            f"this service does not have the definition {name!r} of version "
+            f"{version_of(definition)}, so it cannot tell which steps are approvals"
+        )
 
     async def start(
         self, who: Who, saga: Saga, key: str, given: Any, labels: Labels | None = None,

@@ -6,6 +6,7 @@ import base64
 import binascii
 import dataclasses
 import pathlib
+import re
 from typing import Any
 from urllib.parse import urlsplit
 
@@ -16,6 +17,8 @@ from sagas.core.announcements import TYPES
 KEYS = ("name", "url", "secret", "types", "definitions")
 PREFIX = "whsec_"
 LEAST_SECRET = 24  # bytes
+SENT = re.compile("[!-~]+")
+"""What a request may have in its host, path and query."""
 
 
 class WebhookFault(Exception):
@@ -63,16 +66,10 @@ def _read_one(entry: Any) -> Webhook:
     unknown = sorted(set(entry) - set(KEYS)) if isinstance(entry, dict) else ["?"]
     if unknown:
         raise ValueError(f"unknown key {unknown[0]!r}; the keys are {', '.join(KEYS)}")
-    name, url = entry.get("name"), entry.get("url")
+    name = entry.get("name")
     if not (isinstance(name, str) and 0 < len(name) <= 64 and name.isprintable()):
         raise ValueError("name must be a text of 1 to 64 printable characters")
-    parts = urlsplit(url) if isinstance(url, str) else None
-    if parts is None or parts.scheme not in ("http", "https") or not parts.hostname:
-        raise ValueError(
-            "url must be an http or https address, for example https://example.org/hook"
-        )
-    if parts.username or parts.password:
-        raise ValueError("url must not contain a user or a password; receivers check the signature")
+    url = _url(entry.get("url"))
     types = _texts(entry.get("types", list(TYPES)), "types")
     if beyond := sorted(types - set(TYPES)):
         raise ValueError(f"unknown type {beyond[0]!r}; the types are {', '.join(TYPES)}")
@@ -81,6 +78,27 @@ def _read_one(entry: Any) -> Webhook:
         name, url, _secret(entry.get("secret")), types,
         None if some is None else _texts(some, "definitions"),
     )  # fmt: skip
+
+
+def _url(told: Any) -> str:
+    """A URL that can be posted to. No part of it is in what is raised."""
+    fault = ValueError(
+        "url must be an http or https address with a valid host and port and a percent-encoded "
+        "path, for example https://example.org/hook"
+    )
+    if not isinstance(told, str):
+        raise fault
+    try:
+        parts = urlsplit(told)
+        host, _ = (parts.hostname or "").encode("idna").decode(), parts.port
+    except ValueError:
+        raise fault from None
+    is_sent = SENT.fullmatch(f"{host}{parts.path}{parts.query}")
+    if parts.scheme not in ("http", "https") or not host or not is_sent:
+        raise fault
+    if parts.username or parts.password:
+        raise ValueError("url must not contain a user or a password; receivers check the signature")
+    return told
 
 
 def _texts(told: Any, word: str) -> frozenset[str]:

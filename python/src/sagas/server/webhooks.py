@@ -54,8 +54,7 @@ def signed(secret: bytes, id: str, at: int, body: bytes) -> str:
 
 
 def post(hook: Webhook, delivery: Claimed) -> int:
-    """Posts once; gives the status. Redirects are not followed. Raises `OSError`, or
-    `http.client.HTTPException`."""
+    """Posts once; gives the status. Redirects are not followed. Raises whatever comes between."""
     parts, at, body = urlsplit(hook.url), int(time.time()), delivery.body.encode()
     kind = http.client.HTTPSConnection if parts.scheme == "https" else http.client.HTTPConnection
     headers = {
@@ -140,6 +139,8 @@ class Webhooks:
                 return
             except SagasError as error:  # the store does not answer: the next look asks again
                 logger.warning("webhook %s: %s", hook.name, type(error).__name__)
+            except Exception:
+                logger.exception("webhook %s failed", hook.name)
             with contextlib.suppress(TimeoutError):
                 async with asyncio.timeout(pause):
                     await awake.wait()
@@ -150,7 +151,7 @@ class Webhooks:
         try:
             loop = asyncio.get_running_loop()
             status = await loop.run_in_executor(self._threads, post, hook, one)
-        except (OSError, http.client.HTTPException) as fault:
+        except Exception as fault:
             error = f"{type(fault).__name__}: {fault}"[:MOST_SAID]
         posted = outcome(status, error, one.attempts)
         is_kept = await self._deliveries.settle(one.id, one.attempts, posted)

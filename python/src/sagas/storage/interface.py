@@ -287,14 +287,21 @@ class Database(CommitWriter, StoreReader, Protocol):
         """What was asked of the sagas of this program's logs, and has no answer: `most` of it at
         once, behind the request with the number `after`."""
 
-    async def starts(self, most: int, under_way: Sequence[int] | None = None) -> list[Start]:
+    async def starts(
+        self, most: int, under_way: Sequence[int] | None, left: Sequence[int] = ()
+    ) -> list[Start]:
         """Sagas that clients started: they are this program's to open, `most` at once. With
-        `under_way` also those that were, and are not among these.
+        `under_way` also those that were, and are not among these. Those of `left` stay where they
+        are.
         """
 
-    async def refuse(self, start: int, why: str) -> None:
-        """Keeps why a start that this node took (`starts`) is not begun: its input gives the saga
-        no steps. Nobody takes it again, until it is started anew.
+    async def give_back(self, start: int, why: str | None) -> None:
+        """Give back a start that this node took (`starts`), and has not begun.
+
+        Args:
+            start: Its id.
+            why: Why the saga cannot be started: its input gives it no steps, say. No node takes it
+                again until it is started anew. With None, another node may take it.
         """
 
     async def ask(self, row: SagaRow, what: str, value: str) -> Any:

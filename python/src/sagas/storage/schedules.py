@@ -6,7 +6,8 @@ import dataclasses
 import json
 from typing import Any
 
-from sagas.base.errors import NoSuchSchedule
+from sagas.base.errors import CannotDecode, NoSuchSchedule
+from sagas.definition.payloads import PLAIN, Payloads
 from sagas.definition.timing import CatchUp, Timing
 from sagas.storage.admin import Row, Source
 
@@ -15,6 +16,7 @@ name, saga, version, input, labels, cron, every, timezone, catch_up, next_at, la
 """
 ALL = f"SELECT {COLUMNS} FROM schedules ORDER BY name"
 DUE = f"SELECT {COLUMNS} FROM schedules WHERE paused = 0 ORDER BY next_at, name"
+ONE = f"SELECT {COLUMNS} FROM schedules WHERE name = ?"
 SAME = "saga version input labels cron every timezone catch_up".split()
 PUT = f"""
 INSERT INTO schedules(name, {", ".join(SAME)}, next_at, paused)
@@ -24,11 +26,15 @@ ON CONFLICT(name) DO UPDATE SET {", ".join(f"{name} = excluded.{name}" for name 
 WHERE {" OR ".join(f"schedules.{name} <> excluded.{name}" for name in SAME)}
 """
 """One that is there as it is said keeps its next time."""
+LOCK = "UPDATE schedules SET input = input WHERE name = ? RETURNING input"
+"""Its input as it is stored; nobody else changes it until the transaction ends."""
 ADVANCE = """
 UPDATE schedules SET next_at = ?, last_at = coalesce(?, last_at), error = ?
-WHERE name = ? AND next_at = ?
+WHERE name = ? AND next_at = ? AND cron = ? AND every = ? AND timezone = ?
 """
-"""Only the one who finds it as it was read: of two nodes, the second changes nothing."""
+"""Only the one who finds it as it was read: of two nodes, the second changes nothing. A change of
+its times may leave the next one as it is.
+"""
 
 
 @dataclasses.dataclass(frozen=True, slots=True)
@@ -87,13 +93,26 @@ class Schedules:
         self._link = link
 
     def put(
-        self, name: str, saga: tuple[str, int], input: str, labels: str, timing: Timing, now: float
-    ) -> None:
-        """Declare one, or change it; as it is, it keeps its next time."""
+        self, name: str, saga: tuple[str, int], input: str, labels: str, timing: Timing, now: float,
+        payloads: Payloads = PLAIN,
+    ) -> None:  # fmt: skip
+        """Declare one, or change it; as it is, it keeps its next time. Raises `NotSerializable`."""
+        stored = payloads.encode(input)
         when = timing.cron, timing.every, timing.timezone, timing.catch_up.value
-        words = (name, *saga, input, labels, *when, timing.next_after(now))
-        self._link.changed(PUT, *words)
+        words = (name, *saga, stored, labels, *when, timing.next_after(now))
+        with self._link.transaction():
+            if payloads.codec is not None:
+                self._encode_again(name, input, stored, payloads)
+            self._link.changed(PUT, *words)
         self._link.tell("requests")
+
+    def _encode_again(self, name: str, input: str, stored: str, payloads: Payloads) -> None:
+        """Put the text of now in place of an older one of the same input: a codec may make another
+        text each time, and that is no change.
+        """
+        for (there,) in self._link.ask(LOCK, name):
+            if _is_of(there, input, payloads):
+                self._link.changed("UPDATE schedules SET input = ? WHERE name = ?", stored, name)
 
     def pause(self, name: str) -> None:
         """Start nothing of it from now on. Raises `NoSuchSchedule`."""
@@ -101,7 +120,7 @@ class Schedules:
 
     def resume(self, name: str, now: float) -> None:
         """Start its sagas again, from the next time on. Raises `NoSuchSchedule`."""
-        for row in self._link.ask(f"SELECT {COLUMNS} FROM schedules WHERE name = ?", name):
+        for row in self._link.ask(ONE, name):
             next_at = of_row(row).timing.next_after(now)
             text = "UPDATE schedules SET paused = 0, next_at = ? WHERE name = ? AND paused = 1"
             self._link.changed(text, next_at, name)
@@ -117,11 +136,20 @@ class Schedules:
         self, one: Schedule, next_at: float, last_at: float | None, error: str | None
     ) -> None:
         """Say which time is the next one."""
-        self._link.changed(ADVANCE, next_at, last_at, error, one.name, one.next_at)
+        when = one.next_at, one.timing.cron, one.timing.every, one.timezone
+        self._link.changed(ADVANCE, next_at, last_at, error, one.name, *when)
 
     def _changed(self, name: str, text: str, *words: Any) -> None:
         if not self._link.changed(text, *words):
             raise _absent(name)
+
+
+def _is_of(stored: str, input: str, payloads: Payloads) -> bool:
+    """Whether this is stored of an input. No, if it cannot be decoded."""
+    try:
+        return payloads.decode(stored) == input
+    except CannotDecode:
+        return False
 
 
 def _absent(name: str) -> NoSuchSchedule:

@@ -34,7 +34,7 @@ class Desk(Protocol):
 
     def begin(self, order: Order) -> Begun | None:
         """The texts of an attempt; None where it is settled: the message is late, or came twice.
-        Raises `WrongStore`, `StoreUnavailable`.
+        Raises `WrongStore`, also where the saga was deleted meanwhile, and `StoreUnavailable`.
         """
 
     def report(self, order: Order, outcome: Outcome) -> None:
@@ -66,8 +66,9 @@ def fetched(
     """What `BEGIN` found, with the texts that the order does not carry."""
     if not rows:
         raise WrongStore(
-            f"{where}: it has no shard {order.log}, because the message of saga "
-            f"{order.key!r} came from another store"
+            f"{where}: it has no shard {order.log}. The message of saga {order.key!r} came from "
+            "another store, or too late: the saga was deleted meanwhile. If no saga was deleted, "
+            "give the worker and the program the same store"
         )
     shard, attempt, outcome = rows[0]
     if attempt is None or outcome not in OPEN:

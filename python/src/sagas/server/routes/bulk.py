@@ -8,7 +8,7 @@ from typing import Any
 
 from starlette.responses import Response
 
-from sagas.base.errors import SagasError
+from sagas.base.errors import SagasError, StepNotWaiting
 from sagas.inspection import attention_pages, lists
 from sagas.inspection.question import Question
 from sagas.server import answers, problems
@@ -19,7 +19,7 @@ from sagas.server.responses import Json
 from sagas.server.routes import filters
 from sagas.server.routes.attention import KINDS
 from sagas.server.routes.operators import NOTE as NEEDED_NOTE
-from sagas.server.routes.sagas import ERROR, NOTE
+from sagas.server.routes.sagas import ERROR, NOTE, UNDO
 from sagas.server.service import Service
 from sagas.server.shapes import Anything, Choice, Field, Flag, Nullable, Number, Record, Text
 from sagas.storage.filters import Filter
@@ -40,6 +40,7 @@ STEPS = Record(
         **filters.LABELS,
         "kind": Field(Choice(tuple(KINDS[2:])), "of attempts that wait"),
         "step": Field(Text(most=32), "of this step"),
+        "undo": UNDO,
     },
 )
 HEALED = Record(
@@ -67,17 +68,18 @@ def record(name: str, of: Record, more: Mapping[str, Field]) -> Record:
 
 
 def sagas_of(of: Filter) -> Question[tuple[int, list[Target]]]:
-    """The open sagas of a filter: how many, and the first of them."""
-    total = yield from lists.count(of)
-    found = yield from lists.page(of=of, newest=False, most=MOST)
-    return total, [(one.key, "", False) for one in found]
+    """The sagas of a filter that nobody has asked to abort: how many, and the first of them."""
+    total, keys = yield from lists.to_abort(of, MOST)
+    return total, [(key, "", False) for key in keys]
 
 
-def entries_of(kind: str, of: Filter, step: str | None) -> Question[tuple[int, list[Target]]]:
+def entries_of(
+    kind: str, of: Filter, step: str | None, undo: bool | None
+) -> Question[tuple[int, list[Target]]]:
     """The same of what needs a person; without a step each saga once."""
     by_saga = step is None
-    total = yield from attention_pages.count(kind, of, step, by_saga)
-    found = yield from attention_pages.entries(kind, of, step, most=MOST)
+    total = yield from attention_pages.count(kind, of, step, undo, by_saga=by_saga)
+    found = yield from attention_pages.entries(kind, of, step, undo, most=MOST)
     some: dict[Target, None] = {}
     for one in found:
         some[(one.key, "", False) if by_saga else (one.key, one.step or "", one.undo)] = None
@@ -136,7 +138,8 @@ def deed_of(service: Service, verb: str, words: dict[str, Any], result: Any, err
     async def do(target: Target) -> None:
         key, step, undo = target
         if verb == "abort":
-            await store.abort(key, **words)
+            if not await store.abort(key, **words):
+                raise StepNotWaiting(f"saga {key!r} has ended, or was aborted before")
         elif verb == "resolve":
             await store.resolve(key, str(words["note"]), by=words["by"])
         elif verb == "retry":
@@ -158,7 +161,8 @@ def declare(name: str, body: Record, verb: str, told: str) -> Handler:
         deed = deed_of(call.service, verb, words, sent.get("result"), sent.get("error"))
         if "kind" not in given:
             return await carried_out(call, sagas_of(filters.of(call.who, given, "open")), deed)
-        entries = entries_of(given["kind"], filters.of(call.who, given), given.get("step"))
+        of = filters.of(call.who, given)
+        entries = entries_of(given["kind"], of, given.get("step"), given.get("undo"))
         return await carried_out(call, entries, deed)
 
     handler.__doc__ = told
@@ -175,7 +179,7 @@ BEHIND = (
 )
 abort = declare(
     "abort", record("AbortMany", SAGAS, {"note": NOTE}), "abort",
-    f"Abort the open sagas of a filter.\n\n{BEHIND}",
+    f"Abort the open sagas of a filter.\n\nThose that were asked before are left out. {BEHIND}",
 )  # fmt: skip
 resolve = declare(
     "resolve", record("ResolveMany", HEALED, {"note": NEEDED_NOTE}), "resolve",

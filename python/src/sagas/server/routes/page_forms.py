@@ -10,7 +10,7 @@ from typing import Any
 from starlette.requests import Request
 from starlette.responses import RedirectResponse, Response
 
-from sagas.base.errors import NoSuchSaga, SagasError
+from sagas.base.errors import DefinitionError, NoSuchSaga, SagasError
 from sagas.server.access import service_of
 from sagas.server.auth import Who
 from sagas.server.dashboard_session import closed, looker, sent, shows
@@ -63,7 +63,7 @@ def asked(
 
 async def is_approval(request: Request, key: str, step: str, undo: bool) -> bool:
     """Whether a step waits to be approved, or is to be once it begins."""
-    with contextlib.suppress(NoSuchSaga):
+    with contextlib.suppress(NoSuchSaga, DefinitionError):
         service = service_of(request)
         view = await kept_of(service, looker(request), key)
         if any((one.step, one.undo, one.why) == (step, undo, "approval") for one in view.held):

@@ -5,13 +5,13 @@ from __future__ import annotations
 import contextlib
 import functools
 import time
+from collections.abc import Callable
 from typing import Any
 from urllib.parse import urlencode
 
 from starlette.responses import Response
 
-from sagas.base.errors import NoSuchSaga
-from sagas.definition.compiled import version_of
+from sagas.base.errors import DefinitionError, NoSuchSaga
 from sagas.definition.groups import Groups
 from sagas.engine.plan import certificate_text
 from sagas.inspection import families, picture, step_items, timeline, timeline_picture, what_if
@@ -47,20 +47,22 @@ async def saga(call: Call) -> Response:
     if view is None:
         told: dict[str, Any] = {"title": "There is no such saga", "back": "/ui/sagas"}
         return shows(request, "fault.html", 404, text=f"No saga has the key {key}.", **told)
-    approvals = service.approvals(view.saga, version_of(view.definition))
-    work = functools.partial(told_of, view, approvals, time.time(), call.query["unfold"])
+    work = functools.partial(told_of, view, service.approvals, time.time(), call.query["unfold"])
     told = await service.in_thread(work)
     return shows(request, "saga.html", since=since, **told)
 
 
 def told_of(
-    view: SagaView, approvals: set[str], now: float, unfold: str | None
+    view: SagaView, approvals_of: Callable[[str, str], set[str]], now: float, unfold: str | None
 ) -> dict[str, Any]:  # fmt: skip
-    """What the template of a saga asks for."""
+    """What the template of a saga asks for. `approvals_of`: of a saga's name and definition."""
     drawn, tolds = len(view.steps) <= MOST_DRAWN, picture.told_of(view)
     asks = [one for one in view.held if one.asks]
     attempts = timeline.of(view, now)
-    goes_on = view.phase == "open" and not view.aborted and view.plan is None
+    approvals = set[str]()
+    if view.phase == "open" and not view.aborted and view.plan is None:
+        with contextlib.suppress(DefinitionError):  # another service has it
+            approvals = approvals_of(view.saga, view.definition)
     groups, base = Groups.read(view.definition), address_of(view.key)
     unfolding = Unfolding(groups, unfold, base)
     choices = {choice.step: choice for choice in view.plan.choices} if view.plan else {}
@@ -83,7 +85,7 @@ def told_of(
         "early": {
             step.name
             for step in view.steps
-            if goes_on and step.state == "waiting" and step.name in approvals and not step.early
+            if step.state == "waiting" and step.name in approvals and not step.early
         },
         "choices": choices,
         "failures": failures_of(view),

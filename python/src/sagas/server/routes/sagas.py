@@ -14,7 +14,7 @@ from urllib.parse import quote
 from starlette.requests import Request
 from starlette.responses import PlainTextResponse, Response
 
-from sagas.base.errors import NoSuchSaga
+from sagas.base.errors import DefinitionError, NoSuchSaga
 from sagas.definition import tracing
 from sagas.engine.plan import certificate_text
 from sagas.inspection import families, lists
@@ -275,12 +275,15 @@ async def check_reports(call: Call, key: str, step: str, undo: bool) -> None:
     """Raises `Problem` where somebody may not say how this step ended."""
     who = call.who
     await call.service.check_sees(who, key)
-    if not who.may(May.OPERATE) and (undo or not await call.service.is_approval(key, step)):
-        raise Problem(
-            "Forbidden",
-            f"{who.name} is an approver, and {step[:64]!r} is no approval: "
-            "an operator says how any other step ended",
-        )
+    if who.may(May.OPERATE):
+        return
+    try:
+        why = f"{step[:64]!r} is no approval: an operator says how any other step ended"
+        is_approval = not undo and await call.service.is_approval(key, step)
+    except DefinitionError as error:
+        is_approval, why = False, f"{error}: ask one that has it"
+    if not is_approval:
+        raise Problem("Forbidden", f"{who.name} is an approver, and {why}")
 
 
 async def decided(call: Call, outcome: str, value: Any) -> Response:

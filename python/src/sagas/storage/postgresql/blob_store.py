@@ -14,6 +14,8 @@ if TYPE_CHECKING:
     import psycopg
 
 TABLE = re.compile(r"[a-z_][a-z0-9_]{0,62}")
+LIMITED = "SET statement_timeout = '300s'"
+"""A value may have 1 GB."""
 
 
 class PostgresBlobStore:
@@ -28,7 +30,8 @@ class PostgresBlobStore:
         """Take a database. The table is made with the first value, if it is not there.
 
         Args:
-            url: The database: `postgresql://user@host/database`.
+            url: The database: `postgresql://user@host/database`. With several hosts, the one
+                that takes writes is used.
             table: The table's name (default: `sagas_blobs`).
 
         Raises:
@@ -58,7 +61,11 @@ class PostgresBlobStore:
     def _connect(self) -> psycopg.Connection[Any]:
         import psycopg
 
-        link = psycopg.connect(self._url, autocommit=True)
+        from sagas.storage.postgresql import connections
+
+        link = psycopg.connect(connections.address(self._url), autocommit=True)
+        for setting in (connections.DURABLE, LIMITED):
+            link.execute(setting)
         with self._lock:
             if self._is_made:
                 return link
@@ -78,7 +85,9 @@ class PostgresBlobStore:
         return link
 
     def _do(self, text: str, *words: Any) -> list[tuple[Any, ...]]:
-        """A statement; once more over a new connection where the server has ended the old one."""
+        """A statement; once more over a new connection where the server has ended the old one, or
+        takes no writes any more.
+        """
         import psycopg
 
         for is_last in (False, True):
@@ -86,7 +95,7 @@ class PostgresBlobStore:
                 with self._link() as link:
                     cursor = link.execute(text.format(self._table), words)
                     return cursor.fetchall() if cursor.description else []
-            except psycopg.OperationalError:
+            except (psycopg.OperationalError, psycopg.errors.ReadOnlySqlTransaction):
                 if is_last:
                     raise
                 self.close()

@@ -334,7 +334,7 @@ class PostgreSQLExternalAttempts:
         await self._asker.ask(ADVANCE, **words)
 
     async def report(self, attempt: str, lease: int, outcome: str, value: str) -> int | None:
-        one = Reported(attempt, lease, outcome, clean(value))
+        one = Reported(attempt, lease, outcome, value)
         shard: int | None = await self._lots.ask(one)
         if shard is None:  # it does not count, or somebody has its row
             rows = await self._asker.ask(REPORT, **one._asdict())

@@ -7,7 +7,7 @@ import json
 from collections.abc import Callable, Coroutine
 from typing import Any
 
-from sagas.base.errors import StoreUnavailable
+from sagas.base.errors import Closed, SagasError, StoreUnavailable
 from sagas.core.batch import SagaRow
 from sagas.definition.serialization import clean
 from sagas.storage import queries
@@ -30,7 +30,7 @@ class KeyFinder:
     def __init__(
         self, url: str, where: str, spawn: Callable[[Coroutine[Any, Any, None]], object]
     ) -> None:
-        self._link, self._spawn = prepared.Kept(url, where), spawn
+        self._link, self._where, self._spawn = prepared.Kept(url, where), where, spawn
         self._wanted: dict[str, list[asyncio.Future[SagaRow | None]]] = {}
         self._finding = False
         self._seeking = 0  # keys that the server is asked for
@@ -92,6 +92,11 @@ class KeyFinder:
             rows = await self._link.read(query, word)
         except StoreUnavailable as fault:
             self._found(wanted, [], fault)
+        except asyncio.CancelledError:
+            also, self._wanted = self._wanted, {}
+            for futures in (wanted, also):
+                self._found(futures, [], Closed(f"{self._where}: the store is closed"))
+            raise
         else:
             self._found(wanted, rows)
 
@@ -99,7 +104,7 @@ class KeyFinder:
         self,
         wanted: dict[str, list[asyncio.Future[SagaRow | None]]],
         rows: list[prepared.Values],
-        fault: StoreUnavailable | None = None,
+        fault: SagasError | None = None,
     ) -> None:
         """Tells who wanted to know, and looks for what is wanted by now."""
         found: dict[str, SagaRow] = {}

@@ -59,16 +59,19 @@ entered AS (INSERT INTO nodes(node, name, version, kinds, since, lease)
   SELECT %(node)s, %(name)s, %(version)s, %(kinds)s, now(), now() + make_interval(secs => %(lease)s)
   WHERE %(enters)s AND NOT EXISTS (SELECT 1 FROM said) RETURNING 1)
 """
+RENEW = """
+UPDATE nodes SET lease = now() + make_interval(secs => %(lease)s) WHERE node = %(node)s RETURNING 1
+"""
 LOOK = f"""
 SELECT {LINE}, EXISTS (SELECT 1 FROM said UNION ALL SELECT 1 FROM entered),
   EXISTS (SELECT 1 FROM shards l WHERE {ORPHAN} AND l.shard <> ALL(%(left)s::bigint[])),
   EXISTS (SELECT 1 FROM pending_starts i WHERE {UNTAKEN})
     OR EXISTS (SELECT 1 FROM operator_commands WHERE answer IS NULL),
-  (SELECT coalesce(json_agg(json_build_array(l.shard, {LIVE.format('l.owner')})), '[]')
+  (SELECT coalesce(json_agg(json_build_array(l.shard, l.epoch, {LIVE.format('l.owner')})), '[]')
    FROM shards l WHERE l.shard = ANY(%(left)s::bigint[]) AND l.closed = 0)
 """
-"""The last column: of the logs that are left to others those that are not closed, and whether a
-node drives each."""
+"""The last column: of the logs that are left to others those that are not closed, with their
+epochs, and whether a node drives each."""
 PLACES = f"""ARRAY(SELECT DISTINCT definition_index FROM sagas
     WHERE id >= l.shard * {SHARD_CAPACITY} AND id < (l.shard + 1) * {SHARD_CAPACITY}
     AND phase IS NULL)"""
@@ -77,7 +80,7 @@ TEXTS = """(SELECT coalesce(json_agg(text ORDER BY place), '[]')
     FROM shard_definitions d JOIN definitions USING (definition) WHERE d.shard = l.shard)"""
 """The definitions of a log."""
 CANDIDATES = f"""
-SELECT json_build_array(l.shard, {TEXTS}, {PLACES})::text FROM shards l
+SELECT json_build_array(l.shard, {TEXTS}, {PLACES}, l.epoch)::text FROM shards l
 WHERE {ORPHAN} AND l.shard <> ALL(%(left)s::bigint[]) ORDER BY l.shard LIMIT {LOT}
 """
 TAKE = f"""
@@ -160,7 +163,8 @@ class Lease:
         self.name = name or f"{socket.gethostname()}-{os.getpid()}"
         self.node = f"{self.name}/{secrets.token_hex(4)}"
         self.seconds, self.version, self._asker, self._kinds = seconds, version, asker, [*kinds]
-        self.left: set[int] = set()  # open logs that this program lacks functions for
+        # open logs that this program lacks functions for, with the epochs at which it does
+        self.left: dict[int, int] = {}
         self._undriven: dict[int, float] = {}  # those that no node drives, since when, by `now`
         self._told: set[int] = set()  # of which that was told
         # until when this node does not take it, and when it was given back, by the server's clock
@@ -199,7 +203,7 @@ class Lease:
         }  # fmt: skip
         rows = await self._asker.ask(SAY + LOOK, enters=self._enters, **words)
         ((line, is_there, orphans, asks, left),) = rows
-        self._look_at_left(before, dict(left))
+        self._look_at_left(left)
         self._enters = not is_there
         if not is_there:
             self._until = asked
@@ -207,6 +211,12 @@ class Lease:
         lapsed = self._until > 0 and not (self.holds() and self.fresh)
         self._until, self.fresh = asked + self.seconds, True
         return lapsed, orphans, asks, line
+
+    async def renew(self) -> None:
+        """Says that this node lives, and no more: the next beat tells what it missed meanwhile."""
+        asked, _ = now(), self.holds()
+        is_there = await self._asker.ask(RENEW, node=self.node, lease=self.seconds)
+        self._until = asked + self.seconds if is_there else asked
 
     def _passed(self) -> list[int]:
         """Logs that this node does not take now."""
@@ -221,10 +231,13 @@ class Lease:
             self._spared[log] = now() + SPARED, at
         return bool(rows)
 
-    def _look_at_left(self, before: Sequence[int], left: dict[int, bool]) -> None:
-        """Of those that were left, these are open still: whether a node drives each."""
-        self.left -= {log for log in before if log not in left}
-        undriven = [log for log, driven in left.items() if log in self.left and not driven]
+    def _look_at_left(self, found: Sequence[tuple[int, int, bool]]) -> None:
+        """Of those that were left, these are open still: their epochs, and whether a node drives
+        each. One that another has driven since then is judged again: it may lack nothing now.
+        """
+        as_it_was = {log for log, at, driven in found if driven or self.left.get(log) == at}
+        self.left = {log: at for log, at in self.left.items() if log in as_it_was}
+        undriven = [log for log, _, driven in found if log in self.left and not driven]
         self._undriven = since = {log: self._undriven.get(log, now()) for log in undriven}
         self._told &= since.keys()
 
@@ -253,34 +266,28 @@ class Lease:
         await self._asker.ask(GONE, node=self.node, name=self.name)
         return (await self.beat([]))[3]
 
-    async def take(self, drives: Drives, mine: list[int]) -> list[LogRow]:
-        """Some logs that nobody has, of those whose functions this program has; none where there
-        are no more.
+    async def take(self, drives: Drives, mine: list[int]) -> list[LogRow] | None:
+        """A lot of the logs that nobody has: those of it whose functions this program has. None
+        where there are no more, or others take them.
         """
-        while True:
-            found = await self._asker.read(
-                CANDIDATES, left=self._passed(), node=self.node, mine=mine, own=True
-            )
-            fit = await self._fit(drives, [json.loads(text) for (text,) in found])
-            taken = (
-                await self._asker.ask(TAKE, node=self.node, logs=fit, mine=mine, own=True)
-                if fit
-                else []
-            )
-            rows = await self._has(drives, [log for (log,) in taken]) if taken else []
-            if rows or (fit and not taken) or not found:  # else others took them, or there are none
-                return rows
+        words = {"node": self.node, "mine": mine, "own": True}
+        found = await self._asker.read(CANDIDATES, left=self._passed(), **words)
+        fit = await self._fit(drives, [json.loads(text) for (text,) in found])
+        taken = await self._asker.ask(TAKE, logs=fit, **words) if fit else []
+        if taken:
+            return await self._has(drives, [log for (log,) in taken])
+        return [] if found and not fit else None
 
     async def _fit(self, drives: Drives, found: Sequence[Sequence[Any]]) -> list[int]:
         """Those of these logs that this program has the functions for; the others are left to
         other nodes, and given back where they are this one's by now.
         """
-        lacks = {log: drives(texts, places) for log, texts, places in found}
-        left = {log: why for log, why in lacks.items() if why is not None}
+        lacks = {log: drives(texts, places) for log, texts, places, _ in found}
+        left = {log: at for log, _, _, at in found if lacks[log] is not None}
         if left:
             await self._asker.ask(LEAVE, node=self.node, logs=[*left])
-            self.left |= left.keys()
-            logger.info("left %d shards to other nodes: %s", len(left), next(iter(left.values())))
+            self.left |= left
+            logger.info("left %d shards to other nodes: %s", len(left), lacks[next(iter(left))])
         return [log for log in lacks if log not in left]
 
     async def _has(self, drives: Drives, taken: list[int]) -> list[LogRow]:
@@ -291,7 +298,7 @@ class Lease:
             json.loads(text)
             for (text,) in await self._asker.read(TAKEN, node=self.node, logs=taken)
         ]
-        fit = await self._fit(drives, [(row[0], row[2], row[6]) for row in found])
+        fit = await self._fit(drives, [(row[0], row[2], row[6], row[5]) for row in found])
         return [LogRow(*row[:6]) for row in found if row[0] in fit]
 
     async def end(self) -> None:

@@ -95,7 +95,7 @@ class News:
         self._job = asyncio.get_running_loop().create_task(self._listener.run())
 
     async def close(self, words: Sequence[str] = ()) -> None:
-        """Says a last thing, and listens no more."""
+        """Says a last thing, and listens no more. Callers that wait look once more."""
         if words:
             said = asyncio.Event()
             self.say(words, said.set)
@@ -105,6 +105,8 @@ class News:
         while not self._job.done():  # a connection that is being made may swallow the first word
             self._job.cancel()
             await asyncio.wait([self._job], timeout=0.2)
+        for futures in self._waiting.values():
+            _wake(futures)
 
     def say(self, words: Sequence[str], then: Callable[[], object]) -> None:
         """Tells the others, if they can be told now: whoever waits also looks by himself. `then`
@@ -117,6 +119,7 @@ class News:
             then()
 
     def _missed(self) -> None:
+        self._recent.clear()  # another server may not know of these any more
         for futures in self._waiting.values():
             _wake(futures)
         self._look("")

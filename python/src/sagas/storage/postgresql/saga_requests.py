@@ -29,6 +29,7 @@ WITH lot AS MATERIALIZED (
   SELECT id FROM pending_starts i
   WHERE ({UNTAKEN}
       OR i.node = %(node)s AND i.id <> ALL(%(mine)s::bigint[]) AND i.refused IS NULL)
+    AND i.id <> ALL(%(left)s::bigint[])
     AND saga || '/' || version || coalesce('/' || digest, '') = ANY(%(sagas)s::text[])
   ORDER BY id LIMIT %(most)s FOR UPDATE SKIP LOCKED)
 UPDATE pending_starts SET node = %(node)s FROM lot WHERE pending_starts.id = lot.id RETURNING
@@ -37,9 +38,10 @@ pending_starts.id, key, saga, version, input, labels, deadline, traceparent
 """As a part of an OR what is not taken is looked up again for a row that another node took
 meanwhile; as a join it would not be.
 """
-REFUSE = """
-UPDATE pending_starts SET refused = %(why)s, node = NULL, at = extract(epoch FROM clock_timestamp())
-WHERE id = %(id)s AND node = %(node)s
+GIVE_BACK = """
+UPDATE pending_starts SET node = NULL, refused = %(why)s::text,
+  at = CASE WHEN %(why)s::text IS NULL THEN at ELSE extract(epoch FROM clock_timestamp()) END
+WHERE id = %(id)s AND node = %(node)s RETURNING pg_notify('sagas_nodes', 'starts')
 """
 ANSWER = queries.named(operator_requests.ANSWER, "id", "start")
 ASK = queries.named(operator_requests.ASK, "what", "value", "id")
@@ -60,16 +62,17 @@ async def take_starts(
     sagas: Sequence[str],
     most: int,
     under_way: Sequence[int] | None,
+    left: Sequence[int],
 ) -> list[Start]:
     """Take starts of these sagas that clients left, for a node to open."""
     mine = None if under_way is None else list(under_way)
-    words = {"node": node, "sagas": [*sagas], "most": most, "mine": mine}
+    words = {"node": node, "sagas": [*sagas], "most": most, "mine": mine, "left": [*left]}
     return await asker.ask(STARTS, **words)  # type: ignore[return-value]
 
 
-async def refuse(asker: connections.Asker, node: str, start: int, why: str) -> None:
-    """Keep why a start that this node took is not begun: nobody takes it any more."""
-    await asker.ask(REFUSE, id=start, why=clean(why), node=node)
+async def give_back(asker: connections.Asker, node: str, start: int, why: str | None) -> None:
+    """Give back a start that this node took: `Database.give_back`."""
+    await asker.ask(GIVE_BACK, id=start, why=None if why is None else clean(why), node=node)
 
 
 async def ask(

@@ -3,6 +3,7 @@
 from __future__ import annotations
 
 import enum
+import re
 import threading
 import time
 from collections.abc import Mapping, Sequence
@@ -20,6 +21,10 @@ if TYPE_CHECKING:
 RV = TypeVar("RV")
 AS_MADE = "RESET ALL; RESET ROLE; RESET SESSION AUTHORIZATION"
 """What a step set on its connection is not the next one's."""
+MAY_SET = re.compile(r"set_config|;\s*\S", re.IGNORECASE)
+"""In a statement: it may set something although the server has another word for it, as for the
+first of several statements in one text.
+"""
 FORBIDDEN = "Explicit {}() forbidden: the transaction is the step's, and ends with it"
 ENDED = (
     "the transaction was over before its step: it is the step's, and no statement of the function "
@@ -113,6 +118,8 @@ def joined(link: Any, query: Any, params: Any, more: dict[str, Any]) -> dict[str
     one statement with words, it is not prepared, so that it takes one trip and can go with the
     begin.
     """
+    if MAY_SET.search(query if isinstance(query, str) else str(query)):
+        link.is_set = True
     if (
         link.begun is False
         and JOINS

@@ -110,8 +110,7 @@ class PostgreSQL(queries.Questions):
 
     async def open(self, drives: Drives) -> list[LogRow]:
         """Migrates the tables where they are older; gives the logs that nobody has, as far as
-        this program drives them.
-        """
+        this program drives them. Keeps the lease from now on."""
         self._drives = drives
         if self.record:
             self.record.open()
@@ -120,10 +119,11 @@ class PostgreSQL(queries.Questions):
         await self._keys.open()  # at once: later there may be no connection for it
         await self._questions.open()
         self._line = await self.lease.begin()
+        self._spawn(self._keep())
         if self.record:
             self.record.moved(self._line)
         rows: list[LogRow] = []
-        while taken := await self.lease.take(drives, [row.log for row in rows]):
+        while (taken := await self.lease.take(drives, [row.log for row in rows])) is not None:
             rows += taken
         await self._numbers.fill()
         return rows
@@ -143,11 +143,11 @@ class PostgreSQL(queries.Questions):
         return PostgreSQLPeers(self)
 
     def watch(self, watcher: Watcher) -> None:
-        """Keeps the lease, listens, and takes over."""
+        """Listens, and takes over."""
         self._watcher = watcher
         channels = notifications.CHANNEL, external_attempts.CHANNEL
         self._announcer = Announcer(notifications.News(self.url, self._heard, channels))
-        self._spawn(self._keep())
+        self._turn.set()
 
     async def close(self) -> None:
         """Hands over what this node has."""
@@ -200,8 +200,7 @@ class PostgreSQL(queries.Questions):
 
     async def _keep(self) -> None:
         """Says that this node lives, and looks for what nobody has: each second, and when there
-        is word of it.
-        """
+        is word of it."""
         while not self._closing:
             self._turn.clear()
             with contextlib.suppress(StoreUnavailable):
@@ -211,18 +210,19 @@ class PostgreSQL(queries.Questions):
                     await self._turn.wait()
 
     async def _beat(self) -> None:
-        assert self._watcher
+        if self._watcher is None:  # it opens, which may take longer than a lease
+            await self.lease.renew()
+            return
         lapsed, orphans, asks, line = await self.lease.beat(self._watcher.logs())
         if not self._is_known(line):
             self._writer.cut()
         elif lapsed:
             self._watcher.lapsed()
-        while (
-            orphans
-            and not self._closing
-            and (rows := await self.lease.take(self._drives, self._watcher.logs()))
-        ):
-            self._watcher.taken(rows)
+        if orphans and not self._closing:
+            rows = await self.lease.take(self._drives, self._watcher.logs())
+            if rows is not None:  # the next lot comes behind a beat
+                self._watcher.taken(rows)
+                self._turn.set()
         if asks:
             self._watcher.look()
         if logs := self.lease.undriven():
@@ -241,8 +241,7 @@ class PostgreSQL(queries.Questions):
 
     def _is_known(self, line: str) -> bool:
         """Whether this is the server that was there before. Another one may lack commits: then
-        each log is taken up again before anything is written.
-        """
+        each log is taken up again before anything is written."""
         if line == self._line:
             return True
         logger.warning("%s: another server has taken over. Opening its shards again", self.path)
@@ -306,9 +305,8 @@ class PostgreSQL(queries.Questions):
 
     async def _check_server(self, link: connections.Link) -> None:
         if not self._is_known(await connections.line_of(link)):
-            raise StoreUnavailable(
-                f"{self.path}: another server has taken over, and its data is read first"
-            )
+            why = "another server has taken over, and its data is read first"
+            raise StoreUnavailable(f"{self.path}: {why}")
 
     def _kept(self, commit: Commit) -> None:
         """A commit is in the store: the others hear of it."""
@@ -353,15 +351,16 @@ class PostgreSQL(queries.Questions):
         """What was asked of the sagas of this node's logs."""
         return await saga_requests.asked_of(self.asker, self.lease.node, after, most)
 
-    async def starts(self, most: int, under_way: Sequence[int] | None = None) -> list[Start]:
+    async def starts(
+        self, most: int, under_way: Sequence[int] | None, left: Sequence[int] = ()
+    ) -> list[Start]:
         """Sagas that clients started, and that are this node's to open."""
-        return await saga_requests.take_starts(
-            self.asker, self.lease.node, self._sagas, most, under_way
-        )
+        node, sagas = self.lease.node, self._sagas
+        return await saga_requests.take_starts(self.asker, node, sagas, most, under_way, left)
 
-    async def refuse(self, start: int, why: str) -> None:
-        """Keeps why a start that this node took is not begun."""
-        await saga_requests.refuse(self.asker, self.lease.node, start, why)
+    async def give_back(self, start: int, why: str | None) -> None:
+        """Give back a start that this node took."""
+        await saga_requests.give_back(self.asker, self.lease.node, start, why)
 
     async def ask(self, row: SagaRow, what: str, value: str) -> Any:
         """Leaves a request for the node that has the saga, and waits for its answer."""

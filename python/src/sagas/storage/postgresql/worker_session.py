@@ -10,18 +10,21 @@ import contextlib
 from typing import Any
 
 import psycopg
+from psycopg.rows import tuple_row
 
 from sagas.base.errors import StoreUnavailable, Unknown
 from sagas.core import outcomes
 from sagas.core.dispatch import Begun, Order, Settled
 from sagas.core.outcomes import Outcome
 from sagas.definition import awaitables
-from sagas.definition.serialization import clean
 from sagas.definition.step import Function
 from sagas.definition.task import Task
 from sagas.storage.external import TAKES
 from sagas.storage.postgresql import connections
 from sagas.storage.postgresql.external_attempts import REPORT, TELL
+from sagas.storage.postgresql.step_connections import AsyncStepLink, StepLink
+from sagas.storage.postgresql.step_pool import is_good
+from sagas.storage.postgresql.step_protocol import AS_MADE, check_whole
 from sagas.storage.worker_session import BEGIN, fetched
 
 RECORD = f"""
@@ -29,6 +32,8 @@ UPDATE sagas.external_attempts SET outcome = 'succeeded', value = %(value)s, rep
 WHERE attempt = %(attempt)s AND {TAKES.format(lease="%(lease)s", outcome="'succeeded'::text")}
 RETURNING attempt
 """
+COMMIT = f"COMMIT; {AS_MADE}"
+"""In one text, so that a pooler gives both to one session."""
 
 
 class PostgreSQLDesk:
@@ -37,9 +42,7 @@ class PostgreSQLDesk:
     def __init__(self, url: str) -> None:
         self.url, self.path = url, connections.named(url)
         self._link: psycopg.Connection[connections.Row] | None = None
-        self._own: psycopg.Connection[
-            connections.Row
-        ] | None = None  # of functions that are transactions, with the user's settings
+        self._own: StepLink | None = None  # of functions that are transactions
 
     def _ask(self, text: str, words: Any) -> list[Any]:
         try:
@@ -75,7 +78,7 @@ class PostgreSQLDesk:
             "attempt": order.token,
             "lease": order.lease,
             "outcome": str(outcome.kind),
-            "value": clean(outcome.value),
+            "value": outcome.value,
         }
         self._ask(REPORT, words)
         self.say()
@@ -88,45 +91,67 @@ class PostgreSQLDesk:
     def within(self, order: Order, function: Function) -> Function:
         """The function as a transaction, whose last statement is its report."""
 
-        def words(value: Any) -> dict[str, Any]:
-            return {
-                "attempt": order.token,
-                "lease": order.lease,
-                "value": outcomes.succeeded(value).value,
-            }
+        def record(link: AsyncStepLink | StepLink, value: Any) -> dict[str, Any]:
+            if link.begun:
+                check_whole(link)
+            link.row_factory = tuple_row
+            told = outcomes.succeeded(value).value
+            return {"attempt": order.token, "lease": order.lease, "value": told}
 
         def in_thread(task: Task[Any]) -> Any:
             try:
-                if self._own is None or self._own.closed:
-                    self._own = psycopg.Connection.connect(connections.address(self.url))
-                with self._own.transaction():
-                    task.enter(self._own)
-                    value = awaitables.whole_now(function(task))
-                    if not self._own.execute(RECORD, words(value)).fetchall():
-                        raise Settled(order.token)
+                link = self._own_link()
+                task.enter(link)
+                link.begun = False
+                value = awaitables.whole_now(function(task))
+                recorded = link.execute(RECORD, record(link, value), prepare=False)
+                if not recorded.fetchall():
+                    raise Settled(order.token)
+                link.end(COMMIT, _nothing)
+                link.begun, link.is_set = None, False
             except BaseException as error:  # it may be anywhere in its transaction
                 self._drop()
                 if isinstance(error, psycopg.OperationalError):
                     raise Unknown(str(error)) from error
                 raise
+            if not is_good(link):
+                self._drop()
             self.say()
             return value
 
         async def in_loop(task: Task[Any]) -> Any:
+            link: AsyncStepLink | None = None
             try:
-                async with await psycopg.AsyncConnection.connect(
-                    connections.address(self.url)
-                ) as link, link.transaction():
-                    task.enter(link)
-                    value = await awaitables.whole(await function(task))
-                    if not await (await link.execute(RECORD, words(value))).fetchall():
-                        raise Settled(order.token)
+                link = await self._new_link()
+                task.enter(link)
+                link.begun = False
+                value = await awaitables.whole(await function(task))
+                recorded = await link.execute(RECORD, record(link, value), prepare=False)
+                if not await recorded.fetchall():
+                    raise Settled(order.token)
+                await link.end("COMMIT", _nothing)
             except psycopg.OperationalError as error:
                 raise Unknown(str(error)) from error
+            finally:
+                if link is not None:
+                    link.begun = None
+                    await link.close()
             self.say()
             return value
 
         return in_loop if awaitables.is_async(function) else in_thread
+
+    def _own_link(self) -> StepLink:
+        if self._own is None or self._own.closed:
+            made = StepLink.connect(connections.address(self.url))
+            assert isinstance(made, StepLink)
+            self._own = made
+        return self._own
+
+    async def _new_link(self) -> AsyncStepLink:
+        made = await AsyncStepLink.connect(connections.address(self.url))
+        assert isinstance(made, AsyncStepLink)
+        return made
 
     def close(self) -> None:
         """Drops the store's connection; that of functions is looked at when it is used."""
@@ -137,4 +162,9 @@ class PostgreSQLDesk:
     def _drop(self) -> None:
         own, self._own = self._own, None
         if own is not None:
+            own.begun = None
             own.close()
+
+
+def _nothing() -> None:
+    """Nobody is told that the commit is about to be sent."""

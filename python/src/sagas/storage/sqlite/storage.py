@@ -356,11 +356,13 @@ class Sqlite(queries.Questions, queries.Rows):
         """What was asked and has no answer."""
         return self.rows(queries.REQUESTS, after, most)  # type: ignore[return-value]
 
-    async def starts(self, most: int, under_way: Sequence[int] | None = None) -> list[Start]:
+    async def starts(
+        self, most: int, under_way: Sequence[int] | None, left: Sequence[int] = ()
+    ) -> list[Start]:
         """None: who starts a saga has the store open."""
         return []
 
-    async def refuse(self, start: int, why: str) -> None:
+    async def give_back(self, start: int, why: str | None) -> None:
         """There are none."""
         raise NotImplementedError
 

@@ -11,7 +11,6 @@ from urllib.parse import quote
 from sagas.base.errors import StoreUnavailable, WrongStore
 from sagas.core.dispatch import Begun, Order
 from sagas.core.outcomes import Outcome
-from sagas.definition.serialization import clean
 from sagas.definition.step import Function
 from sagas.storage.sqlite.external_attempts import REPORT
 from sagas.storage.worker_session import BEGIN, fetched
@@ -66,7 +65,7 @@ class SqliteDesk:
                 "attempt": order.token,
                 "lease": order.lease,
                 "outcome": str(outcome.kind),
-                "value": clean(outcome.value),
+                "value": outcome.value,
             },
         )
 
