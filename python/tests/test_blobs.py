@@ -3,6 +3,7 @@
 from __future__ import annotations
 
 import asyncio
+import contextlib
 import datetime
 import os
 import pathlib
@@ -13,6 +14,7 @@ import time
 from collections.abc import Iterable
 from typing import Any
 
+import psycopg
 import pytest
 import serving
 from cases import QUICK, Task, run, until
@@ -125,6 +127,18 @@ def test_a_blob_store_alone(blobs: Any) -> None:
             assert list(await called(blobs.keys("ab/", time.time() - 600))) == []
 
     run(main())
+
+
+def test_a_table_is_durable(url: str, monkeypatch: pytest.MonkeyPatch) -> None:
+    """Whatever the database's own setting says."""
+    made, whole = list[psycopg.Connection[Any]](), psycopg.connect
+    with whole(url, autocommit=True) as link:
+        name = url.rpartition("/")[2]
+        link.execute(f"ALTER DATABASE {name} SET synchronous_commit = off")  # type: ignore[arg-type]
+    monkeypatch.setattr(psycopg, "connect", lambda *a, **k: made.append(whole(*a, **k)) or made[0])
+    with contextlib.closing(sagas.PostgresBlobStore(url)) as blobs:
+        blobs.put("a", b"one")
+        assert made[0].execute("SHOW synchronous_commit").fetchone() == ("on",)
 
 
 @pytest.mark.parametrize("codec", [None, Reverse()], ids=["plain", "codec"])

@@ -5,7 +5,10 @@ from __future__ import annotations
 import asyncio
 import contextlib
 import pathlib
-from collections.abc import AsyncIterator, Iterator
+import sqlite3
+import time
+from collections.abc import AsyncIterator, Callable, Iterator
+from concurrent.futures import ThreadPoolExecutor
 from typing import Any
 
 import celery
@@ -13,6 +16,9 @@ import psycopg
 import pytest
 from brokers import Broker, broker_at
 from cases import QUICK, Task, asked_of, ended, run, simple, until
+from celery.exceptions import Reject, SoftTimeLimitExceeded
+from psycopg.rows import dict_row
+from test_definition_sets import rows
 from test_faults import full
 
 import sagas
@@ -21,6 +27,7 @@ from sagas.cli import store_command
 from sagas.core import outcomes
 from sagas.core.outcomes import Outcome
 from sagas.core.dispatch import Order
+from sagas.runtime import retention
 from sagas.storage.worker_session import desk_of
 from sagas.storage.postgresql import worker_session
 
@@ -209,3 +216,156 @@ async def started(store: sagas.Store, kind: sagas.Saga) -> bool:
     except sagas.StoreUnavailable:
         return False
     return True
+
+
+def test_a_message_that_comes_after_its_saga_was_deleted(late: Late) -> None:
+    """It is refused, and the error names this cause too."""
+
+    more, closed = simple(lambda task: 1), "SELECT 1 FROM shards WHERE closed = 1"
+
+    async def main() -> None:
+        async with late.held() as store:
+            await store.complete("k", "once", "by hand")
+            assert (await store.wait("k", 60)).ok
+        async with sagas.open(late.place, [late.saga, more]) as store:  # whose shard is another
+            await ended(store, more, "more")
+            await until(lambda: rows(late.place, closed), 30)
+
+    run(main())
+    assert retention.prune(late.place, -3600.0).sagas == 1
+    with pytest.raises(sagas.WrongStore, match="saga 'k' .* late: the saga was deleted"):
+        desk_of(late.place).begin(late.orders[0])
+
+
+class Here:
+    """A step whose messages come to a worker in this process, in a thread of its own."""
+
+    def __init__(self, broker: Broker, place: str, function: Callable[[Task], Any], **words: Any):
+        self.place, self.orders = place, list[Order]()
+        app = celery.Celery("here", broker=broker.url)
+        app.conf.sagas_store = place
+        self.queue = sagas.celery.Queue(app, "here", patience=30)
+        self.queue.send = self._send  # type: ignore[method-assign]
+        self.saga = sagas.Saga("here")
+        self.saga.step(name="once", queue=self.queue, **words)(function)
+        self.task = app.tasks["sagas.here.once.run"]
+        self.thread = ThreadPoolExecutor(1)
+        self.is_there = True
+
+    async def _send(self, order: Order) -> None:
+        self.orders.append(order)
+        if self.is_there:
+            await asyncio.wrap_future(self.thread.submit(self.task, order.written()))
+
+    def ordered(self) -> dict[str, Any]:
+        """A message that no worker takes while the store is open."""
+
+        async def main() -> None:
+            async with sagas.open(self.place, [self.saga], shutdown_timeout=0) as store:
+                await store.start(self.saga, "k")
+                await until(lambda: self.orders, 30)
+
+        self.is_there = False
+        run(main())
+        return self.orders[0].written()
+
+
+SETTINGS = "SELECT current_setting('search_path'), current_setting('lock_timeout')"
+
+
+def test_a_function_leaves_no_settings(broker: Broker, url: str) -> None:
+    """What one sets on its connection is not there for the next one of its worker."""
+    seen: list[Any] = []
+
+    def once(task: Task) -> None:
+        if task.key == "0":
+            return  # without a statement there is nothing but its report
+        seen.append(task.connection.execute(SETTINGS).fetchone())
+        if task.key == "1":
+            task.connection.execute("DEALLOCATE ALL")
+            task.connection.execute("SET search_path = other")
+            task.connection.execute("SELECT set_config('lock_timeout', '7s', false)")
+            task.connection.row_factory = dict_row
+
+    here = Here(broker, url, once, transaction=True)
+
+    async def main() -> None:
+        async with sagas.open(url, [here.saga]) as store:
+            for number in range(3):
+                assert (await ended(store, here.saga, f"{number}")).ok
+
+    run(main())
+    assert seen[0] == seen[1]
+
+
+@pytest.mark.parametrize("in_loop", [False, True])
+def test_a_function_commits_nothing_by_itself(broker: Broker, url: str, in_loop: bool) -> None:
+    """As in a program: psycopg's calls and statements for it raise, and it is no success."""
+    seen: list[str] = []
+
+    def once(task: Task) -> None:
+        with pytest.raises(psycopg.ProgrammingError, match="forbidden") as error:
+            task.connection.commit()
+        seen.append(str(error.value))
+        task.connection.execute("COMMIT")
+
+    async def later(task: Task) -> None:
+        with pytest.raises(psycopg.ProgrammingError, match="forbidden") as error:
+            await task.connection.commit()
+        seen.append(str(error.value))
+        await task.connection.execute("SELECT 1")
+        await task.connection.execute("COMMIT")
+
+    here = Here(broker, url, later if in_loop else once, transaction=True)
+
+    async def main() -> None:
+        async with sagas.open(url, [here.saga]) as store:
+            end = await ended(store, here.saga)
+            assert end.states == {"once": "failed"} and len(seen) == 1
+            assert "the transaction was over before its step" in str(end)
+
+    run(main())
+
+
+class Soft:
+    """In place of the pause of a worker that cannot reach the store: Celery raises its soft limit,
+    and the store is back."""
+
+    def __init__(self, place: str) -> None:
+        self.link = sqlite3.connect(place, isolation_level=None)
+
+    def lock(self, whom: str) -> None:
+        """For those who write, or also for those who read."""
+        self.link.execute(f"PRAGMA locking_mode = {'EXCLUSIVE' if whom == 'all' else 'NORMAL'}")
+        self.link.execute("BEGIN EXCLUSIVE")
+
+    def __call__(self, seconds: float) -> None:
+        self.link.close()
+        raise SoftTimeLimitExceeded()
+
+
+@pytest.mark.parametrize("locked", ["report", "begin"])
+def test_a_soft_time_limit_while_the_store_is_away(
+    broker: Broker, tmp_path: pathlib.Path, monkeypatch: pytest.MonkeyPatch, locked: str
+) -> None:
+    """What a function returned is reported all the same; one that was not called yet goes back."""
+    path, calls = str(tmp_path / "store.db"), list[str]()
+
+    def once(task: Task) -> str:
+        calls.append(task.key)
+        if locked == "report":
+            soft.lock("writers")
+        return "done"
+
+    here = Here(broker, path, once)
+    message, soft = here.ordered(), Soft(path)
+    monkeypatch.setattr(time, "sleep", soft)
+    if locked == "begin":
+        soft.lock("all")
+        with pytest.raises(Reject) as error:
+            here.task(message)
+        assert error.value.requeue and not calls
+    here.task(message)
+    monkeypatch.undo()
+    assert calls == ["k"]
+    assert desk_of(path).begin(here.orders[0]) is None  # it is reported

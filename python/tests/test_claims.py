@@ -191,24 +191,27 @@ def test_many_at_once(place: str) -> None:
 
 
 def test_a_wrong_claim_fails_no_other(place: str) -> None:
-    """Half of a pair of characters in a worker's name, or a limit below 0: claims and reports
-    beside it are kept.
+    """Half of a pair of characters in a worker's name or in its report, or a limit below 0: claims
+    and reports beside it are kept.
     """
     saga = far()
 
     async def main() -> None:
         async with opened(place, saga) as store:
-            for number in range(3):
+            for number in range(4):
                 await store.start(saga, f"k{number}")
-            (task,) = await store.workers.claim(WORD, wait=30, lease=600)
-            one, none, other, kept = await asyncio.gather(
+            task, torn = await store.workers.claim(WORD, limit=2, wait=30, lease=600)
+            unknown = {"unknown": "no such file: /in/\udcff.pdf"}
+            one, none, other, kept, told = await asyncio.gather(
                 store.workers.claim(WORD, wait=30, lease=600),
                 store.workers.claim(WORD, limit=-1, lease=600),
                 store.workers.claim(WORD, wait=30, lease=600, worker="w\ud800"),
                 store.workers.report(task.attempt_id, task.lease, 5),
+                store.workers.report(torn.attempt_id, torn.lease, **unknown),
             )
-            assert kept and not none
+            assert kept and told and not none
             assert len({task.attempt_id, one[0].attempt_id, other[0].attempt_id}) == 3
+            assert not await store.workers.report(torn.attempt_id, torn.lease, **unknown)
 
     run(main())
 

@@ -6,6 +6,7 @@ import asyncio
 import contextlib
 import json
 import os
+import threading
 from typing import Any
 
 import psycopg
@@ -19,6 +20,7 @@ from server import Server
 import sagas
 from sagas.cli import store_command
 from sagas.storage import operator_requests as asked
+from sagas.storage.postgresql import notifications
 
 
 def shop() -> sagas.Saga:
@@ -533,6 +535,43 @@ def test_a_client_that_is_entered_twice(url: str) -> None:
         assert client.start(kind, "two").wait(200).ok
 
 
+@pytest.mark.parametrize("is_client", [True, False], ids=["client", "store"])
+def test_closing_ends_the_waits_of_other_threads(
+    url: str, is_client: bool, monkeypatch: pytest.MonkeyPatch
+) -> None:
+    """The saga is nobody's here: those that wait for it hear at once that it is closed."""
+    entered, whole = threading.Semaphore(0), notifications.News.wait
+
+    async def entering(*words: Any) -> None:
+        entered.release()
+        await whole(*words)
+
+    monkeypatch.setattr(notifications.News, "wait", entering)
+    kind, other = shop(), sagas.Saga("other")
+    other.step(lambda task: None, name="a")
+    made(url, kind)
+    with sagas.SyncClient(url) as client:
+        client.start(kind, "k")
+    heard: list[BaseException] = []
+    opened = sagas.SyncClient(url) if is_client else sagas.open_sync(url, [other])
+
+    def wait() -> None:
+        try:
+            opened.wait("k")
+        except sagas.Closed as error:
+            heard.append(error)
+
+    with opened:
+        threads = [threading.Thread(target=wait) for _ in range(3)]
+        for thread in threads:
+            thread.start()
+        for _ in threads:
+            assert entered.acquire(timeout=30)
+    for thread in threads:
+        thread.join(10)
+    assert len(heard) == 3
+
+
 def test_a_client_by_the_other_kind_of_with() -> None:
     """`with` and `async with` each say what is meant."""
     url = "postgresql://a@127.0.0.1/b"
@@ -622,6 +661,50 @@ def test_a_start_that_loses_its_race_with_a_node(url: str) -> None:
                 await late.wait()
 
     run(main())
+
+
+STAYS = """
+CREATE SEQUENCE sagas.turns;
+CREATE FUNCTION sagas.stays_once() RETURNS trigger LANGUAGE plpgsql AS
+  'BEGIN
+    IF current_query() NOT LIKE ''%INSERT INTO sagas(%'' AND nextval(''sagas.turns'') = 1 THEN
+      RAISE EXCEPTION ''once'';
+    END IF;
+    RETURN OLD;
+  END';
+CREATE TRIGGER stays_once BEFORE DELETE ON sagas.pending_starts
+  FOR EACH ROW EXECUTE FUNCTION sagas.stays_once()
+"""
+
+
+@pytest.mark.parametrize("is_seen", [True, False], ids=["seen", "met"])
+def test_a_start_whose_key_has_a_saga_goes_away(url: str, monkeypatch: pytest.MonkeyPatch, is_seen: bool) -> None:
+    """The commit that takes it out fails: it is taken out by the next one, and never begun."""
+    kind, told = shop(), list[str]()
+
+    async def main() -> None:
+        async with sagas.open(url, [kind], on_event=lambda event: told.append(event.name)) as store, sagas.Client(url) as client:
+            with psycopg.connect(url) as stranger:
+                stranger.execute(STAYS)
+            async with await psycopg.AsyncConnection.connect(url) as link:
+                late = await client.start(kind, "k", "same", connection=link)
+                assert (await (await store.start(kind, "k", "same")).wait()).ok
+                if not is_seen:
+                    database, is_blind = store._inside.store, True
+                    right = database.find
+
+                    async def find(key: str) -> Any:
+                        nonlocal is_blind
+                        was_blind, is_blind = is_blind, False
+                        return None if was_blind else await right(key)
+
+                    monkeypatch.setattr(database, "find", find)
+                await link.commit()
+            await until(lambda: inbox(url) == 0, 20)
+            assert (await late.wait()).ok and len(records.read(url).sagas) == 1
+
+    run(main())
+    assert told.count("commit_failed") == 1
 
 
 @pytest.mark.parametrize("where", ["starts", "find", "new_log"])

@@ -2,9 +2,11 @@
 
 from __future__ import annotations
 
+import asyncio
 import contextlib
 import dataclasses
 import datetime
+import json
 import os
 import pathlib
 import subprocess
@@ -16,9 +18,11 @@ import pytest
 from cases import QUICK, Task, ended, run, simple, until
 from cryptography.fernet import Fernet
 from driving import program
+from test_transactions import KILLED, prepare
 
 import sagas
 from sagas.cli import store_command
+from sagas.runtime import client_starts
 from sagas.storage import admin
 
 HERE = pathlib.Path(__file__).resolve().parent
@@ -130,6 +134,45 @@ def test_nothing_of_a_value_is_stored(place: str) -> None:
     assert store_command.main([place, "show", "well"]) == 0  # who has no key sees that there is one
 
 
+def test_a_value_that_looks_encoded_is_refused(place: str) -> None:
+    """Else who may see what is stored could have it decoded. A result is then one that is no JSON,
+    also where a worker's function returned it.
+    """
+    outside = sagas.Saga("outside")
+    outside.step(external=True, name="a")
+    given: list[Any] = [None]
+    kind = simple(lambda task: given[0])
+
+    async def main() -> None:
+        store = sagas.open(place, [kind, outside], codec=Encryption(a=OLD))
+        store.leased = True
+        async with store:
+            await (await store.start(kind, "k", SECRET)).wait()
+            with contextlib.closing(admin.connect(place)) as link:
+                ((text,),) = link.ask("SELECT input FROM sagas WHERE key = 'k'")
+            for value in (json.loads(text), {"$codec": "AAAA"}):
+                given[0] = value
+                with pytest.raises(sagas.NotSerializable, match="looks as an encoded value"):
+                    await store.start(outside, "s", value)
+                with pytest.raises(sagas.NotSerializable, match="looks as an encoded value"):
+                    hour = datetime.timedelta(hours=1)
+                    await store.schedule("n", outside, value, every=hour)
+                begun = await store.start(kind, key := f"k{len(str(value))}")
+                assert "encoded value" in (await begun.wait()).results["a"]["unstorable"]
+                await store.start(outside, f"o{key}")
+                (task,) = await until(
+                    lambda: store.workers.claim([("outside", "a", "run")], holder="w")
+                )
+                with pytest.raises(sagas.NotSerializable, match="looks as an encoded value"):
+                    await store.workers.report(task.attempt_id, task.lease, value, holder="w")
+                with pytest.raises(sagas.NotSerializable, match="looks as an encoded value"):
+                    await store.complete(f"o{key}", "a", value)
+                await store.workers.report(task.attempt_id, task.lease, {"a": value}, holder="w")
+                assert (await store.wait(f"o{key}")).results == {"a": {"a": value}}
+
+    run(main())
+
+
 def asked(place: str) -> int:
     with contextlib.closing(admin.connect(place)) as link:
         return len(link.ask("SELECT 1 FROM suspensions WHERE reason = 'approval'"))
@@ -223,6 +266,36 @@ def test_a_client_and_a_worker(url: str) -> None:
     assert holds_secret(url) == []
 
 
+def test_a_start_that_one_node_cannot_decode(url: str, monkeypatch: pytest.MonkeyPatch) -> None:
+    """It is left to a node that can: it holds up no other start, and can be aborted."""
+    monkeypatch.setattr(client_starts, "MANY", 2)
+    kind = simple(lambda task: task.input)
+    whole = Encryption(a=OLD, b=NEW)
+
+    async def main() -> None:
+        async with sagas.open(url, [kind], codec=Encryption(a=OLD)) as store:
+            async with sagas.Client(url, codec=whole) as client:
+                for key in ("k0", "k1", "k2"):
+                    await client.start(kind, key, SECRET)
+                async with sagas.Client(url, codec=Encryption(a=OLD)) as older:
+                    assert (await (await older.start(kind, "old", 1)).wait(30)).ok
+                async with asyncio.timeout(30):
+                    assert await client.abort("k2")
+                    waits = [key for key, *_ in await asyncio.to_thread(left, url)]
+                    assert waits == ["k0", "k1"] and not await store.attention()
+                async with sagas.open(url, [kind], codec=whole):
+                    for key in ("k0", "k1"):
+                        assert (await client.wait(key, 60)).results == {"a": SECRET}
+
+    run(main())
+
+
+def left(url: str) -> list[tuple[Any, ...]]:
+    """The starts that no node has."""
+    with contextlib.closing(admin.connect(url)) as link:
+        return link.starts()
+
+
 def test_in_a_test_without_a_store() -> None:
     """The simulation encodes and decodes as a store does."""
     codec = Encryption(a=OLD)
@@ -232,6 +305,30 @@ def test_in_a_test_without_a_store() -> None:
     assert trial.ok and trial.results["send"] == [SECRET]
     with pytest.raises(sagas.NotSerializable):
         sagas.testing.run(shop(), Card(SECRET), codec=Wrong())
+
+
+def test_a_result_of_a_transaction_is_encoded_once(url: str, tmp_path: pathlib.Path) -> None:
+    """Also if its program was killed before it reported the step."""
+    prepare(url)
+    script = KILLED.format(url=url).replace(
+        'node="killed"', f'node="killed", codec=test_codec.Encryption(a={OLD!r})'
+    )
+    (file := tmp_path / "killed.py").write_text("import test_codec\n" + textwrap.dedent(script))
+    path = f"{HERE.parent / 'src'}:{HERE}"
+    environment = {**os.environ, "PYTHONPATH": path, "SAGAS_PROGRAM": program()}
+    killed = subprocess.run([sys.executable, str(file)], env=environment, check=False)
+    assert killed.returncode == 9
+    kind = sagas.Saga("one")
+
+    @kind.step(transaction=True)
+    async def book(task: Task) -> None:
+        raise AssertionError("it is called again")
+
+    async def main() -> None:
+        async with sagas.open(url, [kind], node="killed", codec=Encryption(a=OLD)) as store:
+            assert (await store.wait("k")).results == {"book": "booked"}
+
+    run(main())
 
 
 DRIVER = """

@@ -178,11 +178,39 @@ def test_a_step_asks_where_it_says_so(place: str, tmp_path: pathlib.Path) -> Non
             assert await store.retry_all(saga="other") == 0 == await store.retry_all(step="b")
             await store.complete("c", "a", "by hand")
             assert (await runs[2].wait()).results == {"a": "by hand"}
-            assert await store.retry_all(limit=1) == 1  # it fails again, and asks again
-            await until(lambda: len(notes.lines) == 9)
+            assert await store.retry_all(limit=1) == 1  # it fails twice, and asks again
+            await until(lambda: len(notes.lines) == 10)
             await until(lambda: counted(2))
             assert await store.fail_all("no", saga="alone", step="a") == 2
             assert [(await runs[n].wait()).states["a"] for n in (0, 1)] == ["failed"] * 2
+
+    run(main())
+
+
+def test_a_limit_counts_the_steps_that_are_meant(place: str) -> None:
+    """Others that have waited longer do not count."""
+    kind, opens = sagas.Saga("two"), set[str]()
+
+    def once(task: Task) -> None:
+        if task.step not in opens:
+            raise RuntimeError("closed")
+
+    first = kind.step(once, name="a", on_exhausted="ask", backoff=QUICK)
+    kind.step(once, name="b", needs=[first], on_exhausted="ask", backoff=QUICK)
+
+    async def main() -> None:
+        async with opened(place, kind) as store:
+            await store.start(kind, "older")
+            (one,) = await until(lambda: asked(store))
+            opens.add("a")
+            run = await store.start(kind, "newer")
+            await until(lambda: told(store, 2))
+            opens.add("b")
+            assert await store.retry_all(step="b", limit=1) == 1
+            assert (await run.wait()).ok and [one] == await asked(store)
+
+    async def told(store: sagas.Store, count: int) -> bool:
+        return len(await asked(store)) == count
 
     run(main())
 

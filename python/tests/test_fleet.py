@@ -22,6 +22,8 @@ from driving import program
 
 import sagas
 from sagas.core.batch import Grant
+from sagas.definition.step import Bounds
+from sagas.runtime import fleet_limits
 from sagas.storage.postgresql.limit_slots import Places
 
 HERE = pathlib.Path(__file__).resolve().parent
@@ -237,6 +239,44 @@ def test_places_are_not_lost_with_their_answers(url: str, monkeypatch: pytest.Mo
 
     run(main())
     assert count.most <= 2
+
+
+def test_what_is_in_doubt_is_told_by_its_own_gate(url: str, monkeypatch: pytest.MonkeyPatch) -> None:
+    """An answer for a key is lost, and other keys come meanwhile: what is told of that later gives back no place of the key's next call."""
+    monkeypatch.setattr(fleet_limits, "MOST_GATES", 1)
+    monkeypatch.setattr(fleet_limits, "LOOK", 0.05)
+    monkeypatch.setattr(fleet_limits, "DOUBT", 1.0)
+    told: list[tuple[str, int]] = []
+    right = Places.take
+
+    async def take(self: Places, name: str, bounds: Bounds, want: int, *more: Any) -> Grant:
+        grant = await right(self, name, bounds, want, *more)
+        told.append((name, want))
+        if len(told) == 1:
+            raise sagas.StoreUnavailable("the answer is lost")
+        return grant
+
+    monkeypatch.setattr(Places, "take", take)
+
+    def is_taken() -> bool:
+        with psycopg.connect(url) as link:
+            return link.execute("SELECT 1 FROM sagas.limit_slots WHERE node IS NOT NULL").fetchone() is not None
+
+    async def step(task: Task) -> None:
+        if task.key == "second":
+            begun = len(told)
+            await until(lambda: (told[0][0], 0) in told[begun:], 30)
+            assert is_taken()
+
+    kind = simple(step, fleet_concurrency=1, concurrency_by=lambda key: key)
+
+    async def main() -> None:
+        async with sagas.open(url, [kind]) as store:
+            assert (await ended(store, kind, "first", "one")).ok
+            assert (await ended(store, kind, "other", "two")).ok
+            assert (await ended(store, kind, "second", "one")).ok
+
+    run(main())
 
 
 def test_what_is_no_limit_is_refused() -> None:

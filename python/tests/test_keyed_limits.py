@@ -20,6 +20,7 @@ import psycopg
 import pytest
 from cases import PLACES, Task, pairs, run, until
 from driving import program
+from test_codec import OLD, Encryption
 from witness import notes_of, witness_at
 
 import sagas
@@ -169,8 +170,10 @@ def test_what_is_no_limit_with_a_key_is_refused() -> None:
         sagas.Saga("s", fair_by=1)  # type: ignore[arg-type]
 
 
-@pytest.mark.parametrize("again", [False, True])
-def test_a_small_tenant_does_not_wait_for_a_large_one(place: str, again: bool) -> None:
+@pytest.mark.parametrize(
+    "place, again, codec", pairs(PLACES, (False, True), (None, Encryption(a=OLD))), indirect=["place"]
+)
+def test_a_small_tenant_does_not_wait_for_a_large_one(place: str, again: bool, codec: Encryption | None) -> None:
     """Also where a store is opened again with what was begun. Sagas of one tenant go in their order."""
     called: list[str] = []
     opened = asyncio.Event()
@@ -193,11 +196,11 @@ def test_a_small_tenant_does_not_wait_for_a_large_one(place: str, again: bool) -
     async def main() -> None:
         nonlocal opened
         if again:
-            async with sagas.open(place, [saga], concurrency=1, shutdown_timeout=0) as store:
+            async with sagas.open(place, [saga], concurrency=1, shutdown_timeout=0, codec=codec) as store:
                 await start(store)
                 await until(lambda: called)
             called.clear()
-        async with sagas.open(place, [saga], concurrency=1) as store:
+        async with sagas.open(place, [saga], concurrency=1, codec=codec) as store:
             if not again:
                 await start(store)
             await until(lambda: called)

@@ -10,9 +10,10 @@ import signal
 import subprocess
 import sys
 import textwrap
+import threading
 import time
 from collections import Counter
-from collections.abc import Awaitable, Callable, Iterator
+from collections.abc import AsyncIterator, Awaitable, Callable, Iterator
 from typing import Any
 
 import psycopg
@@ -242,6 +243,31 @@ def test_an_old_name_has_its_logs_at_once(url: str, tmp_path: pathlib.Path) -> N
     run(main())
 
 
+def test_a_node_that_opens_keeps_its_lease(url: str, tmp_path: pathlib.Path) -> None:
+    """Its context takes longer than a lease: no other node takes the shards that it has just taken."""
+    told, tell = list[str](), lambda event: told.append(event.name)
+
+    async def main() -> None:
+        with node(tmp_path, url, "web", 1, lease=600) as process:
+            await is_open(process, called=1)
+            process.kill()
+            process.wait()
+            async with sagas.open(url, [pair()], node="other", lease=2.0, on_event=tell) as other:
+                beats = other._inside.store.lease  # type: ignore[attr-defined]
+
+                @contextlib.asynccontextmanager
+                async def slow() -> AsyncIterator[None]:
+                    since = beats._until
+                    await until(lambda: beats._until > since + 4.0)
+                    yield
+
+                async with sagas.open(url, [pair()], node="web", lease=2.0, context=slow, on_event=tell) as store:
+                    assert (await store.wait("web-0")).ok
+
+    run(main())
+    assert not {"lease_expired", "shard_taken", "shard_lost"} & {*told}
+
+
 def test_two_nodes_of_one_name(url: str) -> None:
     """The second has the first one's logs; both go on, and nothing is done twice by one of them."""
     gate = asyncio.Event()
@@ -305,6 +331,30 @@ def test_a_log_that_a_node_has_no_functions_for_is_left(url: str) -> None:
                 assert (await store.wait("old")).ok
 
     run(main())
+
+
+def test_a_log_that_was_left_is_judged_again(url: str, caplog: pytest.LogCaptureFixture) -> None:
+    """Another node has ended the sagas whose functions this one lacks: once that node is gone, this one drives the others."""
+    gates, calls = {name: asyncio.Event() for name in ("goes", "stays")}, list[str]()
+    goes, stays = (pair(gate, calls, name) for name, gate in gates.items())
+
+    async def main() -> None:
+        async with sagas.open(url, [goes, stays], shutdown_timeout=0.0) as both:
+            for kind in (goes, stays):
+                await both.start(kind, kind.name)
+            await until(lambda: len(calls) == 2)
+        async with sagas.open(url, [stays], lease=2.0) as store:
+            lease = store._inside.store.lease  # type: ignore[attr-defined]
+            assert len(lease.left) == len(records.read(url).logs) == 1
+            async with sagas.open(url, [goes, stays], shutdown_timeout=0.0) as both:
+                gates["goes"].set()
+                assert (await both.wait("goes")).ok
+            gates["stays"].set()
+            assert (await asyncio.wait_for(store.wait("stays"), 30)).ok
+            assert not lease.left
+
+    run(main())
+    assert not [one for one in caplog.records if "no node executes" in one.getMessage()]
 
 
 def test_what_no_node_drives_is_told(url: str, caplog: pytest.LogCaptureFixture) -> None:
@@ -614,6 +664,35 @@ def test_takeover_in_lots_goes_past_a_locked_log(url: str, monkeypatch: pytest.M
     assert Counter(calls) == Counter(f"k{number}" for number in range(60))
 
 
+def test_a_node_says_between_two_lots_that_it_lives(url: str, monkeypatch: pytest.MonkeyPatch) -> None:
+    """It takes over the shards of another, of which it has the functions of some: one lot for each beat."""
+    monkeypatch.setattr("sagas.definition.shelf.SHARD_CAPACITY", 1)
+    monkeypatch.setattr(node_lease, "CANDIDATES", node_lease.CANDIDATES.replace(f"LIMIT {node_lease.LOT}", "LIMIT 1"))
+    gate, calls, turns = asyncio.Event(), list[str](), list[int]()
+    mine, others = pair(gate, calls), pair(gate, calls, "others")
+
+    async def main() -> None:
+        take = node_lease.Lease.take
+
+        async def noted(self: node_lease.Lease, *words: Any) -> Any:
+            turns.append(self._turn)
+            return await take(self, *words)
+
+        async with sagas.open(url, [mine]) as store:
+            async with sagas.open(url, [mine, others], shutdown_timeout=0.0) as both:
+                for number in range(3):
+                    await both.start(mine, f"k{number}")
+                    await both.start(others, f"other{number}")
+                await until(lambda: len(calls) == 6)
+                monkeypatch.setattr(node_lease.Lease, "take", noted)
+            gate.set()
+            assert all(end.ok for end in await asyncio.gather(*(store.wait(f"k{number}") for number in range(3))))
+            await until(lambda: len(store._inside.store.lease.left) == 3)  # type: ignore[attr-defined]
+
+    run(main())
+    assert len(turns) >= 6 and len({*turns}) == len(turns)
+
+
 WAITS = """
 CREATE FUNCTION sagas.waits() RETURNS boolean LANGUAGE plpgsql AS 'BEGIN PERFORM pg_advisory_xact_lock(1); RETURN true; END'
 """
@@ -744,6 +823,29 @@ def test_what_happens_is_told(url: str, monkeypatch: pytest.MonkeyPatch) -> None
     run(main())
 
 
+def test_what_was_heard_before_a_connection_broke_counts_no_more(url: str) -> None:
+    """Another server may have taken over, at which a saga is open that had ended: who waits for it pauses between two looks."""
+
+    async def main() -> None:
+        looks, told = asyncio.Queue[str](), asyncio.Event()
+        news = notifications.News(url, looks.put_nowait)
+        await looks.get()
+        news.say(["ended 17", "look"], told.set)
+        assert await looks.get() == "look"
+        await asyncio.wait_for(news.of(17, 16), 5)
+        with psycopg.connect(url, autocommit=True) as stranger:
+            stranger.execute("SELECT pg_terminate_backend(pid) FROM pg_stat_activity WHERE datname = current_database() AND pid <> pg_backend_pid()")
+        assert await looks.get() == ""
+        waiting = asyncio.create_task(news.of(17, 16))
+        await asyncio.sleep(0.1)
+        assert not waiting.done()
+        news.say(["ended 17"], told.set)
+        await waiting
+        await news.close()
+
+    run(main())
+
+
 def test_an_end_is_heard_of_without_a_word(url: str, monkeypatch: pytest.MonkeyPatch) -> None:
     """What the database tells may be lost: whoever waits looks by himself, at intervals that grow."""
     monkeypatch.setattr("sagas.storage.postgresql.announcer.Announcer._say", lambda self, words: None)
@@ -812,6 +914,34 @@ def test_a_start_without_a_server_is_refused(url: str, monkeypatch: pytest.Monke
             refused = [number for number, one in enumerate(told) if isinstance(one, sagas.StoreUnavailable)]
             assert refused and len(refused) + sum(isinstance(one, sagas.SagaResult) for one in told) == 200
             assert (await surely_ended(store, kind, f"k{refused[0]}")).ok
+
+    run(main())
+
+
+def test_who_looks_for_a_key_hears_that_the_store_is_closed(
+    postgresql: Server, url: str, monkeypatch: pytest.MonkeyPatch
+) -> None:
+    """The server has gone silent: who waits for its answer does not wait longer than the store is open."""
+    kind, silent = pair(), threading.Event()
+
+    async def main() -> None:
+        with relaying(postgresql.port) as relay:
+            place = postgresql.url(url.rpartition("/")[2], port=relay.port)
+            async with sagas.open(place, [kind]) as store:
+                keys = store._inside.store._keys  # type: ignore[attr-defined]
+                relay.cut()
+                await until(lambda: not keys._link.is_open)
+                relay._loop.call_soon_threadsafe(silent.wait)
+                asked = [asyncio.create_task(store.get("k"))]
+                await until(lambda: keys.sought == 1)
+                asked += [asyncio.create_task(work) for work in (store.get("k"), store.wait("other"))]
+                await until(lambda: keys.sought == 3)
+                monkeypatch.setattr(connections, "CONNECT", 0.1)
+                closing = asyncio.create_task(store.close())
+                await asyncio.wait(asked, timeout=10)
+                silent.set()
+                await closing
+                assert {type(one.exception()) if one.done() else None for one in asked} == {sagas.Closed}
 
     run(main())
 

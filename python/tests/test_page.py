@@ -181,8 +181,8 @@ OTHERS = [
     ("Windows", "AMD64", "cc", "cannot be installed here: this is {}.*WSL.*dist/sagas.html"),
     ("Darwin", "arm64", "no-compiler", "no C compiler 'no-compiler'.*({}).*xcode-select --install"),
     ("Linux", "riscv64", "no-compiler -m64", "no C compiler 'no-compiler'.*({}).*install gcc"),
-    ("FreeBSD", "amd64", "false", "false cannot compile the engine for this machine .{}.*by CC"),
-    ("Linux", "riscv64", "true", "that was compiled does not run on this machine .{}.*by CC"),
+    ("FreeBSD", "amd64", "false", "false cannot compile the engine for this machine .{}.*Set CC"),
+    ("Linux", "riscv64", "true", "compiled engine does not run on this machine .{}.*Set CC"),
 ]
 
 

@@ -5,6 +5,7 @@ from __future__ import annotations
 import asyncio
 import contextlib
 import datetime
+import itertools
 import os
 import pathlib
 import subprocess
@@ -17,13 +18,14 @@ from typing import Any
 import pytest
 from cases import Task, run, simple, until
 from driving import program
+from test_codec import NEW, OLD, Encryption
 from test_command import Shell
 
 import sagas
 from sagas.definition import timing
 from sagas.runtime import scheduler
 from sagas.storage import admin
-from sagas.storage.schedules import Schedules
+from sagas.storage.schedules import ALL, Schedules, of_row
 from sagas.testing import schedule_times
 
 HERE = pathlib.Path(__file__).resolve().parent
@@ -99,6 +101,18 @@ def test_times_in_equal_distances() -> None:
     start = datetime.datetime(2026, 3, 1, 12, 0, tzinfo=UTC)
     found = schedule_times(every=datetime.timedelta(minutes=45), after=start, count=2)
     assert found == [start.replace(minute=45), start.replace(hour=13, minute=30)]
+
+
+@pytest.mark.parametrize("seconds", [1.1, 7.3, DAY / 7])
+def test_each_time_is_behind_the_one_before(seconds: float) -> None:
+    """Also where the distance is no binary fraction, so that times are rounded."""
+    every = datetime.timedelta(seconds=seconds)
+    each, last = (timing.timing(None, every, "UTC", catch_up) for catch_up in ("all", "last"))
+    times, later = each.due(each.next_after(START), START + 60 * seconds, 50)
+    assert len(times) == 50
+    for at, following in itertools.pairwise([*times, later]):
+        assert following - at == pytest.approx(seconds, abs=1e-6)
+        assert last.due(at, at, 1) == ([at], following)
 
 
 WRONG = [
@@ -201,6 +215,78 @@ def test_times_that_were_missed(place: str, catch_up: str, monkeypatch: pytest.M
 
     async def is_at(store: sagas.Store, at: float, name: str = "n") -> bool:
         return any((one.name, one.last_at) == (name, at) for one in await store.schedules())
+
+    run(main())
+
+
+@pytest.mark.parametrize("what", ["pause", "remove", "change"])
+def test_nothing_is_started_behind_the_answer(place: str, what: str) -> None:
+    """Several times are due; when the first saga has started, another program changes that."""
+    clock, told = Clock(), list[str]()
+
+    def change(event: sagas.Event) -> None:
+        if event.name == "saga_started" and not told:
+            told.append(event.name)
+            with contextlib.closing(admin.connect(place, "rw")) as link:
+                if what == "change":
+                    Schedules(link).put("n", ("simple", 1), "7", "{}", when, clock.now)
+                else:
+                    getattr(Schedules(link), what)("n")
+
+    async def main() -> None:
+        async with sagas.open(place, [kind := nightly()], clock=clock) as store:
+            await store.schedule("n", kind, every=EVERY, catch_up="all")
+            await store.schedule("z", kind, every=EVERY)  # its turn is behind that of the other one
+        clock.now += 2 * DAY
+        async with sagas.open(place, [kind], clock=clock, on_event=change) as store:
+            await until(lambda: any(key.startswith("z@") for key in keys(place)))
+            assert keys(place) == ["n@2026-03-01T18:00:00Z", "z@2026-03-03T12:00:00Z"]
+            found = {one.name: one for one in await store.schedules()}
+            if what == "pause":
+                assert found["n"].paused and found["n"].last_at == START + DAY / 4
+            elif what == "change":
+                assert found["n"].input == 7 and found["n"].next_at > clock.now
+
+    when = timing.timing(None, EVERY, "UTC", "all")
+    run(main())
+
+
+def test_other_times_are_not_those_that_were_read(place: str) -> None:
+    """A node that read the schedule before a change does not say when its next time is."""
+    with sagas.open_sync(place, [nightly()]):
+        pass
+    with contextlib.closing(admin.connect(place, "rw")) as link:
+        schedules, what = Schedules(link), ("n", ("simple", 1), "null", "{}")
+        long, short = (timing.timing(None, EVERY / parts, "UTC", "all") for parts in (1, 3))
+        schedules.put(*what, long, START)
+        read = of_row(link.ask(ALL)[0])
+        schedules.put(*what, short, START + 5 * 3600)
+        changed = link.ask(ALL)
+        schedules.advance(read, START + 12 * 3600, read.next_at, None)
+        assert read.next_at == of_row(changed[0]).next_at and link.ask(ALL) == changed
+
+
+def test_a_schedule_that_is_declared_again(place: str) -> None:
+    """It goes on as it is, though its input is another text with a codec, by the newest key."""
+    clock, hour = Clock(), datetime.timedelta(hours=1)
+
+    async def declare(given: object, **keys: bytes) -> float:
+        codec = Encryption(**keys) if keys else None
+        words: dict[str, Any] = {"clock": clock, "accept_new": False, "codec": codec}
+        async with sagas.open(place, [kind := nightly()], **words) as store:
+            await store.schedule("n", kind, given, every=hour)
+            (one,) = await store.schedules()
+            assert one.input == given
+            return one.next_at
+
+    async def main() -> None:
+        first = await declare("a")
+        clock.now += DAY
+        for keys in ({"a": OLD}, {"a": OLD}, {"a": OLD, "b": NEW}, {"b": NEW}):
+            assert await declare("a", **keys) == first
+        assert await declare("b", b=NEW) == first + DAY
+        clock.now += DAY
+        assert await declare("b", a=OLD) == first + 2 * DAY  # nobody can say that it is the same
 
     run(main())
 

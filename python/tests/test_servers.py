@@ -56,6 +56,19 @@ def test_a_synchronous_standby_takes_over(tmp_path: pathlib.Path) -> None:
         assert "\nmoved " in "".join(fleet.texts(url, [record], sync=True))
 
 
+def test_large_values_go_to_the_server_that_takes_writes() -> None:
+    """With the standby first in the address, and after it has taken over."""
+    with paired(synchronous=False) as pair:
+        hosts = f"127.0.0.1:{pair.standby.port},127.0.0.1:{pair.primary.port}"
+        with contextlib.closing(sagas.PostgresBlobStore(f"postgresql://owner@{hosts}/postgres")) as blobs:
+            blobs.put("a", b"one")
+            pair.hold_back()
+            pair.fail_over()
+            assert blobs.get("a") == b"one"
+            blobs.put("b", b"two")
+            assert blobs.get("b") == b"two"
+
+
 @pytest.mark.parametrize("room", [1, 1000])
 def test_an_asynchronous_standby_may_lack_the_last_commits(monkeypatch: pytest.MonkeyPatch, tmp_path: pathlib.Path, room: int) -> None:
     """A saga of which the standby knows goes back to what it knows, and its step is called again with its token; one that it lacks is not there, and is

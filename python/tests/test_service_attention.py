@@ -2,17 +2,24 @@
 
 from __future__ import annotations
 
+import time
 from collections.abc import Iterator
 from typing import Any
 
 import httpx
 import pytest
-from serving import DEFINITIONS, Served, error_of, report, served, start, take
+from serving import DEFINITIONS, FEW, LONG, Served, all_done, error_of, report, served, start, take
+
+FILES = {
+    **DEFINITIONS,
+    "asks.toml": FEW.replace('"few"', '"asks"'),
+    "asks.service.toml": '[step.a]\non_exhausted = "ask"\n',
+}
 
 
 @pytest.fixture(scope="module")
 def service(tmp_path_factory: pytest.TempPathFactory, store: str | None) -> Iterator[Served]:
-    with served(tmp_path_factory.mktemp("attention"), DEFINITIONS, store=store) as one:
+    with served(tmp_path_factory.mktemp("attention"), FILES, store=store) as one:
         yield one
 
 
@@ -111,3 +118,53 @@ def test_attention_and_many(client: httpx.Client) -> None:
     log = client.get("/v1/sagas/asked-0/log").json()["events"]
     notes = [(one["value"]["what"], one["value"]["by"]) for one in log if one["event"] == "note"]
     assert notes == [("complete", "local"), ("abort", "local")]
+
+
+def test_an_abort_of_many_gets_on(client: httpx.Client) -> None:
+    """Each call aborts the next sagas: those that were aborted before are open until they are undone, and are not counted again."""
+    late = {"definition": "few", "key": "gets-on-late", "deadline": 0.1}
+    assert client.post("/v1/sagas", json=late).status_code == 201
+    take(client, "few/a")  # so its abort has to wait
+    for number in range(3):
+        start(client, "few", f"gets-on-{number}")
+        all_done(client, "few/a")
+    until = time.monotonic() + LONG
+    while not client.get("/v1/sagas/gets-on-late").json()["aborted"]:
+        assert time.monotonic() < until
+    found, some = [], {"filter": {"search": "gets-on-"}, "limit": 1}
+    for count in (4, 3, 2, 1, 0):
+        assert client.post("/v1/bulk/abort", json=some).json()["count"] == count
+        told = client.post("/v1/bulk/abort", json={**some, "dry_run": False, "count": count}).json()
+        assert told["left"] == max(0, count - 1)
+        found.append((told["done"], [(one["key"], one["problem"]["detail"]) for one in told["refused"]]))
+    said = "saga 'gets-on-late' has ended, or was aborted before"
+    assert found == [(0, [("gets-on-late", said)]), (1, []), (1, []), (1, []), (0, [])]
+    sagas = client.get("/v1/sagas?search=gets-on-&phase=open").json()["sagas"]
+    assert len(sagas) == 4 and all(client.get(f"/v1/sagas/{one['key']}").json()["aborted"] for one in sagas)
+
+
+def test_reports_of_many_are_of_the_step(client: httpx.Client) -> None:
+    """Its compensation is meant where `undo` says so; in the inbox it is in a group of its own."""
+    for key in ("asks-a", "asks-undo"):
+        start(client, "asks", key)
+    for task in take(client, "asks/a", most=2):
+        if task["key"] == "asks-a":
+            report(client, task, "fail", error="timeout")
+        else:
+            report(client, task)
+    all_done(client, "asks/b", failing=["asks/b"])
+    (undo,) = take(client, "asks/a/undo")
+    report(client, undo, "fail", error="timeout")
+    until = time.monotonic() + LONG
+    while len(client.get("/v1/attention?kind=exhausted&step=a").json()["entries"]) < 2:
+        assert time.monotonic() < until
+    for more, key in (({}, "asks-a"), ({"undo": False}, "asks-a"), ({"undo": True}, "asks-undo")):
+        some = {"filter": {"kind": "exhausted", "step": "a", **more}, "result": 1}
+        told = client.post("/v1/bulk/complete", json=some).json()
+        assert (told["count"], told["keys"]) == (1, [key]), more
+    page = client.get("/ui?kind=exhausted&definition=asks").text
+    assert page.count('name="group"') == 2 and "· undoing a: timeout" in page
+    told = client.post("/v1/bulk/complete", json={**some, "dry_run": False, "count": 1}).json()
+    assert (told["done"], told["left"]) == (1, 0)
+    assert client.get("/v1/sagas/asks-undo/wait").json()["states"]["a"] == "undone"
+    assert client.get("/v1/sagas/asks-a").json()["states"]["a"] == "begun"

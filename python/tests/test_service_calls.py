@@ -215,7 +215,7 @@ def test_a_refund_that_fails(client: httpx.Client) -> None:
     assert (wrong.status_code, error_of(wrong)) == (409, "StepNotWaiting")
     assert client.post("/v1/sagas/refund-1/steps/a/retry", json={"undo": True}).json()["kept"] is True
     all_done(client, "few/a/undo")
-    many = {"filter": {"kind": "exhausted", "definition": "few", "step": "a"}}
+    many = {"filter": {"kind": "exhausted", "definition": "few", "step": "a", "undo": True}}
     assert client.post("/v1/bulk/retry", json=many).json()["count"] == 1
     done = client.post("/v1/bulk/retry", json={**many, "dry_run": False, "count": 1}).json()
     assert (done["done"], done["refused"]) == (1, [])

@@ -2,6 +2,7 @@
 
 from __future__ import annotations
 
+import asyncio
 import contextlib
 import pathlib
 import subprocess
@@ -19,6 +20,8 @@ from test_service_hostile import is_well, send_any_json, send_odd_texts
 from test_service_workers import working
 
 import sagas
+from sagas.base.events import Event
+from sagas.server.event_stream import Hub, Listener
 
 LEASE = 3.0
 
@@ -209,6 +212,28 @@ def test_events_of_all(both: Pair) -> None:
                 if names[-1] == "saga_ended":
                     break
     assert names[0] == "saga_started" and names.count("step_started") == 2 and "step_succeeded" in names
+
+
+def test_events_that_a_service_did_not_hear() -> None:
+    """A stream is told that some are lost, and goes on; also one that was away meanwhile, whatever came behind."""
+
+    async def main() -> None:
+        hub, event = Hub(), Event("saga_ended", 0.0)
+        hub.publish(event)
+        away, there = hub.now, hub.stream(Listener(None, None, lambda saga: True), hub.now, lambda: True)
+        for _ in range(2):  # it is open
+            await anext(there)
+        hub.missed()
+        assert hub.behind(away) == ([], True)
+        hub.publish(event)
+        assert hub.behind(away) == ([(3, event)], True)
+        told = [await anext(there) for _ in range(2)]
+        assert [text.split("\n")[:2] for text in told] == [
+            [f"id: {hub.boot}-2", "event: missed"], [f"id: {hub.boot}-3", "event: saga_ended"]
+        ]  # fmt: skip
+        assert hub.behind(f"{hub.boot}-2") == ([(3, event)], False)
+
+    asyncio.run(main())
 
 
 def test_whatever_is_asked(both: Pair) -> None:

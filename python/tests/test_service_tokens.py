@@ -7,6 +7,7 @@ import contextlib
 import datetime
 import pathlib
 import re
+import resource
 import subprocess
 import sys
 import threading
@@ -16,6 +17,7 @@ from typing import Any
 
 import httpx
 import pytest
+from cases import run, until
 from serving import (
     error_of,
     DEFINITIONS,
@@ -328,9 +330,9 @@ def test_the_dashboard_has_its_definitions(world: World) -> None:
     assert page.get("/ui/definitions/licence").status_code == 404
     assert "a-trip" in all_of_it.get("/ui/sagas?search=a-").text
     assert "trip/none" in all_of_it.get("/ui/workers").text
-    tabs = re.sub("<[^>]+>", "", page.get("/ui").text)
-    assert re.search(r"Stuck 0\s*Undo failed 0\s*Unknown 0\s*Exhausted 0\s*Approvals [1-9]", tabs)
-    assert "Stuck 1" in re.sub("<[^>]+>", "", all_of_it.get("/ui").text)
+    told = r"Stuck 0\s*Undo failed 0\s*Unknown 0\s*Exhausted 0\s*Approvals [1-9]"
+    for client, counts in ((page, told), (all_of_it, "Stuck 1")):  # which are counted once a second
+        run(until(lambda: re.search(counts, re.sub("<[^>]+>", "", client.get("/ui").text)), 10))
 
 
 FORMS: list[tuple[str, dict[str, str]]] = [
@@ -446,6 +448,24 @@ def test_a_stream_ends_with_its_token(tmp_path: pathlib.Path) -> None:
         lines = streams["stays"].iter_lines()
         start(stack.enter_context(service.client(words["stays"])), "trip", "told")
         assert any('"told"' in line for line in lines)
+
+
+def test_a_file_that_was_unreadable_once(tmp_path: pathlib.Path, monkeypatch: pytest.MonkeyPatch) -> None:
+    """It is read at a later look though nothing of it has changed, as behind a `chown`; the log says it once."""
+    gone, stays = (token(tmp_path, name, "operator") for name in ("gone", "stays"))
+    file, said = tmp_path / "tokens.toml", list[str]()
+    tokens = auth.Tokens(file, said.append)
+    monkeypatch.setattr(auth, "LOOK", -1.0)  # each question is a look
+    file.write_text("[[token]]" + file.read_text().rpartition("[[token]]")[2])
+    soft, hard = resource.getrlimit(resource.RLIMIT_NOFILE)
+    resource.setrlimit(resource.RLIMIT_NOFILE, (0, hard))  # it can be looked at, and not be opened
+    try:
+        assert tokens.find(gone) and tokens.find(gone)
+    finally:
+        resource.setrlimit(resource.RLIMIT_NOFILE, (soft, hard))
+    assert tokens.find(gone) is None and tokens.find(stays)
+    (line,) = said
+    assert "Too many open files" in line and line.endswith("; the previous tokens stay valid until it is fixed")
 
 
 def test_what_waits_ends_with_its_token(tmp_path: pathlib.Path) -> None:
@@ -581,3 +601,9 @@ def test_the_command(tmp_path: pathlib.Path) -> None:
         assert refused.returncode == 2
         assert refused.stderr.startswith(f"sagas token: {says}"), refused.stderr
     assert len(auth.read(file)) == 1
+    file.write_text(file.read_text().rstrip())  # as an editor may leave it
+    token(tmp_path, "second", "caller")
+    assert len(auth.read(file)) == 2
+    file.write_text(before := "token = []\n")  # to which no table can be added
+    refused = command("token", str(file), "w", "caller")
+    assert (refused.returncode, refused.stdout, file.read_text()) == (4, "", before)

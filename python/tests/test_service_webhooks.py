@@ -2,6 +2,7 @@
 
 from __future__ import annotations
 
+import asyncio
 import base64
 import contextlib
 import hashlib
@@ -18,8 +19,13 @@ import httpx
 import pytest
 from serving import DEFINITIONS, LONG, all_done, host, report, served, start, stuck, take, token
 
+import sagas
+from sagas.cli.snapshot import Snapshot
+from sagas.core.announcements import TYPES
+from sagas.inspection import deliveries
 from sagas.server import webhook_file
-from sagas.server.webhook_file import WebhookFault
+from sagas.server.webhook_file import Webhook, WebhookFault
+from sagas.server.webhooks import Webhooks
 
 SECRET = base64.b64encode(b"k" * 32).decode()
 
@@ -229,6 +235,13 @@ def test_who_may_look(tmp_path: pathlib.Path) -> None:
         (f"[[webhook]]\n{table('https://x/')}\ntypes = ['saga.lost']", "unknown type 'saga.lost'"),
         (f"[[webhook]]\n{table('https://x/')}\n[[webhook]]\n{table('https://x/')}", "duplicate name"),
         ("[[webhook", "cannot be read"),
+        *(
+            (f"[[webhook]]\n{table(url)}", "percent-encoded path")
+            for url in (
+                "https://x:80800/?secret", "https://x:p/?secret", "https://a..b/?secret", "https://x/zürich?secret",
+                "https://x/?secret=ü", "https://x/a b?secret", "https://x y/?secret", "https://[::1/?secret",
+            )  # fmt: skip
+        ),
     ],
 )
 def test_a_file_that_is_wrong(tmp_path: pathlib.Path, text: str, says: str) -> None:
@@ -236,4 +249,34 @@ def test_a_file_that_is_wrong(tmp_path: pathlib.Path, text: str, says: str) -> N
     (tmp_path / "w.toml").write_text(text)
     with pytest.raises(WebhookFault, match=says) as found:
         webhook_file.read(tmp_path / "w.toml")
-    assert SECRET not in str(found.value)
+    assert SECRET not in str(found.value) and "?secret" not in str(found.value)
+
+
+def test_a_host_beyond_ascii(tmp_path: pathlib.Path) -> None:
+    """Its name is sent in its ASCII form."""
+    (one,) = webhook_file.read(pathlib.Path(written(tmp_path, table("https://zürich.example:8443/a%20b?c=%C3%BC"))))
+    assert one.url == "https://zürich.example:8443/a%20b?c=%C3%BC"
+
+
+def test_whatever_a_post_raises(place: str) -> None:
+    """It is the error of the attempt, and the post is repeated."""
+    hook = Webhook("one", "http://127.0.0.1:80800/", b"k" * 32, frozenset(TYPES), None)
+    trip = sagas.Saga("trip")
+    trip.step(name="car")(lambda task: None)
+
+    def are_there() -> list[tuple[bool, str | None]]:
+        with Snapshot(place) as store:
+            return [(one.attempts > 1, one.error) for one in store.ask(deliveries.listed(None, None, 10))]
+
+    async def main() -> None:
+        store = sagas.open(place, [trip])
+        posts = Webhooks([hook], store.deliveries)
+        async with store, asyncio.timeout(LONG):
+            posts.begin()
+            await (await store.start(trip, "k")).wait()
+            posts.look()
+            while are_there() != [(True, "ValueError: Port out of range 0-65535")]:
+                await asyncio.sleep(0.05)
+            await posts.end()
+
+    asyncio.run(main())

@@ -253,6 +253,72 @@ def test_a_worker_whose_lease_is_not_its_own(
     assert "InvalidLease" in caplog.text
 
 
+class Endless(Exception):
+    """It cannot even be described."""
+
+    def __str__(self) -> str:
+        raise SystemExit
+
+
+ODD = SystemExit, KeyboardInterrupt, GeneratorExit, asyncio.CancelledError
+
+
+@pytest.mark.parametrize("is_async", [False, True])
+def test_a_function_raises_what_it_should_not(ones: tuple[Served, httpx.Client], is_async: bool) -> None:
+    """That is unknown, as in a store: the same thread calls it again, with the same idempotency key."""
+    service, client = ones
+    calls: list[tuple[str, str]] = []
+    worker = sagas.Worker(service.url, wait=1.0, concurrency=1)
+
+    def odd(task: sagas.Task[int]) -> None:
+        calls.append((task.key, task.idempotency_key))
+        if len([key for key, _ in calls if key == task.key]) == 1:
+            raise ODD[task.input]("in the middle")
+
+    async def odd_in_loop(task: sagas.Task[int]) -> None:
+        odd(task)
+
+    worker.step("one", "a", cancel_on_abort=is_async)(odd_in_loop if is_async else odd)
+    keys = [f"odd-{is_async}-{number}" for number in range(len(ODD))]
+    for number, key in enumerate(keys):
+        start(client, "one", key, number)
+    with working(worker):
+        for kind, key in zip(ODD, keys):
+            assert client.get(f"/v1/sagas/{key}/wait?seconds=20", timeout=LONG).json()["phase"] == "completed", kind
+    assert len(calls) == 2 * len(set(calls)) == 2 * len(ODD)
+
+
+def test_no_thread_of_a_worker_ends_silently(ones: tuple[Served, httpx.Client], caplog: pytest.LogCaptureFixture) -> None:
+    """The worker ends with it, and its log says so: whether it claims, or keeps leases; `run` raises what ended it."""
+    service, client = ones
+    claims = sagas.Worker(service.url, wait=1.0, lease=1.0)
+
+    @claims.step("one", "a")
+    def endless(task: sagas.Task[Any]) -> None:
+        raise Endless
+
+    beats = sagas.Worker("http://127.0.0.1:1", lease="30")  # type: ignore[arg-type]
+    beats.step("one", "a")(endless)
+    start(client, "one", "endless")
+    for worker, fault in ((claims, SystemExit), (beats, TypeError)):
+        caplog.clear()
+        heard: list[BaseException] = []
+
+        def runs(worker: sagas.Worker = worker, heard: list[BaseException] = heard) -> None:
+            try:
+                worker.run()
+            except BaseException as error:
+                heard.append(error)
+
+        thread = threading.Thread(target=runs)
+        thread.start()
+        thread.join(20.0)
+        worker.stop()
+        assert not thread.is_alive() and "a thread of this worker failed" in caplog.text
+        assert [type(one) for one in heard] == [fault]
+    all_done(client, "one/a")
+
+
 class Asking(sagas.Worker):
     """It counts what each answer gave it."""
 

@@ -168,6 +168,13 @@ def broken(**words: Any) -> sagas.Saga:
 SECRET = "4111-1111"
 
 
+class Odd(str):
+    """A value that is neither true nor false, and says what it is."""
+
+    def __bool__(self) -> bool:
+        raise ValueError(self)
+
+
 @pytest.mark.parametrize(
     "words, input, told",
     [
@@ -176,8 +183,12 @@ SECRET = "4111-1111"
         ({"for_each": "many"}, {"many": SECRET}, "for_each gives a str"),
         ({"for_each": "many"}, {"many": []}, "has no step for this input"),
         ({"for_each": lambda i: {1: 2}}, {}, "the keys of the dict must be texts"),
+        ({"for_each": lambda i: {1: 2, "a": 3}}, {}, "the keys of the dict must be texts"),
+        ({"for_each": lambda i: map(int, i)}, [SECRET], "for_each= raised ValueError"),
+        ({"for_each": lambda i: (int(one) for one in i)}, [SECRET], "raised ValueError in line"),
         ({"for_each": "many", "keep": lambda i: i}, {"many": [-1]}, "keep= returned a int that"),
         ({"when": lambda i: i["secret"].x}, {"secret": SECRET}, "when= raised AttributeError in"),
+        ({"when": lambda i: Odd(i)}, SECRET, "when= raised ValueError in line"),
         ({"skip": lambda i: int(i)}, SECRET, "skip= raised ValueError in line"),
         ({"for_each": lambda i: [Parcel(SECRET)]}, {}, "the items are of type Parcel"),
         ({"for_each": lambda i: [10**5000]}, {}, "an item: Exceeds the limit"),

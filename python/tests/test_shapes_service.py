@@ -7,7 +7,7 @@ import pathlib
 from typing import Any
 
 import pytest
-from serving import report, served, start, take
+from serving import error_of, report, served, start, take, token
 from test_service_workers import ONE, working
 
 import sagas
@@ -186,3 +186,179 @@ def test_what_is_given_to_a_worker(tmp_path: pathlib.Path) -> None:
         with working(worker):
             assert client.get("/v1/sagas/deep/wait?seconds=60").json()["phase"] == "completed"
         assert found == [({"number": "X"}, False, 1, "k")]
+
+
+ASKING = """
+import sagas
+booking = sagas.Saga("booking")
+booking.step(external=True, name="pay")
+@booking.approval
+def review(task): ...
+order = sagas.Saga("order")
+@order.approval(for_each="parcels")
+def check(task): ...
+order.step(external=True, name="ship", for_each="parcels")
+@order.approval(needs=["ship"], for_each="parcels")
+def sign(task): ...
+@order.approval(for_each="legs", name="hotel-pay")
+def leg(task): ...
+order.include(booking, name="hotel")
+store = sagas.open("unused.db", [order])
+"""
+
+
+def test_approvals_of_items_and_of_included_sagas(tmp_path: pathlib.Path) -> None:
+    """An approver decides them, and no other step: not even one with the name under which an approval of items is declared."""
+    (tmp_path / "shop.py").write_text(ASKING)
+    approver, operator = (token(tmp_path, role, role) for role in ("approver", "operator"))
+    words = ("--token-file", str(tmp_path / "tokens.toml"))
+    with served(tmp_path, {"one.toml": ONE}, "--app", "shop:store", *words) as service:
+        with service.client(approver) as client, service.client(operator) as boss:
+            start(boss, "order", "k", {"parcels": [1, 2], "legs": []})
+            for step, status in (("check-0", 200), ("hotel-review", 200), ("sign-1", 200), ("hotel-pay", 403), ("ship-0", 403), ("sign", 403)):
+                answer = client.post(f"/v1/sagas/k/steps/{step}/complete", json={"result": 1})
+                assert answer.status_code == status, (step, answer.text)
+            assert answer.json()["detail"].startswith("approver is an approver, and 'sign' is no approval")
+        with service.client() as page:
+            page.post("/ui/login", data={"token": operator})
+            assert "/steps/sign-0/done" in page.get("/ui/sagas/k?unfold=*").text
+            assert "Approve sign-0?" in page.get("/ui/sagas/k/steps/sign-0/done").text
+
+
+def test_an_approval_of_a_definition_that_is_elsewhere(tmp_path: pathlib.Path, url: str) -> None:
+    """A service without the definition cannot tell that it is one: it says so to an approver."""
+    (tmp_path / "shop.py").write_text(ASKING)
+    approver, operator = (token(tmp_path, role, role) for role in ("approver", "operator"))
+    words = ("--token-file", str(tmp_path / "tokens.toml"))
+    (tmp_path / "other").mkdir()
+    with served(tmp_path, {"one.toml": ONE}, "--app", "shop:store", *words, store=url) as one:
+        with one.client(operator) as boss:
+            start(boss, "order", "k", {"parcels": [1], "legs": []})
+    with served(tmp_path / "other", {"one.toml": ONE}, *words, store=url) as other:
+        with other.client(approver) as client:
+            answer = client.post("/v1/sagas/k/steps/check-0/complete", json={"result": 1})
+            assert (answer.status_code, error_of(answer)) == (403, "Forbidden")
+            assert "this service does not have the definition 'order' of version 1" in answer.json()["detail"]
+
+
+READING = """
+import sagas
+booking = sagas.Saga("booking")
+room = booking.step(external=True, name="room")
+key = booking.step(external=True, name="key", needs=[room])
+trip = sagas.Saga("trip")
+near = trip.step(external=True, name="room")
+ship = trip.step(external=True, name="ship", for_each="parcels", tries=1, undo=1, skip=9)
+ship.compensation(external=True)
+label = trip.step(external=True, name="label", for_each="parcels", needs=[ship.each])
+tag = trip.step(external=True, name="tag", for_each="parcels", needs=[sagas.collect(ship)])
+hotel = trip.include(booking, name="hotel", for_each="stays", needs=[near])
+tour = trip.step(external=True, name="tour", needs=[hotel, sagas.collect(ship)])
+store = sagas.open("unused.db", [trip])
+"""
+
+
+@pytest.mark.parametrize("parcels", [["bad"], ["p", "bad", "q"], {"a b": "p", "c/d": "bad"}, []])
+def test_a_worker_asks_for_results_as_in_a_store(tmp_path: pathlib.Path, parcels: Any) -> None:
+    """Of the same item, of all items, of those that were collected, and of an included saga."""
+    (tmp_path / "shop.py").write_text(READING)
+    names: dict[str, Any] = {}
+    exec(READING, names)
+    room, ship, hotel, sure = (names[name] for name in ("room", "ship", "hotel", "near"))
+    wrong: list[str] = []
+
+    def found(task: sagas.Task[Any], asked: Any) -> Any:
+        try:
+            return task.result_of(asked)
+        except (KeyError, sagas.StepFailed, sagas.ResultNotSerializable) as error:
+            wrong.append(str(error))
+            return type(error).__name__
+
+    with served(tmp_path, {"one.toml": ONE}, "--app", "shop:store") as service, service.client() as client:
+        worker = sagas.Worker(service.url, wait=1.0)
+
+        @worker.step("trip", "ship")
+        def _ship(task: sagas.Task[Any]) -> Any:
+            if task.item == "bad":
+                raise sagas.Fail("no")
+            return f"{task.item}!"
+
+        @worker.step("trip", "label")
+        def _label(task: sagas.Task[Any]) -> Any:
+            return found(task, ship.each)
+
+        @worker.step("trip", "tag")
+        def _tag(task: sagas.Task[Any]) -> Any:
+            return [repr(found(task, one)) for one in (ship.each, ship, "ship", sagas.collect(ship))]
+
+        @worker.step("trip", "room")
+        def _near(task: sagas.Task[Any]) -> Any:
+            return "near" if parcels else object()
+
+        @worker.step("trip", "hotel/room")
+        def _room(task: sagas.Task[Any]) -> Any:
+            return task.input
+
+        @worker.step("trip", "hotel/key")
+        def _key(task: sagas.Task[Any]) -> Any:
+            return [found(task, room), found(task, sure)]
+
+        @worker.step("trip", "tour")
+        def _tour(task: sagas.Task[Any]) -> Any:
+            asked = [hotel[room], sure, "room", "hotel-0-room", ship.each, room, sagas.collect(ship)]
+            return [repr(found(task, one)) for one in asked]
+
+        with working(worker):
+            start(client, "trip", "k", {"parcels": parcels, "stays": ["x", "y"]})
+            told = client.get("/v1/sagas/k/wait?seconds=60").json()
+    assert told["phase"] == "completed", told["errors"]
+    results = told["results"]
+    keys = [*parcels] if isinstance(parcels, dict) else [*range(len(parcels))]
+    good = {key: f"{parcels[key]}!" for key in keys if parcels[key] != "bad"}
+    collected = repr(sagas.Collected(good, {key: "sagas.Fail: no" for key in keys if key not in good}))
+    for number, key in enumerate(keys):
+        each = good.get(key, "StepFailed")
+        assert results[f"label-{number}"] == each
+        assert results[f"tag-{number}"] == [repr(each), "'StepFailed'", "'StepFailed'", collected]
+    near = "near" if parcels else "ResultNotSerializable"
+    assert results["tour"] == [
+        "['x', 'y']", repr(near), repr(near), "'x'", "'KeyError'", "'KeyError'", collected
+    ]  # fmt: skip
+    assert [results[f"hotel-{number}-key"] for number in (0, 1)] == [["x", "KeyError"], ["y", "KeyError"]]
+    assert any("is a step of saga" in one and "booking" in one for one in wrong)
+
+
+UNDOING = """
+import sagas
+order = sagas.Saga("order")
+ship = order.step(external=True, name="ship", for_each="parcels", undo=1, keep=9)
+ship.compensation(external=True)
+fair = sagas.Saga("fair")
+stall = fair.include(order, name="stall")
+fair.step(external=True, name="pay", needs=[stall], tries=1)
+store = sagas.open("unused.db", [order, fair])
+"""
+
+
+def test_a_worker_asks_for_the_result_that_it_undoes(tmp_path: pathlib.Path) -> None:
+    """By its step, as in a store: also in an included saga."""
+    (tmp_path / "shop.py").write_text(UNDOING)
+    exec(UNDOING, names := dict[str, Any]())
+    found: list[Any] = []
+    with served(tmp_path, {"one.toml": ONE}, "--app", "shop:store") as service, service.client() as client:
+        worker = sagas.Worker(service.url, wait=1.0)
+        worker.step("fair", "stall/ship")(lambda task: task.item * 2)
+
+        @worker.compensation("fair", "stall/ship")
+        def unship(task: sagas.Task[Any]) -> None:
+            found.append((task.result, task.result_of(names["ship"].each)))
+
+        @worker.step("fair", "pay")
+        def pay(task: sagas.Task[Any]) -> None:
+            raise sagas.Fail("no")
+
+        with working(worker):
+            start(client, "fair", "k", {"parcels": [1, 2]})
+            end = client.get("/v1/sagas/k/wait?seconds=60").json()
+        assert end["phase"] == "recovered", end
+    assert sorted(found) == [(2, 2), (4, 4)], (end["states"], end["plan"], end["errors"])

@@ -394,7 +394,9 @@ def test_a_client_starts_a_shaped_saga(url: str) -> None:
     run(main())
 
 
-def other_code() -> tuple[sagas.Saga, sagas.Saga]:
+def other_code(
+    theirs: Any = lambda input: input["gone"],
+) -> tuple[sagas.Saga, sagas.Saga]:
     """A saga as a client and as a node have it, of which only the node's function raises."""
 
     def made(function: Any) -> sagas.Saga:
@@ -406,19 +408,26 @@ def other_code() -> tuple[sagas.Saga, sagas.Saga]:
 
         return saga
 
-    return made(lambda input: input["items"]), made(lambda input: input["gone"])
+    return made(lambda input: input["items"]), made(theirs)
 
 
-def test_a_start_that_raises_in_the_node_is_refused(url: str) -> None:
+@pytest.mark.parametrize(
+    "function, told",
+    [
+        (lambda input: input["gone"], "for_each= raised KeyError"),
+        (lambda input: (int(f"x{one}") for one in input["items"]), "for_each= raised ValueError"),
+    ],
+)
+def test_a_start_that_raises_in_the_node_is_refused(url: str, function: Any, told: str) -> None:
     """It is kept as such, and taken again where it is started again; other starts go on."""
-    mine, theirs = other_code()
+    mine, theirs = other_code(function)
 
     async def main() -> None:
         async with sagas.Client(url) as client:
             async with sagas.open(url, [theirs, plain]) as store:
                 started = await client.start(mine, "a", {"items": [1]})
                 for wait in (started.wait, lambda time: store.wait("a", time)):
-                    with pytest.raises(sagas.InvalidInput, match="for_each= raised KeyError"):
+                    with pytest.raises(sagas.InvalidInput, match=told):
                         await wait(60)
                 assert (await (await client.start(plain, "b")).wait(60)).ok
                 with pytest.raises(sagas.InvalidInput):

@@ -277,8 +277,11 @@ def test_a_record_needs_no_setting(url: str) -> None:
         assert link.execute("TABLE mine.saw").fetchall() == [("mine, public",), ('"$user", public',)]
 
 
+@pytest.mark.parametrize(
+    "setting", ["SET statement_timeout = 777", "SELECT set_config('statement_timeout', '777', false)", "SELECT 1; SET statement_timeout = 777"]
+)
 @pytest.mark.parametrize("in_thread", [False, True])
-def test_what_a_step_does_to_its_connection(url: str, in_thread: bool) -> None:
+def test_what_a_step_does_to_its_connection(url: str, in_thread: bool, setting: str) -> None:
     """The next one has a connection as it was made; where one ends its transaction and goes on in another, that is an error."""
     prepare(url)
     kind, seen = sagas.Saga("one"), list[Any]()
@@ -287,7 +290,7 @@ def test_what_a_step_does_to_its_connection(url: str, in_thread: bool) -> None:
     def before(task: Task) -> list[str]:
         if task.input == "sets":
             task.connection.row_factory = dict_row
-        return {"sets": ["SET statement_timeout = 777", "SELECT 1"], "chains": ["COMMIT AND CHAIN"]}.get(task.input, [])
+        return {"sets": [setting, "SELECT 1"], "chains": ["COMMIT AND CHAIN"]}.get(task.input, [])
 
     if in_thread:
 

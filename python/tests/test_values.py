@@ -12,11 +12,13 @@ import uuid
 from typing import Any, NamedTuple, Optional, Union
 
 import pytest
+from cases import run, simple
 from hypothesis import given
 from hypothesis import strategies as st
 
 import sagas
 from sagas.definition import decoders, serialization
+from sagas.definition.mismatches import Misfit
 
 JSON = st.recursive(
     st.none() | st.booleans() | st.integers() | st.floats(allow_nan=False, allow_infinity=False) | st.text(),
@@ -155,6 +157,54 @@ def test_dataclasses() -> None:
 )
 def test_types(value: Any, hint: Any) -> None:
     assert there_and_back(value, hint) == value
+
+
+def test_a_decimal_is_the_number_that_is_written() -> None:
+    """Of a number of JSON, too; what is no number is refused, and a union keeps its own floats."""
+    decoder = decoders.decoder(decimal.Decimal)
+    assert decoder
+    assert [decoder(one) for one in ("19.90", 19.99, 7)] == [decimal.Decimal(text) for text in ("19.90", "19.99", "7")]
+    for wrong in (True, [0, [1], 0], "x", None):
+        with pytest.raises(Misfit, match=": cannot be read as Decimal"):
+            decoder(wrong)
+    either = decoders.decoder(decimal.Decimal | float)
+    assert either and repr([either(1.5), either("1.5")]) == "[1.5, Decimal('1.5')]"
+
+
+@dataclasses.dataclass
+class Card:
+    number: str
+
+
+@dataclasses.dataclass
+class Voucher:
+    number: str
+    value: int = 0
+
+
+@pytest.mark.parametrize("hint", [Union[Card, Voucher], Union[Voucher, Card]])
+def test_a_union_of_classes(hint: Any) -> None:
+    """The one that has all fields is meant; of a field that no class has any more, nobody knows."""
+    assert there_and_back(Voucher("7", 10), hint) == Voucher("7", 10)
+    assert serialization.read('{"number":"7","gone":1}', decoders.decoder(hint)).number == "7"
+
+
+def test_another_input_of_a_union_is_another_start(place: str) -> None:
+    """Also where another class of the union would read it."""
+
+    def pay(task: sagas.Task[Union[Card, Voucher]]) -> int:
+        assert isinstance(task.input, Voucher)
+        return task.input.value
+
+    kind = simple(pay)
+
+    async def main() -> None:
+        async with sagas.open(place, [kind]) as store:
+            assert (await (await store.start(kind, "k", Voucher("7", 10))).wait(60)).results == {"a": 10}
+            with pytest.raises(sagas.KeyConflict):
+                await store.start(kind, "k", Voucher("7", 99))
+
+    run(main())
 
 
 def test_a_key_that_is_not_of_its_hint() -> None:

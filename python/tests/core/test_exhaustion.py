@@ -78,21 +78,27 @@ def test_what_a_failure_leads_to(
 
 
 def test_so_many_attempts_as_are_wanted() -> None:
-    """The pauses grow up to the longest; then a person is asked, and may begin anew."""
+    """The pauses grow up to the longest; then a person is asked, and may begin anew: from the first
+    attempt on.
+    """
     attempt, now = attempt_of(number=2, max_attempts=5, on_exhausted="ask"), NOW
-    for pause in (20.0, 40.0, 60.0):
+    for pauses in ((20.0, 40.0, 60.0), (10.0, 20.0, 40.0, 60.0)):
+        for pause in pauses:
+            MACHINE.ended(attempt, NO, now)
+            assert attempt.until == now + pause and MACHINE.delay(attempt, now) == pause
+            now += pause
+            attempt.pending = None
+            assert MACHINE.timer(attempt, now) is CALL
+            again(attempt)
         MACHINE.ended(attempt, NO, now)
-        assert attempt.until == now + pause and MACHINE.delay(attempt, now) == pause
-        now += pause
+        assert attempt.reason is Suspension.EXHAUSTED
+        assert MACHINE.timer(attempt, now) is NOTHING and exhaustion.may_retry(attempt)
         attempt.pending = None
+        decision = exhaustion.retry(attempt, now)
+        assert decision.row and (decision.row.reason, decision.row.until) == (Suspension.RETRY, now)
         assert MACHINE.timer(attempt, now) is CALL
+        attempt.pending = None
         again(attempt)
-    MACHINE.ended(attempt, NO, now)
-    assert (attempt.reason, attempt.failures) == (Suspension.EXHAUSTED, 4)
-    assert MACHINE.timer(attempt, now) is NOTHING and exhaustion.may_retry(attempt)
-    decision = exhaustion.retry(attempt, now)
-    assert decision.row and (decision.row.reason, decision.row.until) == (Suspension.RETRY, now)
-    assert attempt.failures == 0 and MACHINE.timer(attempt, now) is CALL
 
 
 def test_an_unknown_one_stays_unknown_where_it_is_retried() -> None:
