@@ -46,6 +46,9 @@ PAUSE = 0.5
 LIMIT = 50 * 60
 TICKS = os.sysconf("SC_CLK_TCK")
 
+# What a process works for until its command line says more: it may be looked at before it has become `rattle`.
+OTHER = ("programs", "")
+
 
 @dataclass
 class Cost:
@@ -86,6 +89,12 @@ class Process:
     number: int
     parent: int
     seconds: float
+    began: int
+
+    @property
+    def key(self) -> tuple[int, int]:
+        """What tells it from a later process with its number."""
+        return self.number, self.began
 
 
 def processes() -> Iterator[Process]:
@@ -96,7 +105,7 @@ def processes() -> Iterator[Process]:
                 fields = Path(f"/proc/{name}/stat").read_text().rpartition(")")[2].split()
             except OSError:
                 continue
-            yield Process(int(name), int(fields[1]), (int(fields[11]) + int(fields[12])) / TICKS)
+            yield Process(int(name), int(fields[1]), (int(fields[11]) + int(fields[12])) / TICKS, int(fields[19]))
 
 
 class Watch:
@@ -105,8 +114,8 @@ class Watch:
     def __init__(self, top: int, below_the_program: set[str]) -> None:
         self.top = top
         self.below_the_program = below_the_program
-        self.kinds: dict[int, tuple[str, str]] = {}
-        self.seconds: dict[int, float] = {}
+        self.kinds: dict[tuple[int, int], tuple[str, str]] = {}
+        self.seconds: dict[tuple[int, int], float] = {}
         self.walls: dict[str, float] = defaultdict(float)
         self.ended = threading.Event()
         self.thread = threading.Thread(target=self.run)
@@ -131,10 +140,10 @@ class Watch:
                 at = found[at.parent]
             if at.number != self.top or process.number == self.top:
                 continue
-            if process.number not in self.kinds:
-                self.kinds[process.number] = self.kind_of(process.number)
-            self.seconds[process.number] = process.seconds
-            kinds.add(self.kinds[process.number][0])
+            if self.kinds.get(process.key, OTHER) == OTHER:
+                self.kinds[process.key] = self.kind_of(process.number)
+            self.seconds[process.key] = process.seconds
+            kinds.add(self.kinds[process.key][0])
         return kinds
 
     def kind_of(self, number: int) -> tuple[str, str]:
@@ -143,9 +152,9 @@ class Watch:
             words = Path(f"/proc/{number}/cmdline").read_bytes().decode(errors="replace").split("\0")
             folder = os.readlink(f"/proc/{number}/cwd")
         except OSError:
-            return "programs", ""
+            return OTHER
         if os.path.basename(words[0]) != "rattle":
-            return "programs", ""
+            return OTHER
         crate = words[words.index("--crate-name") + 1] if "--crate-name" in words else ""
         if "/rt-edit-" in folder:
             return "edits", crate
@@ -161,8 +170,8 @@ class Watch:
     def costs(self) -> dict[str, Cost]:
         """What each kind of work took."""
         costs = {kind: Cost() for kind in ("proofs", "tests", "edits", "programs")}
-        for number, seconds in self.seconds.items():
-            costs[self.kinds[number][0]].processor += seconds
+        for key, seconds in self.seconds.items():
+            costs[self.kinds[key][0]].processor += seconds
         for kind, wall in self.walls.items():
             costs[kind].wall = wall
         return costs
@@ -170,8 +179,8 @@ class Watch:
     def crates(self) -> dict[str, dict[str, float]]:
         """The processor seconds of each crate by kind of work."""
         crates: dict[str, dict[str, float]] = defaultdict(lambda: defaultdict(float))
-        for number, seconds in self.seconds.items():
-            kind, crate = self.kinds[number]
+        for key, seconds in self.seconds.items():
+            kind, crate = self.kinds[key]
             if crate:
                 crates[crate][kind] += seconds
         return crates
