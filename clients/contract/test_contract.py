@@ -395,7 +395,7 @@ def test_lost_answers(make: Make, service: Served, operator: str) -> None:
         }.items():  # fmt: skip
             key = fresh("lost")
             relay.mark = word.encode() if word == "/v1/sagas HTTP" else None
-            work(driver, url, operator, key, steps=SOLO, lease=1, wait=1)
+            work(driver, url, operator, key, steps=SOLO, lease=3, wait=1)
             relay.mark = word.encode()
             driver.ask("start", definition="solo", key=key, input=given)
             end = driver.ask("wait", key=key, timeout=LONG)
@@ -438,7 +438,7 @@ def test_lost_lease(make: Make, service: Served, operator: str) -> None:
 def test_abort_while_a_function_runs(make: Make, service: Served, operator: str) -> None:
     """It is told by a heartbeat that the saga is to be undone, and says that it had no effect; one that does not listen is undone."""
     driver = make()
-    work(driver, service.url, operator, "w", steps=SOLO, lease=1)
+    work(driver, service.url, operator, "w", steps=SOLO, lease=4)
     listens, deaf = fresh("abort"), fresh("abort")
     for key, word in ((listens, "hold"), (deaf, "deaf")):
         driver.ask("start", definition="solo", key=key, input=script(word))
@@ -457,7 +457,7 @@ def test_abort_while_a_function_runs(make: Make, service: Served, operator: str)
 def test_an_abort_cancels_once(make: Make, service: Served, operator: str) -> None:
     """A function that does not know then is called again, and is left to find out: its heartbeats cancel it no more."""
     driver, key = make(), fresh("doubt")
-    work(driver, service.url, operator, "w", steps=SOLO, lease=1)
+    work(driver, service.url, operator, "w", steps=SOLO, lease=4)
     driver.ask("start", definition="solo", key=key, input=script("doubt"))
     driver.heard("called", key=key)
     driver.ask("abort", key=key)
@@ -494,12 +494,12 @@ def test_killed_worker(make: Make, service: Served, operator: str) -> None:
 def test_long_functions_and_a_stop(make: Make, service: Served, operator: str) -> None:
     """A lease is kept while a function runs. A worker that is asked to end reports it, and gives back what has not begun."""
     driver = make()
-    work(driver, service.url, operator, "w", steps=["solo/a"], concurrency=1, lease=1)
+    work(driver, service.url, operator, "w", steps=["solo/a"], concurrency=1, lease=3)
     keys = [fresh("stop") for _ in range(3)]
     driver.ask("start", definition="solo", key=keys[0], input=script("hold"))
     driver.heard("called", key=keys[0])
     with service.client(operator) as client:
-        assert take(client, "solo/a", wait=2.2) == []  # over two leases long
+        assert take(client, "solo/a", wait=6.6) == []  # over two leases long
         for key in keys[1:]:
             driver.ask("start", definition="solo", key=key, input=script("ok"))
         stopped = driver.send("stop", worker="w")
