@@ -220,6 +220,25 @@ def test_definitions_start_no_further_engine(place: str, monkeypatch: pytest.Mon
     assert rows(place, "SELECT count(*) FROM shard_definitions") == [(300,)]
 
 
+def test_a_definition_that_is_too_long_for_a_request(place: str) -> None:
+    """Its shard gets another engine, whatever else goes on there."""
+    large = sagas.Saga("large")
+    pack = large.step(external=True, name="pack-and-label", for_each="items", undo=1, skip=1)
+    pack.compensation(external=True)
+    large.step(external=True, name="send", needs=[pack], undo=0)
+
+    async def main() -> None:
+        async with sagas.open(place, [large]) as store:
+            for key, count in (("few", 2), ("many", 1000), ("more", 1001)):
+                started = store.start(large, key, {"items": list(range(count))})
+                assert (await asyncio.wait_for(started, 60)).new
+            both = (store.start(large, f"k{count}", {"items": [0] * count}) for count in (3, 900))
+            await asyncio.wait_for(asyncio.gather(*both), 60)
+
+    run(main())
+    assert rows(place, "SELECT count(*) FROM shards") == [(1,)]
+
+
 def test_what_is_wrong_begins_nothing(place: str) -> None:
     async def main() -> None:
         async with sagas.open(place, [order]) as store:

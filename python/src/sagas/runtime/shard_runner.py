@@ -97,12 +97,14 @@ class ShardRunner:
         self._shards.fill(self)
         if self.driver.state is not ACTIVE or engine.asked:  # another shard took its engine
             return
-        if self.driver.opens and self.driver.wants_engine:
+        if self.driver.wants_engine:
             self._renew()
             return
         lines = self._requests()
         if not lines:
-            if self._engines.wanted:
+            if self.driver.wants_engine:  # a definition is too long for a request
+                self._renew()
+            elif self._engines.wanted:
                 self._offer()
             return
         self.used = time.monotonic()
@@ -200,7 +202,7 @@ class ShardRunner:
         if not self.driver.unwritten:
             if self.driver.state is STALE:
                 self._load_soon()
-            if self.driver.opens and self.driver.wants_engine:
+            if self.driver.wants_engine:
                 self.poke()
             if self._engines.wanted:
                 self._offer()
