@@ -8,6 +8,7 @@ from __future__ import annotations
 
 import contextlib
 import os
+import threading
 from collections.abc import Iterator
 
 from sagas.base.errors import Closed
@@ -24,7 +25,20 @@ class _Private:
         is another process.
         """
         self._fds: set[int] = set()
-        os.register_at_fork(after_in_child=self._close)
+        self._forking = threading.RLock()
+        os.register_at_fork(
+            before=self._forking.acquire,
+            after_in_parent=self._forking.release,
+            after_in_child=self._close,
+        )
+
+    @contextlib.contextmanager
+    def unforked(self) -> Iterator[None]:
+        """A fork in another thread waits meanwhile. While a program is started, its child would
+        keep the program's ends of pipes open, and nobody would see their end.
+        """
+        with self._forking:
+            yield
 
     def add(self, fd: int) -> None:
         self._fds.add(fd)
@@ -38,6 +52,7 @@ class _Private:
             with contextlib.suppress(OSError):
                 os.close(fd)
         self._fds.clear()
+        self._forking.release()
 
 
 private = _Private()

@@ -12,6 +12,7 @@ import tempfile
 from collections.abc import Sequence
 
 from sagas.base.errors import EngineError, EngineNotRunnable
+from sagas.base.fork_guard import private
 
 HERE = pathlib.Path(__file__).resolve().parents[1]
 CANNOT = 4
@@ -62,9 +63,7 @@ def look(program: str) -> None:
     if why is None:
         return
     try:
-        subprocess.run(
-            [program, "--version"], stdin=subprocess.DEVNULL, capture_output=True, check=False
-        )
+        finished([program, "--version"])
     except OSError:
         raise not_runnable(program, why) from None
 
@@ -179,15 +178,29 @@ def run(
 ) -> subprocess.CompletedProcess[str]:
     """Runs `sagas COMMAND OPTIONS` over these texts, in the order of its words."""
     with contextlib.closing(Texts(texts)) as given:
-        words = [program or path(), command, *options, *given.paths]
-        return subprocess.run(
+        done = finished([program or path(), command, *options, *given.paths], given.files)
+    told = done.stdout.decode(), done.stderr.decode()
+    return subprocess.CompletedProcess(done.args, done.returncode, *told)
+
+
+def finished(words: list[str], files: Sequence[int] = ()) -> subprocess.CompletedProcess[bytes]:
+    """As `subprocess.run`, with what the program prints, where other threads may fork. `files`:
+    descriptors that are handed to it."""
+    with private.unforked():
+        child = subprocess.Popen(
             words,
-            capture_output=True,
-            text=True,
-            pass_fds=given.files,
             stdin=subprocess.DEVNULL,
-            check=False,
+            stdout=subprocess.PIPE,
+            stderr=subprocess.PIPE,
+            pass_fds=files,
         )
+    with child:
+        try:
+            told = child.communicate()
+        except BaseException:
+            child.kill()
+            raise
+    return subprocess.CompletedProcess(words, child.returncode, *told)
 
 
 def draw(definition: str, case: str | None = None, answer: str | None = None) -> str:

@@ -18,7 +18,6 @@ import ctypes
 import functools
 import os
 import pathlib
-import subprocess
 from collections.abc import Sequence
 from typing import NamedTuple
 
@@ -123,10 +122,7 @@ def _by_program(command: str, texts: Sequence[bytes]) -> tuple[int, bytes]:
     standard error.
     """
     with contextlib.closing(program.Texts(texts)) as given:
-        words = [program.path(), command, *given.paths]
-        done = subprocess.run(
-            words, capture_output=True, pass_fds=given.files, stdin=subprocess.DEVNULL, check=False
-        )
+        done = program.finished([program.path(), command, *given.paths], given.files)
     if done.returncode not in (OK, REJECTED, INVALID, NO_MEMORY):
         raise EngineError(
             f"sagas {command} ended with {done.returncode}: "

@@ -99,25 +99,14 @@ class EngineProcess:
             words = self._texts.paths
             if text:
                 words = ["--from", words[-1], *words[:-1]]
-            self.process = subprocess.Popen(
-                [program, "drive", "--lines", *words],
-                stdin=subprocess.PIPE,
-                stdout=subprocess.PIPE,
-                stderr=self._words,
-                bufsize=0,
-                pass_fds=self._texts.files,
-                start_new_session=True,
-            )
+            self._popen([program, "drive", "--lines", *words], self._texts.files)
             self._texts.given()
         except OSError as error:
             self._close_files()
             if error.errno in NOT_RUNNABLE:
                 raise not_runnable(program, str(error.strerror)) from error
             raise EngineError(f"{program}: cannot be started: {error.strerror}") from error
-        assert self.process.stdin and self.process.stdout
-        self._to, self._back = self.process.stdin.fileno(), self.process.stdout.fileno()
         for fd in (self._to, self._back):
-            private.add(fd)
             os.set_blocking(fd, False)
             # (a user has so many pages of pipes, and no more; and not each system has it)
             with contextlib.suppress(AttributeError, OSError):
@@ -125,6 +114,23 @@ class EngineProcess:
         self._loop.add_reader(self._back, self._readable)
         self._poll = select.poll()
         self._poll.register(self._back, select.POLLIN)
+
+    def _popen(self, words: Sequence[str], files: Sequence[int]) -> None:
+        """No child that is forked here has its pipes, on any side."""
+        with private.unforked():
+            self.process = subprocess.Popen(
+                words,
+                stdin=subprocess.PIPE,
+                stdout=subprocess.PIPE,
+                stderr=self._words,
+                bufsize=0,
+                pass_fds=files,
+                start_new_session=True,
+            )
+            assert self.process.stdin and self.process.stdout
+            self._to, self._back = self.process.stdin.fileno(), self.process.stdout.fileno()
+            for fd in (self._to, self._back):
+                private.add(fd)
 
     def ask(self, requests: Sequence[str]) -> None:
         """Send a question: its listener is told the answer, unless `wait` gives it."""
