@@ -97,12 +97,9 @@ class ShardRunner:
         self._shards.fill(self)
         if self.driver.state is not ACTIVE or engine.asked:  # another shard took its engine
             return
-        if self.driver.wants_engine:
-            self._renew()
-            return
-        lines = self._requests()
+        lines = [] if self.driver.wants_engine else self._requests()
         if not lines:
-            if self.driver.wants_engine:  # a definition is too long for a request
+            if self.driver.wants_engine:  # also: a definition was too long for a request
                 self._renew()
             elif self._engines.wanted:
                 self._offer()
