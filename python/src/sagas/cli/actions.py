@@ -4,28 +4,30 @@ from __future__ import annotations
 
 import argparse
 import json
-import sys
 import time
+from collections.abc import Sequence
 from typing import Any
 
-from sagas.cli.batches import abort_all, check_keys, filter_of, show_count
-from sagas.cli.formatting import GOOD, NO, show_json
+from sagas.cli.batches import WAITS, abort_all, check_keys, filter_of, show_count
+from sagas.cli.formatting import GOOD, NO, complain, show_json
 from sagas.cli.snapshot import Snapshot
-from sagas.core.states import EnginePhase, Suspension
-from sagas.definition.serialization import clean
+from sagas.core.states import Suspension
 from sagas.definition.validation import meant
 from sagas.inspection import lists
 from sagas.inspection.names import step_names
+from sagas.inspection.views import Waits
 from sagas.runtime.operator_commands import words_of
 from sagas.storage import admin, factory
 from sagas.storage.admin import Trouble
+from sagas.storage.batches import Batch
 from sagas.storage.operator_requests import reason
-from sagas.storage.queries import DEFINITION
+from sagas.storage.queries import DEFINITION, PHASE
 
 Json = dict[str, Any]
 VERBS = {"complete": "completes", "fail": "fails", "retry": "retries"}
 WITHDRAWN = "withdrawn"
 """The answer to an abort of a start that no node had taken."""
+SAGA = f"SELECT id, {PHASE} FROM sagas s WHERE key = ?"
 
 
 def ask(path: str, key: str, what: str, value: Any, timeout: float) -> tuple[Any, bool]:
@@ -62,21 +64,20 @@ def gone(key: str) -> Trouble:
 def what_is_asked(link: admin.Source, key: str, what: str, value: Any) -> int | None:
     """The id of the saga that is asked; below 0 that of a client's start. None: that start, which
     no node had taken, is withdrawn. Raises `Trouble` where nothing can be asked."""
-    asked = "SELECT id, phase, note FROM sagas WHERE key = ?"
-    found = link.ask(asked, key)
+    found = link.ask(SAGA, key)
     if not found and what == "abort":
         if link.withdraw(key):
             return None
         start = link.start_of(key)  # its node does what it is asked once it has begun
-        found = link.ask(asked, key) or ([(-start, None, None)] if start else [])
+        found = link.ask(SAGA, key) or ([(-start, "open")] if start else [])
     if not found:
         raise link.absent(key)
-    ((id, phase, note),) = found
-    if phase == EnginePhase.STUCK and note is None:
+    ((id, phase),) = found
+    if phase == "stuck":
         raise Trouble(
             f"{key} is stuck, so there is nothing to {what}. After the repair, run `resolve`"
         )
-    if phase is not None:
+    if phase != "open":
         raise Trouble(f"{key} has ended ({phase}), so there is nothing to {what}")
     if what in ("complete", "fail", "retry"):
         check_step(link, key, id, value["step"])
@@ -113,11 +114,7 @@ def request(
     elif good:
         print(f"{words.key}: {done}")
     else:
-        print(
-            "sagas store: "
-            f"{reason(answer) if isinstance(answer, dict) else f'{words.key}: {refused}'}",
-            file=sys.stderr,
-        )
+        complain(reason(answer) if isinstance(answer, dict) else f"{words.key}: {refused}")
     return GOOD if good else NO
 
 
@@ -183,7 +180,9 @@ def check_steps(words: argparse.Namespace, what: str) -> None:
 def answer(
     path: str, words: argparse.Namespace, what: str, told: Json, done: str, refused: str
 ) -> int:
-    """Says it of a step, or with --all of each of the filter whose attempts are used up."""
+    """Says it of a step, or with --all of each of the filter whose attempts are used up.
+
+    All of them are asked before the first answer is waited for."""
     if not words.all:
         return request(path, words, what, report_of(words) | told, f"{words.step} {done}", refused)
     why = Suspension.EXHAUSTED.value
@@ -192,20 +191,41 @@ def answer(
     waits = [one for one in waits if words.only in (None, one.step)]
     if not words.yes:
         return show_count(words, len(waits), f"--yes {VERBS[what]}", "step")
-    status = GOOD
+    asked = []
     for one in waits:
-        words.key, words.step, words.undo = one.key, one.step, one.undo
-        value = report_of(words) | told
-        try:
-            status |= request(path, words, what, value, f"{one.step} {done}", refused)
-        except Trouble as trouble:  # somebody else was faster: the rest goes on
-            print(f"sagas store: {clean(str(trouble))}", file=sys.stderr)
-            status = NO
-    return status
+        words.step, words.undo = one.step, one.undo
+        asked.append((one.id, report_of(words) | told))
+    with admin.writing(path) as link:
+        answers = Batch(link, filter_of(words)).ask(what, asked, words.timeout)
+    return show_answers(words, what, waits, answers, done)
+
+
+def show_answers(
+    words: argparse.Namespace, what: str, waits: Sequence[Waits], answers: list[Any], done: str
+) -> int:
+    """Says what came of it for each step."""
+    said = [
+        reason(one) if isinstance(one, dict) else str(gone(step.key)) if one is False else one
+        for step, one in zip(waits, answers)
+    ]
+    if words.json:
+        told = [{"key": one.key, "step": one.step, "kind": kind_of(one.undo)} for one in waits]
+        show_json([one | {"asked": what, "answer": text} for one, text in zip(told, said)])
+    for one, text in zip(waits, said) if not words.json else ():
+        if isinstance(text, str):  # somebody else was faster
+            complain(text)
+        else:
+            print(f"{one.key}: {one.step}{f' {done}' if text else f': {WAITS}'}")
+    return NO if any(isinstance(text, str) for text in said) else GOOD
+
+
+def kind_of(undo: bool) -> str:
+    """What an attempt does for its step."""
+    return "undo" if undo else "run"
 
 
 def report_of(words: argparse.Namespace) -> Json:
     """Which step is meant, and why."""
     early = getattr(words, "early", True) and not words.all  # those of --all are under way
-    value = words_of(words.step, "undo" if words.undo else "run", early)
+    value = words_of(words.step, kind_of(words.undo), early)
     return value | ({"note": words.note} if words.note else {})

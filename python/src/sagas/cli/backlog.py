@@ -150,8 +150,8 @@ def stuck(path: str, words: argparse.Namespace) -> int:
 def attention(path: str, words: argparse.Namespace) -> int:
     """List what needs a person.
 
-    That is: stuck sagas, failed compensations, unknown outcomes that are not repeated, and stored
-    values that no program could read.
+    That is: stuck sagas, failed compensations, attempts that are used up, unknown outcomes that are
+    not repeated, and stored values that no program could read.
     """
     with Snapshot(path) as store:
         entries = store.ask(lists.attention(words.limit or lists.ALL))

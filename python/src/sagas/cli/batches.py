@@ -4,7 +4,9 @@ from __future__ import annotations
 
 import argparse
 
-from sagas.base.wording import number
+from sagas.base.errors import InvalidLabel
+from sagas.base.option_values import integer_from
+from sagas.base.wording import escaped, number
 from sagas.cli.formatting import GOOD, NO, show_json
 from sagas.cli.snapshot import Snapshot
 from sagas.definition import labels as labels_module
@@ -30,8 +32,19 @@ def words_of_filter(part: argparse.ArgumentParser, what: str) -> None:
     )
 
 
+def words_of_limit(part: argparse.ArgumentParser, what: str) -> None:
+    """The option that says how many are listed."""
+    part.add_argument(
+        "--limit",
+        type=integer_from(0),
+        default=100,
+        metavar="N",
+        help=f"maximum number of {what}; 0: no limit (default: 100)",
+    )
+
+
 def filter_of(words: argparse.Namespace) -> Filter:
-    """The filter of these options. Raises `InvalidLabel`, `Trouble`."""
+    """The filter of these options. Raises `Trouble`."""
     labels: dict[str, str] = {}
     for told in words.label:
         name, equals, value = told.partition("=")
@@ -39,7 +52,10 @@ def filter_of(words: argparse.Namespace) -> Filter:
             raise Trouble(f"--label {told}: must be NAME=VALUE", 2)
         if labels.setdefault(name, value) != value:
             raise Trouble(f"--label {told}: a label has one value, and this is a second one", 2)
-    return Filter(saga=words.saga or None, labels=labels_module.checked(labels))
+    try:
+        return Filter(saga=words.saga or None, labels=labels_module.checked(labels))
+    except InvalidLabel as error:
+        raise Trouble(f"--label: {error}", 2) from error
 
 
 def check_keys(words: argparse.Namespace, has_keys: bool) -> None:
@@ -66,7 +82,7 @@ def abort_all(path: str, words: argparse.Namespace) -> int:
     else:
         said = dict.fromkeys(found.done, "aborted") | dict.fromkeys(found.waiting, WAITS)
         for key, text in (said | found.refused).items():
-            print(f"{key}: {text}")
+            print(f"{key}: {escaped(text)}")
     return NO if found.refused else GOOD
 
 
@@ -83,6 +99,8 @@ def show_count(words: argparse.Namespace, count: int, remedy: str, what: str = "
 def resolve(path: str, words: argparse.Namespace) -> int:
     """Mark sagas as resolved that are stuck, or have a failed compensation."""
     check_keys(words, bool(words.key))
+    if words.key and words.count:
+        raise Trouble("--count needs --all", 2)
     if not words.note.strip():
         raise Trouble("--note must not be empty. Say what was done about it", 2)
     with admin.writing(path) as link:

@@ -6,9 +6,11 @@ import argparse
 import contextlib
 import dataclasses
 
+from sagas.cli.batches import words_of_limit
 from sagas.cli.formatting import GOOD, moment, short, show_json, table
 from sagas.cli.snapshot import Snapshot
 from sagas.inspection import deliveries as questions
+from sagas.inspection import lists
 from sagas.inspection.deliveries import Delivery
 from sagas.storage import admin
 from sagas.storage.admin import Trouble
@@ -22,13 +24,7 @@ def words_of_deliveries(part: argparse.ArgumentParser) -> None:
     states = [state.value for state in DeliveryState]
     part.add_argument("--state", choices=states, help="only deliveries in this state")
     part.add_argument("--webhook", metavar="NAME", help="only deliveries to this webhook")
-    part.add_argument(
-        "--limit",
-        type=int,
-        default=100,
-        metavar="N",
-        help="maximum number of deliveries, the newest first (default: 100)",
-    )
+    words_of_limit(part, "deliveries, the newest first")
 
 
 def deliveries(path: str, words: argparse.Namespace) -> int:
@@ -38,8 +34,6 @@ def deliveries(path: str, words: argparse.Namespace) -> int:
     """
     if (words.change is None) != (words.id is None):
         raise Trouble("deliveries redeliver: give the id of the delivery", 2)
-    if words.limit < 1:
-        raise Trouble("--limit: must be 1 or more", 2)
     if words.change:
         with contextlib.closing(admin.connect(path, "rw")) as link:
             if not link.ask(REDELIVER.replace(":id", "?"), words.id):
@@ -48,7 +42,7 @@ def deliveries(path: str, words: argparse.Namespace) -> int:
         show_json(told) if words.json else print(f"{words.id}: {told['state']}")
         return GOOD
     with Snapshot(path) as store:
-        found = store.ask(questions.listed(words.state, words.webhook, words.limit))
+        found = store.ask(questions.listed(words.state, words.webhook, words.limit or lists.ALL))
     if words.json:
         show_json([dataclasses.asdict(one) for one in found])
         return GOOD

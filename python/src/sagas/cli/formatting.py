@@ -1,41 +1,40 @@
-"""Tables, JSON, times and progress."""
+"""Tables, JSON, times, errors and progress: what the commands print."""
 
 from __future__ import annotations
 
-import datetime
+import contextlib
 import io
 import json
+import os
+import re
 import sys
 from collections.abc import Sequence
 from typing import Any
 
-from sagas.definition.serialization import clean
-from sagas.inspection.wording import one_line
+from sagas.base.wording import escaped
+from sagas.inspection.wording import clock, one_line
 
 GOOD, NO, CANNOT, INTERRUPTED = 0, 1, 4, 130
 """The statuses of the command; 2 is for its words."""
+UNPRINTED = re.compile(r"[\x7f-\x9f\u2028\u2029\u202a-\u202e\u2066-\u2069]")
+"""What JSON leaves as it is and terminals obey: control characters, and changes of direction."""
 
 
 def moment(at: float | None) -> str:
     """A time as a person reads it: in UTC, as the dashboard and the service's log have it."""
-    return (
-        ""
-        if at is None
-        else datetime.datetime.fromtimestamp(at, datetime.timezone.utc).strftime(
-            "%Y-%m-%d %H:%M:%SZ"
-        )
-    )
+    return clock(at)
 
 
 def short(value: Any, most: int = 60) -> str:
-    """A value in one line."""
-    text = one_line(value)
-    return text if len(text) <= most else text[: most - 3] + "..."
+    """A value in one line, as a terminal may print it; whole where the output is no terminal."""
+    text = escaped(one_line(value))
+    is_whole = len(text) <= most or not sys.stdout.isatty()
+    return text if is_whole else text[: most - 3] + "..."
 
 
 def table(heads: Sequence[str], rows: Sequence[Sequence[object]]) -> str:
-    """Columns, as wide as they have to be; numbers stand at the right."""
-    cells = [[clean(str(cell)) for cell in row] for row in rows]
+    """Columns, as wide as they have to be; numbers stand at the right. Each row is one line."""
+    cells = [[escaped(str(cell)) for cell in row] for row in rows]
     widths = [max(len(row[at]) for row in [list(heads), *cells]) for at in range(len(heads))]
     numeric = [
         bool(rows) and all(isinstance(row[at], int) for row in rows) for at in range(len(heads))
@@ -44,32 +43,53 @@ def table(heads: Sequence[str], rows: Sequence[Sequence[object]]) -> str:
     def line(row: Sequence[str]) -> str:
         parts = [
             cell.rjust(width) if right else cell.ljust(width)
-            for cell, width, right in zip(row, widths, numeric)
+            for cell, width, right in zip(row[:-1], widths, numeric)
         ]
-        return "  ".join(parts).rstrip()
+        last = row[-1].rjust(widths[-1]) if numeric[-1] else row[-1]  # it may be long
+        return "  ".join([*parts, last]).rstrip()
 
     return "\n".join([line(heads), *map(line, cells)])
 
 
 def show_json(value: object) -> None:
-    """Prints a value for programs; what the output has no character for is escaped as JSON has
-    it.
+    """Prints a value for programs; what is not printable, and what the output has no character
+    for, is escaped as JSON has it.
     """
     text = json.dumps(value, indent=1, ensure_ascii=False)
     try:
         text.encode(sys.stdout.encoding or "utf-8")
     except UnicodeEncodeError:
         text = json.dumps(value, indent=1)
-    print(text)
+    print(UNPRINTED.sub(lambda found: f"\\u{ord(found[0]):04x}", text))
+
+
+def lines(text: str) -> str:
+    """Lines as a terminal may print them."""
+    return "\n".join(map(escaped, text.split("\n")))
+
+
+def complain(text: str) -> None:
+    """Says in one line on standard error what is wrong."""
+    told = " ".join(filter(None, map(str.strip, text.split("\n"))))
+    print(f"sagas store: {escaped(told)}", file=sys.stderr)
 
 
 def escape() -> None:
     """From now on what standard output and error have no character for is printed escaped: a
-    half of a pair, as a saga's texts may have, say.
+    half of a pair, as a saga's texts may have, say. Where one is closed, nothing is printed there.
     """
+    for name in ("stdout", "stderr"):
+        if getattr(sys, name) is None:
+            setattr(sys, name, open(os.devnull, "w", encoding="utf-8"))
     for stream in (sys.stdout, sys.stderr):
         if isinstance(stream, io.TextIOWrapper):
             stream.reconfigure(errors="backslashreplace")
+
+
+def drop_output() -> None:
+    """What was printed and cannot be written is given up: at exit, Python would write it again."""
+    with contextlib.suppress(OSError), open(os.devnull, "wb") as nowhere:
+        os.dup2(nowhere.fileno(), sys.stdout.fileno())
 
 
 class Progress:

@@ -4,23 +4,27 @@ from __future__ import annotations
 
 import argparse
 import dataclasses
+import shlex
 import sys
 from collections.abc import Sequence
 from typing import Any
 
 from sagas.base import program
+from sagas.base.wording import escaped
 from sagas.cli.backlog import held_json, show_held
 from sagas.cli.batches import filter_of
-from sagas.cli.formatting import GOOD, moment, short, show_json, table
+from sagas.cli.formatting import GOOD, lines, moment, short, show_json, table
 from sagas.cli.snapshot import Snapshot
 from sagas.core.history import MISSES, was_called
-from sagas.core.results import Summary
+from sagas.core.results import HistoryEvent, Summary
 from sagas.core.states import known_state, state_text
 from sagas.definition import folded_drawing
 from sagas.engine.plan import certificate_text
-from sagas.inspection import lists, picture
+from sagas.inspection import pages, picture
 from sagas.inspection.views import SagaView, StepView
+from sagas.inspection.wording import one_line
 from sagas.storage.admin import Trouble
+from sagas.storage.operator_requests import reason
 
 Json = dict[str, Any]
 
@@ -44,17 +48,16 @@ def summary_json(one: Summary) -> Json:
 
 
 def list_sagas(path: str, words: argparse.Namespace) -> int:
-    """List sagas by phase and name, the oldest first."""
+    """List sagas by phase and name, ordered by their starts, the oldest first."""
     with Snapshot(path) as store:
-        place = store.saga(words.after).id if words.after else None
-        after, before = (None, place) if words.newest else (place, None)
+        last = pages.position_of(store.saga(words.after).summary) if words.after else None
         found = store.ask(
-            lists.page(
+            pages.page(
                 phase=words.phase,
                 saga=words.saga or None,
                 labels=filter_of(words).labels,
-                after=after,
-                before=before,
+                after=None if words.newest else last,
+                before=last if words.newest else None,
                 newest=words.newest,
                 most=words.limit or None,
             )
@@ -72,8 +75,11 @@ def list_sagas(path: str, words: argparse.Namespace) -> int:
             cells = [[*row, labels_text(one)] for row, one in zip(cells, found)]
         print(table(heads, cells))
     if words.limit and len(found) == words.limit:
-        newest = "--newest " if words.newest else ""
-        print(f"there may be more: continue with {newest}--after {found[-1].key}", file=sys.stderr)
+        newest, key = "--newest " if words.newest else "", found[-1].key
+        after = (
+            f"--after={shlex.quote(key)}" if key.startswith("-") else f"--after {shlex.quote(key)}"
+        )
+        print(f"there may be more: continue with {newest}{after}", file=sys.stderr)
     return GOOD
 
 
@@ -85,17 +91,7 @@ def show(path: str, words: argparse.Namespace) -> int:
     with Snapshot(path) as store:
         view = store.saga(words.key)
     if words.json:
-        told = {
-            "aborted": view.aborted,
-            "input": view.input,
-            "parent": view.parent and view.parent.key,
-            "children": [dataclasses.asdict(one) for one in view.children],
-            "end": view.end,
-            "steps": [step_json(step) for step in view.steps],
-            "held": [held_json(one) for one in view.held],
-            "plan": view.plan.answer if view.plan else None,
-        }
-        show_json(summary_json(view.summary) | told)
+        show_json(view_json(view) | {"plan": view.plan.answer if view.plan else None})
         return GOOD
     facts = [
         ("key", view.key),
@@ -109,9 +105,9 @@ def show(path: str, words: argparse.Namespace) -> int:
         *(("child", f"{one.key} ({one.phase})") for one in view.children),
         ("input", short(view.input, 200)),
         ("resolved", resolved_text(view)),
-        ("note", view.note or ""),
+        ("note", one_line(view.note)),
     ]
-    print("\n".join(f"{word:8} {text}" for word, text in facts if text))
+    print("\n".join(f"{word:8} {escaped(text)}" for word, text in facts if text))
     print()
     show_steps(view)
     if view.plan:
@@ -120,6 +116,19 @@ def show(path: str, words: argparse.Namespace) -> int:
         print()
         show_held([held_json(one) for one in view.held])
     return GOOD
+
+
+def view_json(view: SagaView) -> Json:
+    """How a saga stands, for programs."""
+    return summary_json(view.summary) | {
+        "aborted": view.aborted,
+        "input": view.input,
+        "parent": view.parent and view.parent.key,
+        "children": [dataclasses.asdict(one) for one in view.children],
+        "end": view.end,
+        "steps": [step_json(step) for step in view.steps],
+        "held": [held_json(one) for one in view.held],
+    }
 
 
 def resolved_text(view: SagaView) -> str:
@@ -158,7 +167,7 @@ def show_steps(view: SagaView) -> None:
     for step in view.steps:
         undo = undos.get(step.name) if step.state == "undo_failed" else None
         early = f"reported early: {step.early}" if step.early else None
-        said = "; ".join(filter(None, [str(step.progress or short(step.said)), undo, early]))
+        said = "; ".join(filter(None, [short(str(step.progress or "") or step.said), undo, early]))
         times = moment(step.began), moment(step.ended)
         state = state_text(step.state, is_over=view.phase != "open")
         cells.append((step.name, state, step.attempts, *times, said))
@@ -172,9 +181,26 @@ def log(path: str, words: argparse.Namespace) -> int:
     if words.json:
         show_json([dataclasses.asdict(one) for one in events])
     else:
-        rows = [(moment(one.at), one.event, one.step or "", short(one.value)) for one in events]
+        rows = [(moment(one.at), one.event, one.step or "", detail_of(one)) for one in events]
         print(table(["TIME", "EVENT", "STEP", "DETAIL"], rows))
     return GOOD
+
+
+def detail_of(one: HistoryEvent) -> str:
+    """What came of an event, in one line: of what an operator did, who did it and why."""
+    if one.event != "note":
+        return short(one.value)
+    told: Json = one.value
+    answer = told["answer"]
+    what = f"{told['what']} (undo)" if told.get("kind") == "undo" else told["what"]
+    by = f" by {told['by']}" if told.get("by") else ""
+    why = "; ".join(filter(None, [told.get("note"), told.get("error")]))
+    came = ""
+    if answer is None:
+        came = " (no answer yet)"
+    elif answer is not True:
+        came = f" (refused{f': {reason(answer)}' if answer else ''})"
+    return short(f"{what}{by}{f': {why}' if why else ''}{came}")
 
 
 def plan(path: str, words: argparse.Namespace) -> int:
@@ -214,7 +240,7 @@ def draw(path: str, words: argparse.Namespace) -> int:
     if words.json:
         show_json({"key": words.key, "svg" if words.svg else "dot": text})
     else:
-        print(text.rstrip("\n"))
+        print(lines(text.rstrip("\n")))
     return GOOD
 
 
@@ -223,15 +249,12 @@ def export(path: str, words: argparse.Namespace) -> int:
     with Snapshot(path) as store:
         view = store.saga(words.key)
     show_json(
-        summary_json(view.summary)
+        view_json(view)
         | {
             "definition": view.definition,
-            "input": view.input,
-            "end": view.end,
             "events": [{"at": at, **event} for at, event in view.lines],
             "results": results_json(view),
             "notes": [dataclasses.asdict(one.event) for one in view.notes],
-            "held": [held_json(one) for one in view.held],
         }
     )
     return GOOD

@@ -12,6 +12,7 @@ from collections.abc import Callable
 from typing import Any
 
 from sagas.base import program
+from sagas.base.wording import escaped
 from sagas.cli.formatting import CANNOT, GOOD, NO, Progress, show_json, table
 from sagas.cli.nodes import is_database
 from sagas.cli.snapshot import Snapshot
@@ -159,7 +160,7 @@ def record(path: str, words: argparse.Namespace) -> int:
         heads = ["SHARD", "NAME", "EVENTS", "GOOD", "AUDIT"]
         print(table(heads, [cells(one) for one in found]))
         for line in [line for one in found for line in lost(one)]:
-            print(line)
+            print(escaped(line))
     return GOOD if all(one.is_whole for one in found) else NO
 
 

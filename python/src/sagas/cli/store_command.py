@@ -13,25 +13,25 @@ import sys
 from collections.abc import Callable
 
 from sagas.base.errors import SagasError
+from sagas.base.option_values import not_negative
 from sagas.cli import nodes as nodes_module
 from sagas.cli.actions import abort, complete, fail, retry
 from sagas.cli.audits import audit
 from sagas.cli.backlog import attention, definitions, pending, stats, stuck
-from sagas.cli.batches import resolve, words_of_filter
+from sagas.cli.batches import resolve, words_of_filter, words_of_limit
 from sagas.cli.deliveries import deliveries, words_of_deliveries
-from sagas.cli.formatting import CANNOT, INTERRUPTED, escape
+from sagas.cli.formatting import CANNOT, INTERRUPTED, complain, drop_output, escape
 from sagas.cli.inspect import draw, export, list_sagas, log, plan, show
 from sagas.cli.maintenance import init, migrate, nodes
 from sagas.cli.records import record
 from sagas.cli.retention import prune, words_of_prune
 from sagas.cli.schedules import schedules, words_of_schedules
-from sagas.definition.serialization import clean
 from sagas.storage.admin import Trouble
 from sagas.storage.queries import PHASES
 
 Command = Callable[[str, argparse.Namespace], int]
 Add = Callable[..., argparse.ArgumentParser]
-CANNOT_USE = "the store cannot be read or written"
+CANNOT_USE = "the store cannot be read or written, or the output cannot be written"
 
 
 EXAMPLES = {
@@ -43,6 +43,7 @@ EXAMPLES = {
     "abort": 'abort order-1 --note "customer left"',
     "complete": "complete order-1 review --result '\"yes\"'",
     "fail": 'fail order-1 review "unknown customer"',
+    "retry": "retry order-1 charge",
     "resolve": 'resolve order-1 --note "sent by courier"',
     "export": "export order-1 > order-1.json",
     "schedules": "schedules pause nightly",
@@ -60,6 +61,7 @@ REFUSED = {
     **dict.fromkeys(
         ("complete", "fail"), "no saga or step has the name, or the report is rejected"
     ),
+    "retry": "no saga or step has the name, or the step cannot be attempted again",
     "resolve": "a saga does not exist, or does not need to be resolved",
     "audit": "a shard has an event that was not allowed, or differs from the rows",
     "record": "a record is not allowed, or something that was acknowledged is missing",
@@ -133,13 +135,7 @@ def add_looks(add: Add) -> None:
     words_of_filter(part, "")
     part.add_argument("--after", metavar="KEY", help="continue after the saga with this key")
     part.add_argument("--newest", action="store_true", help="list the newest first")
-    part.add_argument(
-        "--limit",
-        type=int,
-        default=100,
-        metavar="N",
-        help="maximum number of sagas; 0: no limit (default: 100)",
-    )
+    words_of_limit(part, "sagas")
     add("show", show, key=True)
     add("log", log, key=True)
     add("plan", plan, key=True).add_argument(
@@ -164,13 +160,7 @@ def add_looks(add: Add) -> None:
     add("stats", stats)
     add("definitions", definitions)
     add("stuck", stuck)
-    add("attention", attention).add_argument(
-        "--limit",
-        type=int,
-        default=100,
-        metavar="N",
-        help="maximum number of entries (default: 100)",
-    )
+    words_of_limit(add("attention", attention), "entries")
     add("pending", pending)
 
 
@@ -224,7 +214,7 @@ def add_steps(part: argparse.ArgumentParser, what: str) -> None:
     part.add_argument(
         "--yes", action="store_true", help=f"with --all: {what} them (default: only count them)"
     )
-    part.add_argument("--undo", action="store_true", help="report the step's compensation")
+    part.add_argument("--undo", action="store_true", help="mean the step's compensation")
     add_note(part)
     add_timeout(part)
 
@@ -263,7 +253,7 @@ def add_timeout(part: argparse.ArgumentParser) -> None:
     """The option how long to wait for the program's answer."""
     part.add_argument(
         "--timeout",
-        type=float,
+        type=not_negative,
         default=5.0,
         metavar="SECONDS",
         help="seconds to wait for the program's answer (default: 5)",
@@ -276,17 +266,31 @@ def main(words: list[str] | None = None) -> int:
     """
     escape()
     given = parser().parse_args(words)
+    try:
+        status = status_of(given)
+        sys.stdout.flush()  # at exit, nobody would say that it failed
+        return status
+    except BrokenPipeError:  # as of `| head`, which has what it wants
+        drop_output()
+        return CANNOT
+    except OSError as error:
+        drop_output()
+        what = error.filename or "cannot write the output or a temporary file"
+        complain(f"{what}: {error.strerror or error}")
+        return CANNOT
+
+
+def status_of(given: argparse.Namespace) -> int:
+    """Runs the command, and says why it was refused. Raises `OSError`."""
     command: Command = given.do
     try:
         return command(given.path, given)
     except Trouble as trouble:
-        print(f"sagas store: {clean(str(trouble))}", file=sys.stderr)
+        complain(str(trouble))
         return trouble.status
     except SagasError as error:
-        print(f"sagas store: {clean(str(error))}", file=sys.stderr)
-        return CANNOT
-    except BrokenPipeError:
+        complain(str(error))
         return CANNOT
     except KeyboardInterrupt:
-        print("sagas store: interrupted; what was done before is kept", file=sys.stderr)
+        complain("interrupted; what was done before is kept")
         return INTERRUPTED

@@ -76,9 +76,10 @@ def yields(attempt: Attempt) -> float:
 
 
 def retry(attempt: Attempt, now: float) -> Decision:
-    """Call one again at once, as a person wants: its number of attempts begins anew.
+    """Call one again at once, as a person wants: its number of attempts and its time begin anew.
 
-    For the engine its number stays, so what was made before is taken off the failures.
+    For the engine its number stays, so what was made before is taken off the failures. By its
+    `since`, the wait that the person answered is told from a later one.
     """
     is_unknown = attempt.reason is Suspension.UNKNOWN
     reason = Suspension.UNKNOWN if is_unknown else Suspension.RETRY
@@ -88,6 +89,7 @@ def retry(attempt: Attempt, now: float) -> Decision:
     detail = attempt.outcome.value if attempt.outcome else ""
     if not is_unknown:
         detail = str(json.loads(detail or "{}").get("error", ""))
+    attempt.since = now
     attempt.suspend(reason, now)
     return Decision(Do.SUSPEND, SuspensionRow(reason, now, detail), timer=True)
 

@@ -250,10 +250,10 @@ class SagaResult(Answering):
 
 @dataclasses.dataclass(frozen=True, slots=True)
 class Summary:
-    """Describe a saga in a list.
+    """Describe a saga in a list. `list(after=...)` takes it for the next page.
 
     Attributes:
-        id: Its place in the list: `after` of the next page.
+        id: Its number in the store.
         key: The saga's key.
         saga: The saga's name.
         phase: `open`, `completed`, `recovered`, `stuck` or `resolved`.
@@ -306,7 +306,8 @@ class UnknownAttempt:
         attempt: The attempt's number, from 1.
         attempt_id: As `Task.attempt_id`.
         count: How often the outcome was unknown.
-        since: Wall time of the first unknown outcome, in seconds since 1970.
+        since: Wall time of the first unknown outcome, or of the last retry that a person asked for
+            behind it, in seconds since 1970.
         until: When it is repeated, in seconds since 1970; None: a person has to report it.
         error: What was raised last, or None.
     """

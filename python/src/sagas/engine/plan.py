@@ -7,12 +7,11 @@ import json
 from collections.abc import Iterable
 from typing import Any
 
-import tomllib
-
 from sagas.base import program
 from sagas.base.errors import EngineError
 from sagas.core.states import state_text, step_state
-from sagas.definition import folded_drawing
+from sagas.definition import folded_drawing, listed_steps
+from sagas.definition.listed_steps import ListedStep
 
 Cost = int | None
 """A cost; None is never."""
@@ -94,28 +93,26 @@ class Plan:
     @property
     def blocking_steps(self) -> list[str]:
         """If no plan is feasible, the steps that show why; else an empty list."""
-        names = [step["name"] for step in tomllib.loads(self.definition)["step"]]
-        return [names[step] for step in self.answer.get("chain", ())]
+        steps = listed_steps.of(self.definition)
+        return [steps[place].name for place in self.answer.get("chain", ())]
 
     @property
     def choices(self) -> list[Choice]:
         """A `Choice` for each step, in the order of the definition."""
         kept = set(self.answer.get("kept", ()))
-        steps = tomllib.loads(self.definition)["step"]
+        steps = listed_steps.of(self.definition)
         needed = {
-            need: steps[place]["name"]
+            need: steps[place].name
             for place in sorted(kept, reverse=True)
-            for need in steps[place].get("needs", ())
+            for need in steps[place].needs
         }
         return [
-            self._choice(step, step_state(told).value, place in kept, needed.get(step["name"]))
+            self._choice(step, step_state(told).value, place in kept, needed.get(step.name))
             for place, (step, told) in enumerate(zip(steps, self.case["states"]))
         ]
 
-    def _choice(self, step: dict[str, Any], state: str, kept: bool, needed: str | None) -> Choice:
-        run, undo, skip, keep = (
-            _cost(step.get(word, 0)) for word in ("run", "undo", "skip", "keep")
-        )
+    def _choice(self, step: ListedStep, state: str, kept: bool, needed: str | None) -> Choice:
+        run, undo, skip, keep = map(_cost, (step.run, step.undo, step.skip, step.keep))
         if state == "waiting":
             stand = None if self.case.get("aborted") else _sum(run, keep)
         else:
@@ -126,7 +123,7 @@ class Plan:
         goes = (
             state == "committed" and leave is not None and (stand is None or stand >= leave)
         )  # if nothing needs it
-        return Choice(step["name"], state, stand, leave, kept, needed if kept and goes else None)
+        return Choice(step.name, state, stand, leave, kept, needed if kept and goes else None)
 
     def check(self) -> str:
         """Verify the plan by `sagas check`, which does not trust the planner.

@@ -103,7 +103,7 @@ def prune(
 
     The time is the earlier one of `clock` and of the store's own: a clock that is put forward
     lets nothing go. With `export` each log is written there and synced, before it is deleted
-    (archives.py). `stop` ends it behind the log that it is at. Raises `Trouble`,
+    (`archive.write`). `stop` ends it behind the log that it is at. Raises `Trouble`,
     `StoreUnavailable`, `OSError` of the export; what went before is gone, and the log that it was
     at is whole.
     """
@@ -121,8 +121,8 @@ def prune(
             if gone.sagas + sagas > most:
                 gone.more = True
                 break
-            if export is not None:
-                archive.write(link, at, pathlib.Path(export))
+            if export is not None and archive.write(link, at, pathlib.Path(export)) is None:
+                continue  # another program has deleted it
             began = time.monotonic()
             if _delete(link, at, gone.blobs if has_blobs else None):
                 gone.logs.append(log)

@@ -7,7 +7,6 @@ that have it open.
 from __future__ import annotations
 
 import contextlib
-import fcntl
 import functools
 import json
 import os
@@ -64,6 +63,9 @@ class Source(Protocol):
     def begin(self) -> None:
         """All that is asked from now on is of one moment."""
 
+    def end(self) -> None:
+        """Ends what was begun, if anything was."""
+
     def transaction(self) -> contextlib.AbstractContextManager[object]:
         """What is written within is written as a whole, or not at all."""
 
@@ -71,9 +73,7 @@ class Source(Protocol):
         """The time by the store's own clock, in seconds."""
 
     def alone(self) -> bool:
-        """Whether no other connection has said this and is not closed yet. A file's are not
-        counted.
-        """
+        """Whether no other connection has said this and is not closed yet."""
 
     def ask(self, text: str, *words: Any) -> list[Row]:
         """The rows of a question, or of a write that gives some."""
@@ -124,6 +124,7 @@ class File:
 
     def __init__(self, name: str, mode: str) -> None:
         self.name, self.path = name, pathlib.Path(name)
+        self._alone: int | None = None
         try:
             if not self.path.is_file():
                 what = (
@@ -180,6 +181,10 @@ class File:
     def begin(self) -> None:
         self._run("BEGIN")
 
+    def end(self) -> None:
+        if self.link.in_transaction:
+            self._run("ROLLBACK")
+
     @contextlib.contextmanager
     def transaction(self) -> Iterator[None]:
         self._run("BEGIN IMMEDIATE")
@@ -195,7 +200,10 @@ class File:
         return time.time()
 
     def alone(self) -> bool:
-        return True
+        if self._alone is None:
+            path = f"{os.path.realpath(self.path)}.prune.lock"
+            self._alone = store_file.take_lock(path, os.O_RDONLY)  # another user may have made it
+        return self._alone is not None
 
     def ask(self, text: str, *words: Any) -> list[Row]:
         cursor = self._run(text, words)
@@ -211,19 +219,7 @@ class File:
         """The program looks by itself."""
 
     def is_driven(self) -> bool:
-        try:
-            lock = os.open(store_file.lock_of(self.path), os.O_RDONLY)
-        except FileNotFoundError:
-            return False
-        except OSError:  # another user's: a program may have it
-            return True
-        try:
-            fcntl.flock(lock, fcntl.LOCK_EX | fcntl.LOCK_NB)
-        except BlockingIOError:
-            return True
-        finally:
-            os.close(lock)
-        return False
+        return store_file.is_held(self.path)
 
     def absent(self, key: str) -> Trouble:
         return Trouble(f"no saga has the key {key}")
@@ -256,6 +252,9 @@ class File:
 
     def close(self) -> None:
         self.link.close()
+        if self._alone is not None:
+            store_file.close_lock(self._alone)
+            self._alone = None
 
 
 class Base:
@@ -287,6 +286,10 @@ class Base:
     def begin(self) -> None:
         with self._faults():
             self.link.execute("BEGIN ISOLATION LEVEL REPEATABLE READ READ ONLY")
+
+    def end(self) -> None:
+        with self._faults():
+            self.link.rollback()
 
     @contextlib.contextmanager
     def transaction(self) -> Iterator[None]:

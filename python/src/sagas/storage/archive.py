@@ -38,9 +38,10 @@ NAMES = {
 }
 
 
-def write(link: Source, log: int, folder: pathlib.Path) -> pathlib.Path:
+def write(link: Source, log: int, folder: pathlib.Path) -> pathlib.Path | None:
     """Writes a log into a folder of its own, named as the log is, and syncs it; gives that
-    folder. One that is there is written anew.
+    folder. One that is there is written anew. Where the store has no such log any more, nothing
+    is written, and what is there stays: another program has deleted the log.
 
     - `log`, `definition-00.toml` ..: what `sagas audit log definition-*.toml` reads;
       `about.json` has what it said when the log was closed;
@@ -51,7 +52,35 @@ def write(link: Source, log: int, folder: pathlib.Path) -> pathlib.Path:
 
     Raises `OSError`; then what is there is no whole folder of that name.
     """
-    name, audit = link.ask(SHARD, log)[0]
+    folder.mkdir(parents=True, exist_ok=True)
+    with _locked(folder) as held:  # before it is read: what another program wrote is not undone
+        read = _read(link, log)
+        if read is None:
+            return None
+        name, files = read
+        part, whole = folder / f".{name}.part", folder / name
+        for old in (part, whole):
+            shutil.rmtree(old, ignore_errors=True)
+        part.mkdir()
+        for word, text in files.items():
+            _synced(part / word, text)
+        _sync(part)
+        part.rename(whole)
+        os.fsync(held)
+    return whole
+
+
+def _read(link: Source, log: int) -> tuple[str, dict[str, str]] | None:
+    """A log's name and its files, of one moment; None where it is not there."""
+    link.begin()
+    try:
+        found = link.ask(SHARD, log)
+        return (str(found[0][0]), _files(link, log, *found[0])) if found else None
+    finally:
+        link.end()
+
+
+def _files(link: Source, log: int, name: str, audit: str | None) -> dict[str, str]:
     lines = "".join(
         text
         for (text,) in link.ask(
@@ -67,19 +96,7 @@ def write(link: Source, log: int, folder: pathlib.Path) -> pathlib.Path:
         "sagas.jsonl": _jsonl(_sagas(link, log, rows)),
         "plans.jsonl": _jsonl(_plans(lines, rows, definitions)),
     }
-    files |= {f"definition-{place:02}.toml": text for place, text in enumerate(definitions)}
-    folder.mkdir(parents=True, exist_ok=True)
-    with _locked(folder) as held:
-        part, whole = folder / f".{name}.part", folder / str(name)
-        for old in (part, whole):
-            shutil.rmtree(old, ignore_errors=True)
-        part.mkdir()
-        for word, text in files.items():
-            _synced(part / word, text)
-        _sync(part)
-        part.rename(whole)
-        os.fsync(held)
-    return whole
+    return files | {f"definition-{place:02}.toml": text for place, text in enumerate(definitions)}
 
 
 def _sagas(link: Source, log: int, rows: list[Row]) -> Iterator[Json]:
@@ -138,6 +155,7 @@ def _locked(folder: pathlib.Path) -> Iterator[int]:
         fcntl.flock(held, fcntl.LOCK_EX)
         yield held
     finally:
+        fcntl.flock(held, fcntl.LOCK_UN)  # also where a process that was just forked still has it
         os.close(held)
 
 

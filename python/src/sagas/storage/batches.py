@@ -1,8 +1,8 @@
-"""Commands to all sagas of a filter: at most 1,000 a transaction.
+"""Commands to many sagas, for example all of a filter: at most 1,000 a transaction.
 
-An abort is left in the store for each saga, as for one (`operator_requests`): it is carried out by
+A command is left in the store for each saga, as for one (`operator_requests`): it is carried out by
 the program that drives the saga, also by a later one. So a batch that is interrupted has done its
-last transaction or has not begun the next one, and the same command again goes on with the rest.
+last transaction or has not begun the next one. The same abort again goes on with the rest.
 """
 
 from __future__ import annotations
@@ -11,8 +11,8 @@ import dataclasses
 import json
 import threading
 import time
-from collections.abc import Sequence
-from typing import Any
+from collections.abc import Callable, Sequence
+from typing import Any, TypeVar
 
 from sagas.definition.serialization import clean
 from sagas.storage.admin import Row, Source
@@ -20,6 +20,7 @@ from sagas.storage.filters import Filter
 from sagas.storage.operator_requests import reason
 from sagas.storage.queries import PHASES, RESOLVABLE, RESOLVE
 
+T = TypeVar("T")
 MOST = 1000
 """Sagas of one transaction."""
 LOOK = 0.02, 0.25
@@ -95,8 +96,37 @@ class Batch:
             after = lot[-1][0]
             asked = {number: key for number, key in left if number is not None}
             self._link.tell("requests")
-            self._result.waiting += self._await(asked, until).values()
+            self._result.waiting += self._await(asked, until, self._answered).values()
         return self._result
+
+    def ask(self, what: str, told: Sequence[tuple[int, Any]], timeout: float) -> list[Any]:
+        """Ask something of sagas: of all of them first, and then wait for the answers.
+
+        Args:
+            what: The command.
+            told: The ids of the sagas, each with what is kept of the command.
+            timeout: Seconds to wait at most for all answers.
+
+        Returns:
+            The answers, in the same order: None where none has come yet, False where the saga is
+            gone.
+        """
+        answers: list[Any] = [None] * len(told)
+        lots: list[dict[int, int]] = []
+        for first in range(0, len(told), MOST):
+            lots.append({})
+            with self._link.transaction():
+                for place, (id, value) in enumerate(told[first : first + MOST], first):
+                    number = self._link.leave(id, what, json.dumps(value))
+                    if number is None:
+                        answers[place] = False
+                    else:
+                        lots[-1][number] = place
+            self._link.tell("requests")
+        until = time.monotonic() + timeout
+        for asked in lots:
+            self._await(asked, until, answers.__setitem__)
+        return answers
 
     def resolve(self, note: str, by: str | None) -> BatchResult:
         """Mark them as looked after.
@@ -126,16 +156,20 @@ class Batch:
         ORDER BY id LIMIT {MOST}"""
         return self._link.ask(query, *words, after)
 
-    def _await(self, asked: dict[int, str], until: float | None) -> dict[int, str]:
-        """Wait for answers; return what has none, as far as nobody has the store, or in time."""
+    def _await(
+        self, asked: dict[int, T], until: float | None, answered: Callable[[T, Any], None]
+    ) -> dict[int, T]:
+        """Wait for answers; return what has none, as far as nobody has the store, or in time.
+
+        Of a request that is gone, the answer is False."""
         pause, most = LOOK
         while asked and not self._stop.is_set():
             marks = ", ".join("?" * len(asked))
             query = f"SELECT id, answer FROM operator_commands WHERE id IN ({marks})"
             rows = {number: answer for number, answer in self._link.ask(query, *asked)}
-            for number, key in list(asked.items()):
+            for number, one in list(asked.items()):
                 if number not in rows or rows[number] is not None:
-                    self._answered(key, json.loads(rows.get(number) or "false"))
+                    answered(one, json.loads(rows.get(number) or "false"))
                     del asked[number]
             is_late = until is not None and time.monotonic() >= until
             if not asked or is_late or not self._link.is_driven():

@@ -16,7 +16,11 @@ from sagas.storage.sqlite.storage import Sqlite
 
 SCHEMES = ("postgresql:", "postgres:")
 FORM = "postgresql://user@host/database"
-NO_FILE = re.compile(r"([A-Za-z][A-Za-z0-9+.-]*)://|(?:host|hostaddr|port|dbname|user|service)=")
+NO_FILE = re.compile(
+    r"(?P<scheme>[a-z][a-z0-9+.:-]*)://|(?P<url>postgres(?:ql)?(?::|//|/[^/]*@))"
+    r"|(?:host|hostaddr|port|dbname|user|password|passfile|service)\s*=|\w+\s*=.*\s\w+\s*=",
+    re.IGNORECASE | re.DOTALL,
+)
 """What is meant for a database, and is no URL of one."""
 
 
@@ -27,7 +31,7 @@ def is_url(name: str) -> bool:
 
 def check_name(name: str) -> None:
     """Raises `InvalidStore`, with what to give instead, where it is neither a file's nor the URL
-    of a PostgreSQL database. A password is not repeated.
+    of a PostgreSQL database. What may have a password is not repeated.
     """
     if is_url(name):
         return
@@ -35,17 +39,18 @@ def check_name(name: str) -> None:
         raise InvalidStore(
             f"{name}: must be the path of a file. In memory, for a test: sagas.testing.run"
         )
-    found = NO_FILE.match(name)
-    if found and found[1] == "sqlite":
+    text = name.strip()
+    found = NO_FILE.match(text)
+    if found and found["scheme"] == "sqlite":
         raise InvalidStore(
             f"{name}: name a SQLite store by its path: "
-            f"{name[len('sqlite://'):].removeprefix('/')}"
+            f"{text[len('sqlite://'):].removeprefix('/')}"
         )
     if found:
-        raise InvalidStore(
-            f"{f'{found[1]}://' if found[1] else 'a list of words'}: a store is an SQLite file, or "
-            f"{FORM}"
-        )
+        kind = f"{found['scheme']}://" if found["scheme"] else "a list of words"
+        if found["url"] or is_url(text):
+            kind = "a URL behind a space" if is_url(text) else "a misspelled URL"
+        raise InvalidStore(f"{kind}: a store is an SQLite file, or {FORM}")
 
 
 def missing(error: ImportError) -> InvalidStore:

@@ -10,11 +10,15 @@ from typing import Any
 
 from sagas.definition import labels as labels_module
 from sagas.definition.labels import Labels
-from sagas.storage.queries import PHASES
+from sagas.storage.queries import IN_OPEN_LOGS, PHASES
+from sagas.storage.sqlite.schema import PLANNED
 
 MISSES = "('missed', 'fail', 'undo_missed', 'undo_fail')"
 """The events of attempts whose value has an error."""
 LABELED = "s.id IN (SELECT id FROM labels WHERE name = ? AND value = ?)"
+WITH_LABEL = "(SELECT b.value FROM labels b WHERE b.id = s.id AND b.name = ?) = ?"
+"""For sagas that come in an order, or that something else has selected: each one's label is looked
+up."""
 KEYED = "s.id IN (SELECT id FROM sagas WHERE key LIKE ? ESCAPE '!')"
 """The keys alone are looked through, by their index."""
 WITH_ERROR = f"""(EXISTS (SELECT 1 FROM attempts x WHERE x.id = s.id AND x.event IN {MISSES}
@@ -27,6 +31,11 @@ AMONG_ERRORS = f"""s.id IN (
   UNION SELECT x.id FROM suspensions x WHERE x.number > 0
   AND x.detail LIKE ? ESCAPE '!')"""
 """For many: all attempts are looked through once."""
+IN_ORDER = {
+    phase: text.replace(IN_OPEN_LOGS, "").replace(f"{PLANNED} AND", f"{PLANNED} IS TRUE AND")
+    for phase, text in PHASES.items()
+}
+"""As `PHASES`, for sagas that come in an order: so that no other index is used."""
 FEW = ("open", "stuck", "recovered", "undo_failed", "resolved")
 """The phases that few sagas of a store are in."""
 
@@ -72,31 +81,45 @@ class Filter:
         """The name of their definition, where it is asked for."""
         return [] if self.saga is None else [self.saga]
 
-    def where(self, of_few: bool = False) -> tuple[str, list[Any]]:
+    def where(
+        self, of_few: bool = False, in_order: bool = False, each_label: bool = False
+    ) -> tuple[str, list[Any]]:
         """Return a condition on rows of `sagas`, which has the name `s`, and its words.
 
-        `of_few`: something else has selected few of them already."""
+        `of_few`: something else has selected few of them already; `in_order`: they are gone through
+        one by one, by an index that gives their order, until there are enough; `each_label`: more
+        have a label than are found otherwise. A + keeps the databases from the index of the starts,
+        which leads to more sagas than others."""
+        of_few = of_few or in_order
         wheres, words = [among(self.sagas)], list[Any](self.sagas or ())
         if self.phase is not None:
-            wheres.append(PHASES[self.phase])
+            wheres.append((IN_ORDER if in_order else PHASES)[self.phase])
         if self.saga is not None:
             wheres.append("s.saga = ?")
         words += self.saga_words
         for label in self.labels.items():
-            wheres.append(LABELED)
+            wheres.append(WITH_LABEL if in_order or each_label else LABELED)
             words += label
         if self.search:
             wheres.append(KEYED if not of_few else "s.key LIKE ? ESCAPE '!'")
             words.append(part(self.search))
-        for word, condition in (
-            (self.started_after, "s.at >= ?"),
-            (self.started_before, "s.at < ?"),
-        ):
-            if word is not None:
-                wheres.append(condition)
-                words.append(word)
+        times, bounds = self.times()
+        wheres += [f"+{condition}" for condition in times]
+        words += bounds
         if self.error:
             is_few = of_few or bool(self.labels) or self.phase in FEW
             wheres.append(WITH_ERROR if is_few else AMONG_ERRORS)
             words += [part(json.dumps(self.error, ensure_ascii=False)[1:-1]), part(self.error)]
         return " AND ".join(wheres), words
+
+    def times(self) -> tuple[list[str], list[Any]]:
+        """Return the conditions on the starts, and their words."""
+        bounds = (("s.at >= ?", self.started_after), ("s.at < ?", self.started_before))
+        given = [(condition, word) for condition, word in bounds if word is not None]
+        return [condition for condition, _ in given], [word for _, word in given]
+
+    @property
+    def has_times_alone(self) -> bool:
+        """Whether nothing but the starts selects them."""
+        is_of_any = self.phase is None and self.saga is None and self.sagas is None
+        return is_of_any and not (self.labels or self.search or self.error)

@@ -72,6 +72,9 @@ step
 had failed or they were aborted; `undo_failed`: those of these of which a compensation failed for
 good. Once a person has resolved such a saga it is `resolved`, as one that was stuck.
 """
+SORTED_AT = "+(s.at)"
+"""The start of a saga `s` where no index leads to few. SQLite does better to sort than to go by the
+index of the starts, which it would choose; PostgreSQL knows how many they are."""
 RESOLVABLE = f"(phase = 'stuck' OR ({UNDO_FAILED}))"
 """The sagas that a person resolves, also those that somebody has resolved."""
 RESOLVE = f"UPDATE sagas SET note = ? WHERE key = ? AND {RESOLVABLE} AND note IS NULL"
@@ -123,6 +126,7 @@ WHERE r.answer IS NULL AND r.id > ? ORDER BY r.id LIMIT ?
 def for_postgresql(query: str, mark: str = "%s") -> str:
     """A query as psycopg and PostgreSQL take it, with a mark for each value."""
     query = query.replace(IN_OPEN_LOGS, "").replace("json_group_object", "json_object_agg")
+    query = query.replace(SORTED_AT, "s.at")
     return query.replace("?", mark)
 
 

@@ -6,6 +6,7 @@ import psycopg
 from psycopg import errors, sql
 
 from sagas.base.errors import InvalidStore, StoreSchemaTooNew
+from sagas.base.logger import logger
 from sagas.storage.postgresql.connections import RIGHTS
 
 LOCK = 5_777_001
@@ -71,6 +72,7 @@ CREATE TABLE sagas.sagas(
 CREATE INDEX sagas_open ON sagas.sagas(id) WHERE phase IS NULL;
 CREATE INDEX sagas_stuck ON sagas.sagas(id) WHERE phase = 'stuck';
 CREATE INDEX sagas_recovered ON sagas.sagas(id) WHERE recovered;
+CREATE INDEX sagas_started ON sagas.sagas(at, id);
 
 -- What is kept of sagas whose steps come from their input: items, their keys, and the inputs of
 -- included sagas, as a JSON object.
@@ -203,6 +205,14 @@ CREATE TABLE sagas.secrets(name text PRIMARY KEY, value text NOT NULL);
 
 VERSION = 1
 
+STARTED = "CREATE INDEX IF NOT EXISTS sagas_started ON sagas.sagas(at, id)"
+"""Of tables that were made before lists were in the order of the starts."""
+LACKS_STARTED = """
+SELECT to_regclass('sagas.sagas_started') IS NULL AND pg_has_role(relowner, 'USAGE')
+FROM pg_class WHERE oid = to_regclass('sagas.sagas')
+"""
+"""Whether the index is missing, and this user may make it."""
+REMEDY = "Run `CREATE INDEX CONCURRENTLY sagas_started ON sagas.sagas(at, id)`"
 
 TABLES = (
     "nodes",
@@ -250,6 +260,7 @@ def check(version: int, where: str) -> None:
 
 def migrate(link: psycopg.Connection[tuple[object, ...]], where: str) -> int:
     """Makes the tables where there are none, in one transaction; gives the version that was there.
+    Of older tables it makes the index of the starts, where this user may.
 
     The connection commits each statement. Raises `StoreSchemaTooNew`, or `InvalidStore` where this
     user
@@ -258,7 +269,7 @@ def migrate(link: psycopg.Connection[tuple[object, ...]], where: str) -> int:
     try:
         version = version_of(link)
         check(version, where)
-        if version == VERSION:
+        if version == VERSION and not _lacks_started(link):
             return version
         link.execute(
             "SELECT pg_advisory_lock(%s)", (LOCK,)
@@ -269,6 +280,8 @@ def migrate(link: psycopg.Connection[tuple[object, ...]], where: str) -> int:
             if version < VERSION:
                 with link.transaction():
                     _make(link)
+            elif _lacks_started(link):
+                _add_started(link, where)
         finally:
             link.execute("SELECT pg_advisory_unlock(%s)", (LOCK,))
         return version
@@ -276,6 +289,21 @@ def migrate(link: psycopg.Connection[tuple[object, ...]], where: str) -> int:
         raise InvalidStore(
             f"{where}: {str(error).splitlines()[0]}: {RIGHTS.format(role=link.info.user)}"
         ) from error
+
+
+def _lacks_started(link: psycopg.Connection[tuple[object, ...]]) -> bool:
+    return link.execute(LACKS_STARTED).fetchone() == (True,)
+
+
+def _add_started(link: psycopg.Connection[tuple[object, ...]], where: str) -> None:
+    """Makes the index, unless that held up the other nodes for long: lists are slow without it."""
+    try:
+        with link.transaction():
+            link.execute("SET LOCAL lock_timeout = '5s'")
+            link.execute(STARTED)
+    except (errors.InsufficientPrivilege, errors.LockNotAvailable, errors.QueryCanceled) as error:
+        told = str(error).splitlines()[0]
+        logger.warning("%s: %s. Lists are slow without an index. %s", where, told, REMEDY)
 
 
 def _make(link: psycopg.Connection[tuple[object, ...]]) -> None:

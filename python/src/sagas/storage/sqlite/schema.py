@@ -47,6 +47,7 @@ CREATE TABLE sagas(
   undo_failed INTEGER NOT NULL DEFAULT 0, ended REAL, note TEXT, traceparent TEXT);
 CREATE INDEX sagas_stuck ON sagas(id) WHERE phase = 'stuck';
 CREATE INDEX sagas_recovered ON sagas(id) WHERE recovered;
+CREATE INDEX sagas_started ON sagas(at);
 
 -- The labels of sagas, by which they are found.
 CREATE TABLE labels(
@@ -154,6 +155,9 @@ CREATE TABLE schedules(
 -- What nobody outside may know. `leases`: the key by which leases of workers are signed, in hex.
 CREATE TABLE secrets(name TEXT PRIMARY KEY, value TEXT NOT NULL) WITHOUT ROWID;
 """
+
+STARTED = "CREATE INDEX IF NOT EXISTS sagas_started ON sagas(at)"
+"""Of a file that was made before lists were in the order of the starts."""
 
 VERSION = 1
 """Stands in `PRAGMA user_version`; a program refuses a store of a later version."""

@@ -4,7 +4,6 @@ from __future__ import annotations
 
 import asyncio
 import contextlib
-import fcntl
 import functools
 import os
 import secrets
@@ -30,11 +29,13 @@ from sagas.storage.sqlite.schema import VERSION
 from sagas.storage.sqlite.store_file import (
     Reader,
     check_file,
+    close_lock,
     connect,
+    holder_of,
     lengthen,
     lock_of,
     migrate,
-    owner_of,
+    take_lock,
     there,
     told,
 )
@@ -52,9 +53,7 @@ def migrate_file(path: str) -> str:
         raise InvalidStore(f"{path}: it is not there")
     store = Sqlite(path)
     store._take_lock()
-    with contextlib.closing(connect(path)) as db:
-        before = db.execute("PRAGMA user_version").fetchone()[0]
-    store._make()
+    before = store._make()
     store._reader.close()
     store._db.close()
     store._drop_lock()
@@ -120,12 +119,14 @@ class Sqlite(queries.Questions, queries.Rows):
                 )
         return rows
 
-    def _make(self) -> None:
+    def _make(self) -> int:
+        """Makes the tables; returns their version before."""
         try:
             self._db = connect(self.file)
             self._db.execute("PRAGMA journal_mode=WAL")
-            migrate(self._db, self.path)
+            before = migrate(self._db, self.path)
             self._reader = connect(self.file)
+            return before
         except sqlite3.DatabaseError as error:
             self._drop_lock()
             if isinstance(error, sqlite3.OperationalError):
@@ -138,49 +139,22 @@ class Sqlite(queries.Questions, queries.Rows):
     def _take_lock(self) -> None:
         check_file(self.path)
         path = lock_of(self.file)
-        try:
-            self._lock = os.open(path, os.O_RDWR | os.O_CREAT | os.O_CLOEXEC, 0o644)
-        except FileNotFoundError as error:
-            raise StoreUnavailable(
-                f"folder {os.path.dirname(path)} does not exist. Create it first"
-            ) from error
-        except PermissionError as error:
-            owner = owner_of(path)
-            theirs = (
-                f"it belongs to {owner}. Open the store as {owner}, or change the owner of "
-                "the store's files (chown)"
-            )
-            remedy = (
-                theirs
-                if owner
-                else f"{error.strerror}. This user must be able to write to its folder"
-            )
-            raise StoreUnavailable(f"{path}: {remedy}") from error
-        except OSError as error:
-            raise StoreUnavailable(f"{path}: {error.strerror}") from error
-        private.add(self._lock)
-        try:
-            fcntl.flock(self._lock, fcntl.LOCK_EX | fcntl.LOCK_NB)
-        except OSError:
-            holder = os.pread(self._lock, 20, 0).decode(errors="replace")
+        self._lock = take_lock(path)
+        if self._lock is None:
+            holder = holder_of(path)
             who = (
                 "this program"
                 if holder == str(os.getpid())
-                else f"another program{f' (process {holder})' if holder.isdigit() else ''}"
+                else f"another program{f' (process {holder})' if holder else ''}"
             )
-            self._drop_lock()
-            raise StoreLocked(f"{self.path}: {who} has this store open. Close it first") from None
+            raise StoreLocked(f"{self.path}: {who} has this store open. Close it first")
         with contextlib.suppress(OSError):  # it is only told
             os.ftruncate(self._lock, 0)
             os.pwrite(self._lock, str(os.getpid()).encode(), 0)
 
     def _drop_lock(self) -> None:
         if self._lock is not None:
-            private.discard(self._lock)
-            fcntl.flock(
-                self._lock, fcntl.LOCK_UN
-            )  # also where a process that was just forked still has it
-            os.close(self._lock)
+            close_lock(self._lock)
             self._lock = None
 
     async def secret(self) -> bytes:

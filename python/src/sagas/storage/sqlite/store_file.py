@@ -3,21 +3,26 @@
 from __future__ import annotations
 
 import contextlib
+import fcntl
 import os
 import pathlib
 import pwd
 import sqlite3
+import time
 from typing import Any
 
 from sagas.base.errors import InvalidStore, StoreSchemaTooNew, StoreUnavailable
+from sagas.base.fork_guard import private
 from sagas.definition.serialization import cleaned
-from sagas.storage.sqlite.schema import VERSION, statements
+from sagas.storage.sqlite.schema import STARTED, VERSION, statements
 from sagas.storage.sqlite.writer import BUSY, CHECKPOINT, LONG
 
 FRAME = 24  # bytes before each page of a WAL
 LENGTH = CHECKPOINT + LONG * 3 // 4
 """Pages: where the WAL has just fewer than are moved, commits go on in the loop until the thread
 has the next one."""
+LOOKS = 1.0
+"""Seconds that a program waits at most for commands that look whether one has the store open."""
 RIGHTS = "this user must be able to read and write it, and to write to its folder"
 
 
@@ -64,7 +69,7 @@ def check_file(path: str) -> None:
     try:
         uri = f"{pathlib.Path(path).absolute().as_uri()}?mode=ro&immutable=1"
         with contextlib.closing(sqlite3.connect(uri, uri=True)) as db:
-            db.execute("PRAGMA schema_version").fetchone()
+            check_tables(db, path)
     except sqlite3.Error as error:
         # of anything else, as a page that another program writes just now, the opening itself tells
         if getattr(error, "sqlite_errorcode", None) == sqlite3.SQLITE_NOTADB:
@@ -73,11 +78,107 @@ def check_file(path: str) -> None:
             ) from error
 
 
+def check_tables(db: sqlite3.Connection, path: str) -> None:
+    """Raises `InvalidStore` where a database has tables, and these are not a store's."""
+    (version,) = db.execute("PRAGMA user_version").fetchone()
+    names = {name for (name,) in db.execute("SELECT name FROM sqlite_master")}
+    if names and (not version or "sagas" not in names):
+        raise InvalidStore(
+            f"{path}: this is a database of another program, and not a store. Give the path of a "
+            "store, or of a file that does not exist"
+        )
+
+
 def lock_of(path: str | os.PathLike[str]) -> str:
     """The file that the program that has a store open holds: one for all links to the store, as
     SQLite has one WAL for them.
     """
     return f"{os.path.realpath(path)}.lock"
+
+
+def open_lock(path: str, access: int) -> int:
+    """Opens a file that is there to be locked, and makes it where it is missing. A forked child
+    does not keep it. Raises `StoreUnavailable`.
+    """
+    try:
+        lock = os.open(path, access | os.O_CREAT | os.O_CLOEXEC, 0o644)
+    except FileNotFoundError as error:
+        raise StoreUnavailable(
+            f"folder {os.path.dirname(path)} does not exist. Create it first"
+        ) from error
+    except PermissionError as error:
+        owner = owner_of(path)
+        theirs = (
+            f"it belongs to {owner}. Open the store as {owner}, or change the owner of "
+            "the store's files (chown)"
+        )
+        remedy = (
+            theirs if owner else f"{error.strerror}. This user must be able to write to its folder"
+        )
+        raise StoreUnavailable(f"{path}: {remedy}") from error
+    except OSError as error:
+        raise StoreUnavailable(f"{path}: {error.strerror}") from error
+    private.add(lock)
+    return lock
+
+
+def take_lock(path: str, access: int = os.O_RDWR) -> int | None:
+    """Locks a file for this program, and makes it where it is missing; None where another one has
+    it. Commands that look (`is_held`) share the lock for a moment, and are waited for. Raises
+    `StoreUnavailable`.
+    """
+    lock, end = open_lock(path, access), time.monotonic() + LOOKS
+    try:
+        while not try_lock(lock, fcntl.LOCK_EX):
+            if not try_lock(lock, fcntl.LOCK_SH) or time.monotonic() > end:
+                close_lock(lock)
+                return None
+            fcntl.flock(lock, fcntl.LOCK_UN)
+            os.sched_yield()
+    except OSError as error:
+        close_lock(lock)
+        raise StoreUnavailable(f"{path}: {error.strerror}") from error
+    return lock
+
+
+def try_lock(lock: int, manner: int) -> bool:
+    """Takes a lock if it is free. False where it is not."""
+    try:
+        fcntl.flock(lock, manner | fcntl.LOCK_NB)
+    except BlockingIOError:
+        return False
+    return True
+
+
+def holder_of(path: str) -> str:
+    """The number of the process that has a lock, or that had it last, as far as that is told."""
+    try:
+        text = pathlib.Path(path).read_text(encoding="utf-8", errors="replace")
+    except OSError:
+        return ""
+    return text if len(text) <= 20 and text.isdigit() else ""
+
+
+def close_lock(lock: int) -> None:
+    """Ends a lock, also where a process that was just forked still has it."""
+    private.discard(lock)
+    with contextlib.suppress(OSError):
+        fcntl.flock(lock, fcntl.LOCK_UN)
+    os.close(lock)
+
+
+def is_held(path: str | os.PathLike[str]) -> bool:
+    """Whether a program has a store open."""
+    try:
+        lock = os.open(lock_of(path), os.O_RDONLY | os.O_CLOEXEC)
+    except FileNotFoundError:
+        return False
+    except OSError:  # another user's: a program may have it
+        return True
+    try:  # shared, so that two looks do not take each other for a program
+        return not try_lock(lock, fcntl.LOCK_SH)
+    finally:
+        os.close(lock)
 
 
 def there(path: str | int) -> tuple[int, int]:
@@ -103,21 +204,29 @@ def owner_of(path: str) -> str | None:
         return f"user {user}"
 
 
-def migrate(db: sqlite3.Connection, path: str) -> None:
-    """Makes the tables where there are none, in one transaction. Raises `StoreSchemaTooNew`."""
+def migrate(db: sqlite3.Connection, path: str) -> int:
+    """Makes the tables where there are none, in one transaction; returns the version that was
+    there. Raises `StoreSchemaTooNew` and `InvalidStore`.
+    """
     db.execute("BEGIN IMMEDIATE")
-    version = db.execute("PRAGMA user_version").fetchone()[0]
-    if version > VERSION:
+    version = int(db.execute("PRAGMA user_version").fetchone()[0])
+    try:
+        if version > VERSION:
+            raise StoreSchemaTooNew(
+                f"{path}: its tables have version {version}, and this program knows "
+                f"{VERSION}. Use a later release"
+            )
+        check_tables(db, path)
+    except BaseException:
         db.execute("ROLLBACK")
-        raise StoreSchemaTooNew(
-            f"{path}: its tables have version {version}, and this program knows "
-            f"{VERSION}. Use a later release"
-        )
+        raise
     if version < VERSION:
         for statement in statements():
             db.execute(statement)
+    db.execute(STARTED)
     db.execute(f"PRAGMA user_version = {VERSION}")  # also where it is so: the file can be written
     db.execute("COMMIT")
+    return version
 
 
 def lengthen(db: sqlite3.Connection) -> None:

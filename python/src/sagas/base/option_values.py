@@ -1,0 +1,52 @@
+"""Numbers that options of the commands take, as types of `argparse`."""
+
+from __future__ import annotations
+
+import argparse
+import re
+from collections.abc import Callable
+
+MOST = 10**12
+"""No option means more than this, and the integers of each database hold it."""
+MOST_SHOWN = 40
+"""Characters of a value that a message repeats."""
+
+
+def integer_from(least: int) -> Callable[[str], int]:
+    """Return a type for integers from this one on."""
+
+    def read(text: str) -> int:
+        if not re.fullmatch(r"[0-9]{1,13}", text) or not least <= int(text) <= MOST:
+            raise invalid(text, f"an integer from {least} to {MOST}")
+        return int(text)
+
+    return read
+
+
+def positive(text: str) -> float:
+    """A number above 0. Raises `argparse.ArgumentTypeError`."""
+    found = _number(text)
+    if not 0 < found <= MOST:
+        raise invalid(text, f"a number above 0, up to {MOST}")
+    return found
+
+
+def not_negative(text: str) -> float:
+    """A number of 0 or more. Raises `argparse.ArgumentTypeError`."""
+    found = _number(text)
+    if not 0 <= found <= MOST:
+        raise invalid(text, f"a number from 0 to {MOST}")
+    return found
+
+
+def _number(text: str) -> float:
+    try:
+        return float(text)
+    except ValueError:
+        return float("nan")
+
+
+def invalid(text: str, rule: str) -> argparse.ArgumentTypeError:
+    """What is said of a value that an option does not take."""
+    shown = text if len(text) <= MOST_SHOWN else f"{text[:MOST_SHOWN]}..."
+    return argparse.ArgumentTypeError(f"invalid value {shown!r}: use {rule}")
