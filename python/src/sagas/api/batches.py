@@ -7,7 +7,7 @@ import builtins
 import contextlib
 import threading
 from collections.abc import Callable
-from typing import Any, TypeVar
+from typing import TypeVar
 
 from sagas.base.errors import StoreUnavailable
 from sagas.core.attention import Attention
@@ -15,7 +15,7 @@ from sagas.core.results import DefinitionCount, Summary
 from sagas.definition import arguments
 from sagas.definition.labels import Labels, checked
 from sagas.definition.saga import Saga
-from sagas.inspection import lists
+from sagas.inspection import lists, pages
 from sagas.inspection.question import Question
 from sagas.storage import admin
 from sagas.storage.batches import Batch, BatchResult
@@ -27,6 +27,13 @@ T = TypeVar("T")
 def name_of(saga: Saga | str | None) -> str | None:
     """The name of a definition."""
     return saga.name if isinstance(saga, Saga) else saga
+
+
+def _page(
+    of: Filter, after: Summary | int | None, limit: int
+) -> Question[builtins.list[Summary]]:  # fmt: skip
+    place = yield from pages.position(after)
+    return (yield from pages.page(of=of, after=place, newest=False, most=limit))
 
 
 async def beside(name: str, work: Callable[[admin.Source], T]) -> T:
@@ -62,35 +69,35 @@ class Batches:
         phase: str | None = None,
         saga: Saga | str | None = None,
         labels: Labels | None = None,
-        after: int | None = None,
+        after: Summary | int | None = None,
         limit: int = 100,
     ) -> builtins.list[Summary]:
-        """Return a page of sagas, ordered by their ids.
+        """Return a page of sagas, ordered by their starts, the oldest first.
 
-        In a shard, that is the order in which they were started. A saga of another shard may have
-        started later, and have a smaller id: another node started it, or its steps come from its
-        input. So use `on_event` to learn of new sagas, and not `after`. A client's starts that no
-        node has begun are left out.
+        Pages neither repeat a saga nor leave out one that was there when the first was asked for.
+        A saga that starts meanwhile may come before `after`, because clocks of nodes differ. So use
+        `on_event` to learn of new sagas, and not `after`. A client's starts that no node has begun
+        are left out.
 
         Args:
             phase: `open`, `completed`, `recovered`, `stuck` or `resolved`; or `undo_failed`, for
                 those recovered sagas of which a compensation failed permanently (default: all).
             saga: A definition, or its name (default: all).
             labels: Labels that the sagas have, all of these (default: any).
-            after: The `id` of the last saga of the page before (default: from the start).
+            after: The last saga of the page before, which may be deleted meanwhile; or its `id`,
+                while the store has the saga (default: from the start).
             limit: Maximum number of sagas (default: 100).
 
         Raises:
-            ValueError: The phase or the limit is not valid.
-            TypeError: `after` is not an id.
+            ValueError: The phase or the limit is not valid, or no saga has the id.
+            TypeError: `after` is neither a saga of a list nor an id.
             InvalidLabel: A label is not valid.
             StoreUnavailable: The database does not answer.
             Closed: The store is closed.
         """
-        lists.check_page(phase, after, limit)
-        name, having = name_of(saga), checked(labels)
-        words: dict[str, Any] = {"phase": phase, "saga": name, "labels": having, "after": after}
-        return await self._answer(lists.page(**words, newest=False, most=limit))
+        pages.check(phase, after, limit)
+        of = Filter(phase, name_of(saga), checked(labels))
+        return await self._answer(_page(of, after, limit))
 
     async def count(
         self,
@@ -112,7 +119,7 @@ class Batches:
             StoreUnavailable: The database does not answer.
             Closed: The store is closed.
         """
-        lists.check_page(phase, None, 1)
+        pages.check(phase, None, 1)
         return await self._answer(lists.count(Filter(phase, name_of(saga), checked(labels))))
 
     async def definitions(self) -> builtins.list[DefinitionCount]:

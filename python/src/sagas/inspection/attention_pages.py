@@ -16,26 +16,26 @@ from sagas.inspection.question import Query, Question
 from sagas.storage.filters import Filter
 from sagas.storage.queries import PHASES
 
-Place = Optional[tuple[int, int]]
-"""The last entry of the page before: its saga, and its step, or -1."""
+Place = Optional[tuple[float, int, int]]
+"""The last entry of the page before: the start of its saga, that, and its step, or -1."""
 APPROVAL = "approval"
 KINDS = (*(reason.value for reason in AttentionReason), APPROVAL)
 CAUSE = """(SELECT x.value FROM attempts x WHERE x.id = s.id AND x.event = 'fail'
   ORDER BY x.at DESC, x.step LIMIT 1)"""
 """What the step raised that failed last."""
 STUCK = f"""
-SELECT s.id, -1 AS place, s.key, s.saga, d.definition, '' AS action,
+SELECT s.at AS started, s.id, -1 AS place, s.key, s.saga, d.definition, '' AS action,
   s.outcome, {CAUSE}, s.ended, NULL
 FROM sagas s {OF_SHARD} WHERE {PHASES["stuck"]}
 """
 UNDO_FAILED = f"""
-SELECT s.id, r.step, s.key, s.saga, d.definition, 'undo', NULL, r.value,
+SELECT s.at AS started, s.id, r.step, s.key, s.saga, d.definition, 'undo', NULL, r.value,
   r.at, NULL
-FROM sagas s JOIN attempts r ON r.id = s.id AND r.event = 'undo_fail' {OF_SHARD}
-WHERE {PHASES["undo_failed"]}
+FROM sagas s CROSS JOIN attempts r {OF_SHARD}
+WHERE r.id = s.id AND r.event = 'undo_fail' AND {PHASES["undo_failed"]}
 """
 HELD = f"""
-SELECT s.id, h.step, s.key, s.saga, d.definition, h.action, NULL, h.detail,
+SELECT s.at AS started, s.id, h.step, s.key, s.saga, d.definition, h.action, NULL, h.detail,
   h.since, h.until
 FROM suspensions h JOIN sagas s ON s.id = h.id AND s.phase IS NULL {OF_SHARD}
 WHERE h.reason = """
@@ -59,6 +59,7 @@ class Entry:
     steps because of which it is. `detail`: what was raised, or what cannot be read."""
 
     kind: str
+    started: float
     id: int
     place: int
     key: str
@@ -97,20 +98,21 @@ def entries(
     newest: bool = False,
     most: int = 100,
 ) -> Question[list[Entry]]:
-    """A page of one of `KINDS`, by the age of the sagas. `of`: without a phase; `undo`: of a
+    """A page of one of `KINDS`, by the starts of the sagas. `of`: without a phase; `undo`: of a
     `step`, whether its compensation is meant; None: both are."""
     text, place = BY_KIND[kind]
     wheres, words = _among(of)
     if after is not None:
-        sign = "<" if newest else ">"
-        wheres.append(f"s.id {sign}= ? AND (s.id <> ? OR {place} > ?)")
-        words += [after[0], *after]
-    order = f"ORDER BY s.id{' DESC' if newest else ''}{'' if place == '-1' else ', ' + place}"
+        sign, (at, id, _) = "<" if newest else ">", after
+        wheres.append(f"(+s.at, s.id) {sign}= (?, ?) AND (s.id <> ? OR {place} > ?)")
+        words += [at, id, *after[1:]]
+    down = " DESC" if newest else ""  # few are sorted: a + keeps from the index of all
+    order = f"ORDER BY +s.at{down}, s.id{down}{'' if place == '-1' else ', ' + place}"
     wanted = most if step is None else MOST_GROUPED
     query = " AND ".join([text, *wheres]) + f" {order} LIMIT ?"
     rows = yield Query(query, (*words, wanted))
-    names = yield from names_module.of_digests(row[4] for row in rows)
-    found = (_entry(kind, names, *row) for row in rows if row[4] in names)
+    names = yield from names_module.of_digests(row[5] for row in rows)
+    found = (_entry(kind, names, *row) for row in rows if row[5] in names)
     if step is None:
         return [*found]
     return [one for one in found if one.step == step and undo in (None, one.undo)][:most]
@@ -123,15 +125,16 @@ def _among(of: Filter) -> tuple[list[str], list[Any]]:
 
 
 def _entry(
-    kind: str, names: Names, id: int, place: int, key: str, saga: str, digest: str,
-    action: str, outcome: str | None, detail: str | None, *times: Any,
+    kind: str, names: Names, started: float, id: int, place: int, key: str, saga: str,
+    digest: str, action: str, outcome: str | None, detail: str | None, *times: Any,
 ) -> Entry:  # fmt: skip
     steps = names.of(digest)
     blocking = chain_of(steps, outcome) if kind == AttentionReason.STUCK else []
     if detail is not None and kind in (AttentionReason.STUCK, AttentionReason.UNDO_FAILED):
         detail = str((json.loads(detail) or {}).get("error", ""))
     step = None if place < 0 else steps[place]
-    return Entry(kind, id, place, key, saga, step, action == "undo", blocking, detail, *times)
+    undo = action == "undo"
+    return Entry(kind, started, id, place, key, saga, step, undo, blocking, detail, *times)
 
 
 def count(

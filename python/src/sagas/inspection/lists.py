@@ -9,14 +9,12 @@ from typing import Any, Optional
 from sagas.core import states
 from sagas.core.attention import Attention, AttentionReason
 from sagas.core.batch import SagaRow
+from sagas.core.exhaustion import FAILED_BEFORE
 from sagas.core.history import MISSES, end_of, was_called
 from sagas.core.results import DefinitionCount, SagaResult, Summary, UnknownAttempt
-from sagas.definition import arguments
-from sagas.definition import labels as labels_module
-from sagas.definition import tokens, validation
+from sagas.definition import tokens
 from sagas.definition.capacity import SHARD_CAPACITY
 from sagas.definition.compiled import Kind, version_of
-from sagas.definition.labels import Labels
 from sagas.inspection import names as names_module
 from sagas.inspection.names import OF_SHARD, Names
 from sagas.inspection.question import Query, Question, Row
@@ -68,19 +66,9 @@ but names."""
 UNASKED = """NOT EXISTS (SELECT 1 FROM operator_commands r WHERE r.key = s.key
   AND r.command = 'abort' AND (r.answer IS NULL OR r.answer IN ('true', 'false')))"""
 """Nobody has asked to abort a saga `s`. Where that was refused, it always is."""
+OLDEST = "ORDER BY +s.at, s.id"
+"""The oldest first, of few sagas: a + keeps the databases from the index of all."""
 MOST, ALL = 100, 1 << 60
-
-
-def check_page(phase: str | None, after: int | None, limit: int) -> None:
-    """Raises `ValueError` or `TypeError` where no page is asked for by these words."""
-    if phase is not None and phase not in PHASES:
-        raise ValueError(f"phase={phase!r}: must be one of {', '.join(PHASES)}")
-    if after is not None and not validation.is_count(after):
-        raise TypeError(
-            f"after={after!r}: must be the id of the last saga of the page before: "
-            "list(after=page[-1].id)"
-        )
-    arguments.count("limit", limit)
 
 
 def summary_of(row: Row) -> Summary:
@@ -140,11 +128,11 @@ def count(filter: Filter) -> Question[int]:
 
 
 def to_abort(of: Filter, most: int) -> Question[tuple[int, list[str]]]:
-    """How many sagas of a filter nobody has asked to abort, and the keys of the first of them."""
+    """How many sagas of a filter nobody has asked to abort, and the keys of the oldest of them."""
     where, words = of.where()
     some = f"FROM sagas s WHERE {where} AND {UNASKED}"
     rows = yield Query(f"SELECT count(*) {some}", (*words,))
-    keys = yield Query(f"SELECT s.key {some} ORDER BY s.id LIMIT ?", (*words, most))
+    keys = yield Query(f"SELECT s.key {some} {OLDEST} LIMIT ?", (*words, most))
     return int(rows[0][0]), [str(key) for key, in keys]
 
 
@@ -163,40 +151,6 @@ def asked(sagas: Definitions = None) -> Question[dict[str, int]]:
     stuck = yield from count(Filter("stuck", sagas=sagas))
     undo_failed = yield from count(Filter("undo_failed", sagas=sagas))
     return {"stuck": stuck, "undo_failed": undo_failed, **told}
-
-
-def page(
-    *,
-    phase: str | None = None,
-    saga: str | None = None,
-    labels: Labels = labels_module.NONE,
-    search: str | None = None,
-    before: int | None = None,
-    after: int | None = None,
-    newest: bool | None = None,
-    most: int | None = 50,
-    sagas: Definitions = None,
-    of: Filter | None = None,
-) -> Question[list[Summary]]:
-    """A page of the list, the newest first, or the oldest first: those `before` an id, or `after`
-    one. `newest`: which are first; by default the oldest where `after` is given.
-
-    `most`: None for all; `phase`, `saga`, `labels`, `search`, `sagas`: as of a `Filter`, or `of`.
-    """
-    where, words = (of or Filter(phase, saga, labels, search, sagas)).where()
-    wheres = [where]
-    for id, condition in ((before, "s.id < ?"), (after, "s.id > ?")):
-        if id is not None:
-            wheres.append(condition)
-            words.append(id)
-    order = "DESC" if (after is None if newest is None else newest) else "ASC"
-    condition = " AND ".join(wheres)
-    if most is not None:  # of others no labels are put together
-        lot = f"SELECT s.id FROM sagas s WHERE {condition} ORDER BY s.id {order} LIMIT ?"
-        condition, words = f"s.id IN ({lot})", [*words, most]
-    query = f"SELECT {SUMMARY} FROM sagas s WHERE {condition} ORDER BY s.id {order}"
-    rows = yield Query(query, (*words,))
-    return [summary_of(row) for row in rows]
 
 
 def waits(
@@ -245,6 +199,8 @@ def _waits(
 ) -> Waits:  # fmt: skip
     since, until, detail = times
     name = names.of(digest)[step]
+    if why in FAILED_BEFORE:  # its row counts on from the engine's last attempt, or from a retry
+        count += number - 1
     told = why, max(0, count), since, until, detail
     return Waits(id, key, saga, name, action == "undo", number, *told)
 
@@ -254,7 +210,7 @@ def stuck(most: int = MOST, sagas: Definitions = None) -> Question[list[tuple[Su
     rows = yield Query(
         f"""
         SELECT {SUMMARY}, d.definition, s.outcome FROM sagas s {OF_SHARD}
-        WHERE {PHASES["stuck"]} AND {among(sagas)} ORDER BY s.id LIMIT ?
+        WHERE {PHASES["stuck"]} AND {among(sagas)} {OLDEST} LIMIT ?
         """,
         (*(sagas or ()), most),
     )
@@ -277,7 +233,7 @@ def stuck_results(kind_of: Callable[[str], Kind], most: int) -> Question[list[Sa
     rows = yield Query(
         f"""
         SELECT {SAGA}, d.definition FROM sagas s {OF_SHARD}
-        WHERE {PHASES["stuck"]} ORDER BY s.id LIMIT ?
+        WHERE {PHASES["stuck"]} {OLDEST} LIMIT ?
         """,
         (most,),
     )
@@ -319,7 +275,7 @@ def attention(most: int = MOST) -> Question[list[Attention]]:
     stuck_sagas = f"""
         SELECT s.key, s.saga, d.definition, 'stuck', NULL, NULL, s.outcome,
           s.ended
-        FROM sagas s {OF_SHARD} WHERE {PHASES["stuck"]} ORDER BY s.id LIMIT ?
+        FROM sagas s {OF_SHARD} WHERE {PHASES["stuck"]} ORDER BY s.ended, s.id LIMIT ?
         """
     attempts = f"""
         SELECT s.key, s.saga, d.definition,
@@ -330,7 +286,7 @@ def attention(most: int = MOST) -> Question[list[Attention]]:
     raised = f"""
         SELECT s.key, r.step, r.event, r.value FROM attempts r JOIN sagas s ON s.id = r.id
         WHERE r.event IN {MISSES} AND r.id IN (
-          SELECT s.id FROM sagas s WHERE {PHASES["stuck"]} ORDER BY s.id LIMIT ?)
+          SELECT s.id FROM sagas s WHERE {PHASES["stuck"]} ORDER BY s.ended, s.id LIMIT ?)
         ORDER BY r.at, r.number
         """
     rows = yield Query(stuck_sagas, (most,))
@@ -357,8 +313,9 @@ def undone_query(most: int, sagas: Definitions = None) -> Query:
         f"""
         SELECT s.key, s.saga, d.definition,
           'undo_failed', r.step, 'undo', r.value, r.at
-        FROM sagas s JOIN attempts r ON r.id = s.id AND r.event = 'undo_fail' {OF_SHARD}
-        WHERE {PHASES["undo_failed"]} AND {among(sagas)} ORDER BY s.id, r.step LIMIT ?
+        FROM sagas s CROSS JOIN attempts r {OF_SHARD}
+        WHERE r.id = s.id AND r.event = 'undo_fail' AND {PHASES["undo_failed"]}
+          AND {among(sagas)} ORDER BY r.at, s.id, r.step LIMIT ?
         """,
         (*(sagas or ()), most),
     )

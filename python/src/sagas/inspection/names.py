@@ -4,8 +4,7 @@ from __future__ import annotations
 
 from collections.abc import Iterable
 
-import tomllib
-
+from sagas.definition import listed_steps
 from sagas.definition.groups import Groups
 from sagas.inspection.question import Query, Question
 from sagas.storage.queries import OF_SHARD as OF_SHARD
@@ -47,7 +46,7 @@ class Names:
 
 def step_names(definition: str) -> list[str]:
     """The names of a definition's steps."""
-    return [str(step["name"]) for step in tomllib.loads(definition)["step"]]
+    return [step.name for step in listed_steps.of(definition)]
 
 
 def of_digests(digests: Iterable[str]) -> Question[Names]:

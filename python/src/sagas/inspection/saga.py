@@ -4,10 +4,8 @@ from __future__ import annotations
 
 import json
 from collections import Counter
-from collections.abc import Mapping
+from collections.abc import Callable, Mapping
 from typing import Any
-
-import tomllib
 
 from sagas.base.errors import NoSuchSaga
 from sagas.core import states as states_module
@@ -27,7 +25,7 @@ from sagas.core.history import (
 )
 from sagas.core.results import HistoryEvent, Summary
 from sagas.core.states import EarlyReason, StepState
-from sagas.definition import tokens
+from sagas.definition import listed_steps, tokens
 from sagas.definition.capacity import SHARD_CAPACITY
 from sagas.definition.control import Progress
 from sagas.engine.plan import Plan
@@ -38,6 +36,7 @@ from sagas.inspection.question import Query, Question
 from sagas.inspection.views import Note, Noted, SagaView, StepView
 from sagas.storage import queries
 
+Read = Callable[[str], Any]
 MOST_HELD = 10_000
 SAGA = f"""
 SELECT {queries.SAGA}, recovered, undo_failed, {queries.LABELS}, deadline
@@ -87,12 +86,12 @@ def _token(id: int) -> Question[str]:
 class _Kept:
     """What the store has of a saga, read: its definition, attempts and events."""
 
-    def __init__(self, row: SagaRow, rows: list[tuple[Any, ...]]) -> None:
+    def __init__(self, row: SagaRow, rows: list[tuple[Any, ...]], read: Read) -> None:
         known = queries.known(rows, row.key)
         self.row, self.definition, self.shape = row, known.definition, known.shape
         self.names = step_names(known.definition)
         self.lines = lines_of(known.chunks, row.id % SHARD_CAPACITY)
-        self.attempts = attempts_of(self.names, known.results)
+        self.attempts = attempts_of(self.names, known.results, read)
         self.history = Projection(self.names, self.lines)
 
     @property
@@ -106,10 +105,10 @@ class _Kept:
         return Plan(self.row.saga, self.row.key, self.definition, *self.history.adopted)
 
 
-def _kept(row: SagaRow) -> Question[_Kept]:
+def _kept(row: SagaRow, read: Read = json.loads) -> Question[_Kept]:
     """Raises `NoSuchSaga` where it was let go since its row was read."""
     text, *words = queries.known_words(row.id, history=True)
-    return _Kept(row, (yield Query(text, (*words,), is_long=True)))
+    return _Kept(row, (yield Query(text, (*words,), is_long=True)), read)
 
 
 def plan(row: SagaRow) -> Question[Plan | None]:
@@ -131,14 +130,17 @@ def notes(key: str) -> Question[list[Note]]:
     ]
 
 
-def view(key: str) -> Question[SagaView | None]:
-    """All of a saga, if there is one with this key."""
+def view(key: str, read: Read = json.loads) -> Question[SagaView | None]:
+    """All of a saga, if there is one with this key. `read`: of the JSON of its input and of its
+    results."""
     while rows := (yield Query(SAGA, (key,))):
         (*columns, recovered, undo_failed, labels, deadline) = rows[0]
         row = SagaRow(*columns)
         try:
             labels = queries.labels_of(labels)
-            found = yield from _view(row, bool(recovered), bool(undo_failed), labels, deadline)
+            found = yield from _view(
+                row, bool(recovered), bool(undo_failed), labels, deadline, read
+            )
         except NoSuchSaga:  # it was let go: another may have the key
             continue
         if (yield Query("SELECT 1 FROM sagas WHERE id = ?", (row.id,))):  # so all is of it
@@ -148,10 +150,10 @@ def view(key: str) -> Question[SagaView | None]:
 
 def _view(
     row: SagaRow, recovered: bool, undo_failed: bool, labels: dict[str, str],
-    deadline: float | None,
+    deadline: float | None, read: Read,
 ) -> Question[SagaView]:  # fmt: skip
     """All of a saga that is there. Raises `NoSuchSaga` where it was let go meanwhile."""
-    kept = yield from _kept(row)
+    kept = yield from _kept(row, read)
     held = yield from waits(MOST_HELD, person=False, key=row.key)
     done = yield from notes(row.key)
     token = yield from _token(row.id)
@@ -176,7 +178,7 @@ def _view(
             deadline,
         ),
         aborted=history.aborted,
-        input=json.loads(row.input),
+        input=read(row.input),
         end=json.loads(row.end) if row.end else None,
         results={n: results[n] for n, state in states if state in STANDS and n in results},
         steps=steps_of(kept.definition, history, kept.attempts, progress, early),
@@ -209,12 +211,12 @@ def steps_of(
         one.step for one in attempts if not one.undo and not was_called(one.outcome, one.value)
     )
     found = []
-    for place, step in enumerate(tomllib.loads(definition)["step"]):
-        name, state = step["name"], history.states[place].value
+    for place, step in enumerate(listed_steps.of(definition)):
+        name, state = step.name, history.states[place].value
         found.append(
             StepView(
                 name,
-                list(step.get("needs", ())),
+                list(step.needs),
                 state,
                 history.attempts[place] - skipped[name],
                 (done if state in STANDS else last).get(name),

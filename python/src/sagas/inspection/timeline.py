@@ -7,11 +7,10 @@ import json
 from collections.abc import Iterable
 from typing import Any
 
-import tomllib
-
 from sagas.core.history import MISSES, STARTS, Attempted, Stretch, was_called
 from sagas.core.spans import AGAIN_WORD, LEASED_WORD, PERSON_WORD, QUEUED_WORD, RUNNING_WORD
 from sagas.core.states import Suspension
+from sagas.definition import listed_steps
 from sagas.inspection.views import Note, SagaView, Waits
 
 Key = tuple[str, bool, int]
@@ -230,9 +229,7 @@ def _ready(view: SagaView) -> dict[Key, float]:
     """Since when each attempt could begin: the needs of its step were committed, or what needed it
     was undone; a plan was adopted; the attempt before it had ended."""
     names = [step.name for step in view.steps]
-    needs = {
-        step["name"]: list(step.get("needs", ())) for step in tomllib.loads(view.definition)["step"]
-    }
+    needs = {step.name: [*step.needs] for step in listed_steps.of(view.definition)}
     above: dict[str, list[str]] = {}
     for name, some in needs.items():
         for need in some:

@@ -24,7 +24,7 @@ class Waits:
     (`sagas.ActiveAttempt`).
 
     `until`: when that is over, in seconds of wall time, or None; `said`: what was raised last,
-    or the worker's name; `count`: how often nobody knew.
+    or the worker's name; `count`: how often nobody knew, or it failed, since a person retried it.
     """
 
     id: int

@@ -5,8 +5,8 @@ from __future__ import annotations
 import dataclasses
 import json
 
-import tomllib
-
+from sagas.core.history import MISSES
+from sagas.definition import listed_steps
 from sagas.engine import library
 from sagas.engine.plan import Plan
 from sagas.inspection.views import SagaView, StepView
@@ -50,7 +50,7 @@ def of(
         assumed[failed] = "undo_failed" if states[failed] == "undoing" else "failed"
     if done is not None:
         assumed[done] = ENDS[states[done]]
-    states |= assumed
+    states |= _failed(view) | assumed
     case: dict[str, object] = {"states": [TOLD.get(state, state) for state in states.values()]}
     if aborted:
         case["aborted"] = True
@@ -59,10 +59,28 @@ def of(
     return WhatIf(Plan(view.saga, view.key, view.definition, case, answer), assumed)
 
 
+def _failed(view: SagaView) -> dict[str, str]:
+    """The steps of which a further attempt fails without a call, since an earlier one failed
+    permanently: for the engine they are still to be attempted.
+    """
+    final = {
+        (one.step, one.undo)
+        for one in view.attempts
+        if one.outcome in MISSES and (one.value or {}).get("final")
+    }
+    ends = {("waiting", False): "failed", ("committed", True): "undo_failed"}
+    return {
+        step.name: end
+        for step in view.steps
+        for (state, undo), end in ends.items()
+        if step.state == state and (step.name, undo) in final
+    }
+
+
 def _assumed(view: SagaView, aborted: bool) -> dict[str, str]:
     """How each step ends that is under way: one that waits and was not called is given up."""
     waits = {one.step: one.why for one in view.held if not one.undo}
-    tries = {one["name"]: one.get("tries", 1) for one in tomllib.loads(view.definition)["step"]}
+    tries = {one.name: one.tries for one in listed_steps.of(view.definition)}
     found = {}
     for step in view.steps:
         if step.state not in ENDS:

@@ -4,7 +4,10 @@ from __future__ import annotations
 
 import datetime
 import json
+from collections.abc import Iterable, Iterator
 from typing import Any
+
+from sagas.inspection.stored_values import StoredValue, whole
 
 STATES = {
     "waiting": "waiting",
@@ -129,10 +132,21 @@ def ago(seconds: float) -> str:
     return form.format(int(max(0.0, long)), "s")
 
 
+LINES = json.JSONEncoder(indent=2, ensure_ascii=False, default=whole)
+LINE = json.JSONEncoder(ensure_ascii=False, default=whole)
+PIECE = 1000
+"""Characters of a long text that are looked at together."""
+
+
 def pretty(value: Any, most: int = 20_000) -> str:
-    """A value as JSON over several lines."""
-    text = json.dumps(value, indent=2, ensure_ascii=False)
-    return text if len(text) <= most else text[:most] + "\n… (shortened; see the saga's log)"
+    """A value as JSON over several lines. Of a large one only what is shown is written."""
+    found, count = list[str](), 0
+    for chunk in LINES.iterencode(value):
+        found.append(chunk)
+        count += len(chunk)
+        if count > most:
+            return "".join(found)[:most] + "\n… (shortened; see the saga's log)"
+    return "".join(found)
 
 
 def one_line(value: Any) -> str:
@@ -144,8 +158,29 @@ def one_line(value: Any) -> str:
 
 
 def short(value: Any, most: int = 90) -> str:
-    """A value in one line."""
+    """The beginning of `one_line`. Of a large value only what is shown is written."""
+    if isinstance(value, StoredValue):
+        return _beginning([value.beginning(most)], most)[: most - 1] + "…"
     if isinstance(value, dict) and isinstance(value.get("error"), str):
         value = value["error"]
-    text = one_line(value)
+    if value is None:
+        return ""
+    text = _beginning([value] if isinstance(value, str) else LINE.iterencode(value), most)
     return text if len(text) <= most else text[: most - 1] + "…"
+
+
+def _beginning(chunks: Iterable[str], most: int) -> str:
+    """A text in one line; of a longer one the beginning, with more than `most` characters."""
+    found, count = list[str](), 0
+    for piece in _pieces(chunks):
+        found.append(piece)
+        count += sum(map(len, piece.split()))
+        if count > most:
+            break
+    return " ".join("".join(found).split())
+
+
+def _pieces(chunks: Iterable[str]) -> Iterator[str]:
+    for chunk in chunks:
+        for at in range(0, len(chunk), PIECE):
+            yield chunk[at : at + PIECE]

@@ -6,6 +6,8 @@ read.
 
 from __future__ import annotations
 
+import functools
+
 from starlette.requests import Request
 
 from sagas.server.auth import LOCAL, ROLES, May, Who
@@ -17,6 +19,8 @@ WHO = "sagas.who"
 """In a scope: the name of whoever asks, for the log."""
 OWNER = "sagas.owner"
 """In a scope: the `Who`, once the route has let the request in."""
+CHECK = "sagas.check"
+"""In a scope: a function that raises `Problem` where whoever asks may not do so any more."""
 
 
 def service_of(request: Request) -> Service:
@@ -76,7 +80,17 @@ def admit(request: Request, what: May) -> Who:
         raise Problem("Forbidden", f"{told}: take a token of the role {good}")
     limited(request, who)
     request.scope[OWNER] = who
+    request.scope[CHECK] = functools.partial(check_still, request, who)
     return who
+
+
+async def body_of(request: Request) -> bytes:
+    """The whole body. Each route reads it by this, since it may take a while to come: raises
+    `Problem` where whoever sends it may not do so any more."""
+    body = await request.body()
+    if CHECK in request.scope:
+        request.scope[CHECK]()
+    return body
 
 
 def is_still(request: Request, who: Who) -> bool:
@@ -89,7 +103,12 @@ def check_still(request: Request, who: Who) -> None:
     """Raises `Problem` where the token has ended since the request was let in, or was changed."""
     if not is_still(request, who):
         whose(request)  # raises where it has ended
-        raise Problem("RightsChanged", "what your token may was changed meanwhile: ask again")
+        raise rights_changed()
+
+
+def rights_changed() -> Problem:
+    """The token is there, and is kept to something else than it was."""
+    return Problem("RightsChanged", "what your token may was changed meanwhile: ask again")
 
 
 def check_definition(who: Who, definition: str | None) -> None:

@@ -340,18 +340,18 @@ class Sessions:
 
 class Rates:
     """How many requests each may still make: a bucket that fills at a rate, up to two seconds'
-    worth.
+    worth, and up to one at least.
     """
 
     def __init__(self, rate: float, most: int = 10_000) -> None:
-        self.rate, self.most = rate, most
+        self.rate, self.most, self._size = rate, most, max(1.0, 2 * rate)
         self._there: OrderedDict[str, tuple[float, float]] = OrderedDict()
 
     def take(self, name: str) -> bool:
         """Whether one more request is within the rate."""
         now = time.monotonic()
-        left, at = self._there.pop(name, (2 * self.rate, now))
-        left = min(2 * self.rate, left + (now - at) * self.rate)
+        left, at = self._there.pop(name, (self._size, now))
+        left = min(self._size, left + (now - at) * self.rate)
         self._there[name] = (left - 1 if left >= 1 else left), now
         if len(self._there) > self.most:
             self._there.popitem(last=False)

@@ -14,12 +14,15 @@ from sagas.server.event_stream import CHECK
 from sagas.server.middleware import GONE
 
 
-async def first(request: Request, who: Who, work: "asyncio.Future[Any]", seconds: float) -> bool:
+async def first(
+    request: Request, who: Who, work: "asyncio.Future[Any]", seconds: float,
+    *ends: "asyncio.Future[None]",
+) -> bool:  # fmt: skip
     """Waits for a piece of work, but no longer than the client, its token and the service are
-    there. Whether it is done; else it is cancelled, to its end. Raises `Problem` where the token
-    has ended."""
+    there, and until one of the `ends` is done. Whether it is done; else it is cancelled, to its
+    end. Raises `Problem` where the token has ended."""
     service, loop = service_of(request), asyncio.get_running_loop()
-    some = {work, request.scope[GONE], service.stopping}
+    some = {work, request.scope[GONE], service.stopping, *ends}
     slice = seconds if service.tokens is None else min(seconds, CHECK)
     until = loop.time() + seconds
     try:

@@ -13,13 +13,15 @@ import gc
 import importlib
 import ipaddress
 import pathlib
+import re
 import socket
 import sys
 from collections.abc import Iterable
 from typing import Any
 
 from sagas.api.store import Store
-from sagas.base.errors import DefinitionError, SagasError
+from sagas.base.errors import DefinitionError, InvalidStore, SagasError
+from sagas.base.option_values import integer_from, positive
 from sagas.definition import payloads
 from sagas.definition.blobs import check as check_blobs
 from sagas.definition.saga import Saga
@@ -80,7 +82,7 @@ def parser() -> argparse.ArgumentParser:
         "sagas at once (default: made of host and process)",
     )  # fmt: skip
     found.add_argument(
-        "--lease", type=float, default=10.0, metavar="SECONDS",
+        "--lease", type=positive, default=10.0, metavar="SECONDS",
         help="PostgreSQL only: seconds without a heartbeat before other services take over its "
         "sagas (default: 10)",
     )  # fmt: skip
@@ -112,7 +114,7 @@ def add_sagas(found: argparse.ArgumentParser) -> None:
         "steps",
     )  # fmt: skip
     found.add_argument(
-        "--concurrency", type=int, default=16, metavar="N",
+        "--concurrency", type=integer_from(1), default=16, metavar="N",
         help="maximum number of functions of --app that run at once (default: 16)",
     )  # fmt: skip
     found.add_argument(
@@ -125,7 +127,7 @@ def add_sagas(found: argparse.ArgumentParser) -> None:
         "(default: in the database)",
     )  # fmt: skip
     found.add_argument(
-        "--blob-threshold", type=int, default=65_536, metavar="BYTES",
+        "--blob-threshold", type=integer_from(1), default=65_536, metavar="BYTES",
         help="size above which --blobs keeps a value (default: 65536)",
     )  # fmt: skip
     found.add_argument(
@@ -155,15 +157,15 @@ def add_access(found: argparse.ArgumentParser) -> None:
 def add_limits(found: argparse.ArgumentParser) -> None:
     """The limits of requests."""
     found.add_argument(
-        "--most-body", type=int, default=1 << 20, metavar="BYTES",
+        "--most-body", type=integer_from(1), default=1 << 20, metavar="BYTES",
         help="maximum size of a request body (default: 1048576)",
     )  # fmt: skip
     found.add_argument(
-        "--most-connections", type=int, default=2000, metavar="N",
+        "--most-connections", type=integer_from(1), default=2000, metavar="N",
         help="maximum number of connections (default: 2000)",
     )  # fmt: skip
     found.add_argument(
-        "--rate", type=float, default=5000.0, metavar="N",
+        "--rate", type=positive, default=5000.0, metavar="N",
         help="maximum number of requests per second for each token, or for each address if there "
         "is no token file (default: 5000)",
     )  # fmt: skip
@@ -182,7 +184,7 @@ def networks_of(text: str) -> tuple[Network, ...]:
 def listen_of(text: str) -> tuple[str, int]:
     """Host and port. Raises `Trouble`."""
     host, found, port = text.rpartition(":")
-    if not found or not port.isdigit() or int(port) > 65535:
+    if not found or not re.fullmatch("[0-9]{1,5}", port) or int(port) > 65535:
         raise Trouble(f"invalid --listen {text!r}: use HOST:PORT, for example 127.0.0.1:8080")
     return host.strip("[]") or "127.0.0.1", int(port)
 
@@ -190,7 +192,7 @@ def listen_of(text: str) -> tuple[str, int]:
 def loaded(option: str, place: str) -> Any:
     """What a module has by a name. Raises `Trouble`."""
     module, _, name = place.partition(":")
-    if not name:
+    if not name or not module or module.startswith("."):
         raise Trouble(f"invalid {option} {place!r}: use MODULE:NAME")
     if "" not in sys.path:
         sys.path.insert(0, "")
@@ -204,7 +206,11 @@ def blobs_of(place: str | None) -> Any:
     """The blob store of an option: of a module, or a folder. Raises `Trouble`."""
     if place is None:
         return None
-    return loaded("--blobs", place) if ":" in place else FolderBlobStore(place)
+    if ":" in place:
+        return loaded("--blobs", place)
+    if pathlib.Path(place).exists() and not pathlib.Path(place).is_dir():
+        raise Trouble(f"--blobs {place}: this is a file; pass a directory, or MODULE:NAME")
+    return FolderBlobStore(place)
 
 
 def sagas_of(place: str) -> list[Saga]:
@@ -239,11 +245,10 @@ def settings_of(words: argparse.Namespace) -> Settings:
     sagas += sagas_of(words.app) if words.app else []
     if not sagas:
         raise Trouble("nothing to serve: pass --definitions DIR or --app MODULE:NAME")
-    if "://" in words.path and not factory.is_url(words.path):
-        raise Trouble(
-            f"{words.path.split('://')[0]}://: unknown kind of store; use an SQLite file or "
-            "postgresql://user@host/database"
-        )
+    try:
+        factory.check_name(words.path)
+    except InvalidStore as error:
+        raise Trouble(str(error)) from error
     if not factory.is_url(words.path):
         if words.record:
             raise Trouble("--record needs a postgresql:// URL: a file has one program, and no node")
@@ -383,7 +388,7 @@ def token(words: list[str]) -> int:
         print(f"sagas token: {error}", file=sys.stderr)
         return USAGE
     try:
-        print(auth.make(given.file, given.name, given.roles, limits))
+        print(auth.make(given.file, given.name, given.roles, limits), flush=True)
     except (auth.TokenFault, OSError) as error:
         print(f"sagas token: {error}", file=sys.stderr)
         return CANNOT

@@ -96,6 +96,8 @@ class Connection(asyncio.Protocol):
 
     def eof_received(self) -> bool | None:
         told: bool | None = self._inner.eof_received()
+        if not told:  # the transport closes: what is written from now on is dropped
+            self.leave()
         return told
 
     def pause_writing(self) -> None:

@@ -3,18 +3,36 @@
 from __future__ import annotations
 
 import contextlib
+import functools
+import string
 from typing import Any
-from urllib.parse import parse_qsl, urlencode
+from urllib.parse import parse_qsl, quote, urlencode
 
 from starlette.requests import Request
 from starlette.responses import HTMLResponse, RedirectResponse, Response
 
 from sagas.server import problems, renderer
-from sagas.server.access import OWNER, WHO, limited, service_of
+from sagas.server.access import (
+    CHECK,
+    OWNER,
+    WHO,
+    body_of,
+    limited,
+    rights_changed,
+    service_of,
+)
 from sagas.server.auth import LOCAL, May, Session, Who
 from sagas.server.problems import Problem
 
 COOKIE = "sagas_session"
+"""The session's cookie, before the port."""
+
+
+def cookie_of(request: Request) -> str:
+    """The cookie's name, with the port that the browser asks: browsers send the cookies of a host
+    to all of its ports, and another service may have one of them."""
+    port = request.headers.get("host", "").rpartition("]")[2].partition(":")[2]
+    return f"{COOKIE}_{port}" if port.isascii() and port.isdigit() and len(port) < 6 else COOKIE
 
 
 def session_of(request: Request) -> Session | None:
@@ -22,6 +40,7 @@ def session_of(request: Request) -> Session | None:
     session = still_of(request)
     if session is not None:
         request.scope[WHO], request.scope[OWNER] = session.who.name, session.who
+        request.scope[CHECK] = functools.partial(check_still, request, session.who)
         limited(request, session.who)
     return session
 
@@ -29,7 +48,7 @@ def session_of(request: Request) -> Session | None:
 def still_of(request: Request) -> Session | None:
     """As `session_of`, without a count of it."""
     service = service_of(request)
-    session = service.sessions.find(request.cookies.get(COOKIE, ""))
+    session = service.sessions.find(request.cookies.get(cookie_of(request), ""))
     if session is None:
         return None
     who = LOCAL if service.tokens is None else service.tokens.of(session.who.digest)
@@ -37,6 +56,25 @@ def still_of(request: Request) -> Session | None:
         return None  # its token is not in the file any more, or has expired
     session.who = who
     return session
+
+
+def check_still(request: Request, who: Who) -> None:
+    """Raises `Problem` where the session has ended since the request was let in, or its token was
+    changed."""
+    session = still_of(request)
+    if session is None:
+        raise expired()
+    if session.who != who:
+        raise rights_changed()
+
+
+def expired() -> Problem:
+    """A form is of no session, or of another one."""
+    return Problem(
+        "ExpiredForm",
+        "this form is not of your session any more: go back, load the page again, and send it "
+        "once more",
+    )
 
 
 def looker(request: Request) -> Who:
@@ -53,7 +91,7 @@ def begin(request: Request, response: Response, who: Who) -> Session:
     """A new session, and its cookie."""
     name, session = service_of(request).sessions.begin(who)
     response.set_cookie(
-        COOKIE,
+        cookie_of(request),
         name,
         path="/ui",
         httponly=True,
@@ -68,16 +106,20 @@ def page(
     request: Request, template: str, session: Session | None, status: int = 200, **told: Any
 ) -> HTMLResponse:
     """A page of this template."""
-    known: dict[str, Any] = {"here": "", "tokens": service_of(request).tokens is not None}
-    return HTMLResponse(
-        renderer.sent(renderer.render(template, {**known, "session": session, **told})), status
-    )
+    service = service_of(request)
+    known: dict[str, Any] = {"here": "", "tokens": service.tokens is not None}
+    words = {**known, "session": session, **told}
+    return renderer.Page(service.threads.pages.do, template, words, status)
 
 
 def login_first(request: Request) -> Response:
-    """To the login, and back."""
-    where = request.url.path + (f"?{request.url.query}" if request.url.query else "")
-    return RedirectResponse(f"/ui/login?{urlencode({'next': where})}", 303)
+    """To the login, and back to the very address that was asked for: a part of its path that is
+    decoded may have a `#`, a `?` or a `%`."""
+    where: bytes = request.scope["raw_path"]
+    if query := request.scope["query_string"]:
+        where += b"?" + query
+    told = {"next": quote(where, safe=string.punctuation)}
+    return RedirectResponse(f"/ui/login?{urlencode(told)}", 303)
 
 
 def shows(request: Request, template: str, status: int = 200, **told: Any) -> Response:
@@ -112,7 +154,7 @@ async def fields_of(request: Request, most: int) -> list[tuple[str, str]]:
     if kind != "application/x-www-form-urlencoded":
         raise Problem("UnsupportedMediaType", "a form is application/x-www-form-urlencoded")
     try:
-        text = (await request.body()).decode("utf-8")
+        text = (await body_of(request)).decode("utf-8")
         return parse_qsl(text, keep_blank_values=True, max_num_fields=most)
     except ValueError:
         raise Problem("MalformedRequest", "the form cannot be read") from None
@@ -130,11 +172,7 @@ async def sent_fields(request: Request, most: int) -> tuple[Session, list[tuple[
     session = session_of(request)
     fields = await fields_of(request, most) if session else []
     if session is None or not session.sent(dict(fields).get("csrf", "")):
-        raise Problem(
-            "ExpiredForm",
-            "this form is not of your session any more: go back, load the page again, and send it "
-            "once more",
-        )
+        raise expired()
     return session, fields
 
 

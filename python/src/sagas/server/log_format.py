@@ -7,6 +7,8 @@ import logging
 import time
 from typing import Any, TextIO
 
+from sagas.base.wording import escaped
+
 
 class Lines(logging.Formatter):
     """A JSON object a line: time, level, logger, message, and the fields that this package
@@ -29,16 +31,6 @@ class Lines(logging.Formatter):
         if record.exc_info:
             told["trace"] = self.formatException(record.exc_info)
         return json.dumps(told, default=str)
-
-
-def escaped(text: str) -> str:
-    """A text in one line: what is not printable, as a control character of a path, by its
-    number."""
-    return (
-        text
-        if text.isprintable()
-        else "".join(one if one.isprintable() else ascii(one)[1:-1] for one in text)
-    )
 
 
 class Text(logging.Formatter):

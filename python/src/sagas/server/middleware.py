@@ -16,8 +16,9 @@ from typing import TYPE_CHECKING, Any
 from urllib.parse import unquote_to_bytes, urlsplit
 
 from starlette.requests import ClientDisconnect
+from starlette.responses import HTMLResponse, Response
 
-from sagas.server import problems
+from sagas.server import problems, renderer
 from sagas.server.connections import Connection, Connections
 from sagas.server.problems import Problem
 from sagas.server.settings import Network, is_address, is_among, is_loopback
@@ -62,9 +63,12 @@ TOKEN = re.compile(rb"[!#$%&'*+.^_`|~0-9A-Za-z-]+")
 ONCE = (b"host", b"content-length", b"transfer-encoding", b"authorization")
 """Headers of which a request has one at most: of two, whoever stands before this service may have
 read the other."""
+DASHBOARD = "/ui"
 LOGIN = "/ui/login"
 MOST_LOGIN = 4096
 """Bytes of the one form that needs no session."""
+MOST_SHOWN = 200
+"""Characters of a header that a refusal tells."""
 
 
 class Refusal(Exception):
@@ -128,6 +132,31 @@ def parted(raw: bytes) -> str | None:
     return "/".join(part.replace("/", SLASH) for part in parts)
 
 
+def foreign(told: dict[bytes, str], host: str) -> str | None:
+    """By which headers a request comes from a page of another site; None where it does not. Raises
+    `ValueError`."""
+    origin, site = told.get(b"origin"), told.get(b"sec-fetch-site")
+    if origin is not None and urlsplit(origin).netloc != host:
+        return (
+            f"the request has the Origin {origin[:MOST_SHOWN]!r} and the Host "
+            f"{host[:MOST_SHOWN]!r}. A proxy has to pass on the Host that the browser sends, with "
+            "its port"
+        )
+    if site in ("cross-site", "same-site"):
+        return f"the request has the Sec-Fetch-Site {site!r}"
+    return None
+
+
+def answer_of(scope: Scope, problem: Problem) -> Response:
+    """How a request is refused: in the dashboard with a page, since a person reads it."""
+    if scope["path"] != DASHBOARD and not scope["path"].startswith(f"{DASHBOARD}/"):
+        return problems.response(problem)
+    told = {"title": problem.kind.title, "text": f"{problem}.", "back": DASHBOARD}
+    page = renderer.render("fault.html", {**told, "session": None, "here": ""})
+    headers = problems.HEADERS.get(problem.kind.status, {}) | problem.headers
+    return HTMLResponse(renderer.sent(page), problem.kind.status, headers)
+
+
 class Guard:
     """The outermost of the application."""
 
@@ -163,11 +192,8 @@ class Guard:
                 "UnknownHost", "without a token file only the loopback's own names are answered to"
             )
         if scope["method"] not in ("GET", "HEAD", "OPTIONS"):
-            origin, site = told.get(b"origin"), told.get(b"sec-fetch-site")
-            if site in ("cross-site", "same-site") or (
-                origin is not None and urlsplit(origin).netloc != host
-            ):
-                return Problem("CrossOrigin", "another page's request changes nothing here")
+            if why := foreign(told, host):
+                return Problem("CrossOrigin", f"only pages of this service change something: {why}")
         length, most = told.get(b"content-length"), self.most(scope)
         if length is not None and (not length.isdigit() or len(length) > 12 or int(length) > most):
             return too_large(most)
@@ -303,7 +329,7 @@ class Passage:
     async def _refuse(self, problem: Problem) -> None:
         if self.status or self.scope[GONE].done():
             return
-        answer = problems.response(problem)
+        answer = answer_of(self.scope, problem)
         answer.headers["connection"] = "close"
         self._refused = True
         head = {"status": answer.status_code, "headers": answer.raw_headers}

@@ -3,6 +3,7 @@
 from __future__ import annotations
 
 import dataclasses
+import functools
 import json
 import logging
 from collections.abc import Awaitable, Callable, Mapping
@@ -15,7 +16,7 @@ from starlette.routing import Route
 from sagas.base.errors import SagasError
 from sagas.definition.validation import meant
 from sagas.server import problems
-from sagas.server.access import admit, service_of, unslashed
+from sagas.server.access import admit, body_of, service_of, unslashed
 from sagas.server.auth import NOBODY, May, Who
 from sagas.server.middleware import Receive, Scope, Send
 from sagas.server.problems import Problem
@@ -31,6 +32,7 @@ from sagas.server.shapes import (
     Text,
     read_fields,
 )
+from sagas.server.threads import LARGE
 
 logger = logging.getLogger("sagas.server")
 
@@ -159,11 +161,12 @@ async def read_body(shape: Record, request: Request) -> dict[str, Any]:
             f"the body was sent as {shown}: send it with Content-Type: application/json",
             headers={"Accept": "application/json"},
         )
-    text = await request.body()
+    text = await body_of(request)
     if is_empty and not text:
         return read_fields(shape.fields, {}, "")
+    read = functools.partial(_decoded, text)
     try:
-        value = _decoder.decode(text.decode(json.detect_encoding(text), "surrogatepass"))
+        value = read() if len(text) < LARGE else await service_of(request).threads.answers.do(read)
     except (ValueError, RecursionError) as error:
         where = f" at line {error.lineno}" if isinstance(error, json.JSONDecodeError) else ""
         raise Problem("InvalidJson", f"the body is not JSON{where}: send an object") from None
@@ -171,6 +174,10 @@ async def read_body(shape: Record, request: Request) -> dict[str, Any]:
         return shape.read(value, "")
     except Invalid as error:
         raise invalid(error) from None
+
+
+def _decoded(text: bytes) -> Any:
+    return _decoder.decode(text.decode(json.detect_encoding(text), "surrogatepass"))
 
 
 def _no_constant(text: str) -> None:

@@ -1,7 +1,6 @@
-"""Templates and static files.
+"""Templates, pages and static files.
 
-The templates and the files of the page. Whatever a template is told is escaped, but for pictures,
-which escape by themselves.
+Whatever a template is told is escaped, but for pictures, which escape by themselves.
 """
 
 from __future__ import annotations
@@ -9,10 +8,12 @@ from __future__ import annotations
 import hashlib
 import pathlib
 import time
+from collections.abc import Awaitable, Callable
 from typing import Any
 from urllib.parse import quote
 
 from jinja2 import Environment, FileSystemLoader
+from starlette.responses import HTMLResponse
 
 from sagas.inspection import wording
 
@@ -76,6 +77,25 @@ STATIC = _static()
 def render(template: str, told: dict[str, Any]) -> str:
     """A page."""
     return ENVIRONMENT.get_template(template).render(told)
+
+
+Within = Callable[[Callable[[], bytes]], Awaitable[bytes]]
+"""Does work elsewhere, and returns what comes of it."""
+
+
+class Page(HTMLResponse):
+    """A page, which is made when it is sent: a large one takes long, so it is made `within` a
+    thread."""
+
+    def __init__(self, within: Within, template: str, told: dict[str, Any], status: int) -> None:
+        super().__init__(status_code=status)
+        del self.headers["content-length"]
+        self._within, self._template, self._told = within, template, told
+
+    async def __call__(self, *words: Any) -> None:
+        self.body = await self._within(lambda: sent(render(self._template, self._told)))
+        self.headers["content-length"] = str(len(self.body))
+        await super().__call__(*words)
 
 
 def compile_all() -> None:

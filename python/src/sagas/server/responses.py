@@ -5,12 +5,15 @@ from __future__ import annotations
 import datetime
 import hashlib
 import json
+from collections.abc import Iterator
 from typing import Any
 
 from starlette.requests import Request
 from starlette.responses import Response
 
-_encoder = json.JSONEncoder(allow_nan=False, separators=(",", ":"))
+from sagas.inspection.stored_values import whole
+
+_encoder = json.JSONEncoder(allow_nan=False, separators=(",", ":"), default=whole)
 
 
 class Json(Response):
@@ -22,9 +25,32 @@ class Json(Response):
         return _encoder.encode(content).encode() + b"\n"
 
 
-def tagged(request: Request, content: Any) -> Response:
-    """JSON with an entity tag; 304 where the client has it already."""
-    answer = Json(content)
+def parted(content: Any, *path: str) -> Response:
+    """As `Json`, of what may be large, in a thread.
+
+    What is on the path (`*`: each member) is written member by member. While one of them is
+    written, no other thread runs.
+    """
+    text = "".join(_parts(content, path))
+    return Response(text.encode() + b"\n", media_type=Json.media_type)
+
+
+def _parts(content: Any, path: tuple[str, ...] | None) -> Iterator[str]:
+    """Those of a list or an object to which the path leads; else all in one."""
+    if path is None or not content or not isinstance(content, (dict, list)):
+        yield _encoder.encode(content)
+        return
+    is_dict = isinstance(content, dict)
+    before, end = ("{", "}") if is_dict else ("[", "]")
+    for name in content if is_dict else range(len(content)):
+        yield f"{before}{_encoder.encode(name)}:" if is_dict else before
+        yield from _parts(content[name], path[1:] if path[:1] in (("*",), (name,)) else None)
+        before = ","
+    yield end
+
+
+def tagged(request: Request, answer: Response) -> Response:
+    """The answer with an entity tag; 304 where the client has it already."""
     tag = f'"{hashlib.sha256(bytes(answer.body)).hexdigest()[:32]}"'
     headers = {"etag": tag, "cache-control": "private, no-cache"}
     if has_tag(request.headers.get("if-none-match", ""), tag):

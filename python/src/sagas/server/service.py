@@ -9,7 +9,6 @@ import logging
 import time
 from collections import OrderedDict
 from collections.abc import Awaitable, Callable
-from concurrent.futures import ThreadPoolExecutor
 from typing import TYPE_CHECKING, Any, TypeVar
 
 from sagas.api import opening
@@ -24,10 +23,11 @@ from sagas.definition.labels import Labels
 from sagas.definition.saga import Saga
 from sagas.inspection import activity
 from sagas.inspection import saga as one_saga
-from sagas.inspection.question import Question, StoreReader
+from sagas.inspection.question import Question
+from sagas.inspection.stored_values import stored
 from sagas.inspection.views import SagaView
 from sagas.runtime.leased_tasks import Queue
-from sagas.server import declared_steps, renderer, webhook_file
+from sagas.server import declared_steps, webhook_file
 from sagas.server.auth import Rates, Sessions, Tokens, Who
 from sagas.server.event_stream import Hub
 from sagas.server.figures import Figures
@@ -35,6 +35,8 @@ from sagas.server.metrics import Metrics
 from sagas.server.middleware import SLASH
 from sagas.server.settings import Settings
 from sagas.server.stream_limits import Streams
+from sagas.server.threads import Threads
+from sagas.server.waiting_claims import WaitingClaims
 from sagas.server.webhooks import Webhooks
 
 if TYPE_CHECKING:
@@ -42,7 +44,6 @@ if TYPE_CHECKING:
 
 T = TypeVar("T")
 logger, http = logging.getLogger("sagas.server"), logging.getLogger("sagas.http")
-LOOKERS = 2
 MOST_WORKERS = MOST_THERE = 1000
 SHARED = 200
 """Workers that one service tells another of."""
@@ -98,6 +99,7 @@ class Service:
             str, tuple[float, list[ActiveAttempt]]
         ] = {}  # what other nodes said of sagas, and until when that is told again
         self.workers: OrderedDict[str, Seen] = OrderedDict()
+        self.claims = WaitingClaims()
         self.unwritten: float | None = None
         self.figures = Figures(self.hub, self.look)
 
@@ -109,12 +111,8 @@ class Service:
         await self.store.__aenter__()
         await self._meet()
         self.webhooks.begin()
-        self._threads = ThreadPoolExecutor(LOOKERS, "sagas-look")
-        self._lookers: asyncio.Queue[StoreReader] = asyncio.Queue()
-        for _ in range(LOOKERS):
-            self._lookers.put_nowait(StoreReader(self.store.reader()))
+        self.threads = Threads(self.store.reader)
         self.figures.prime()
-        self._threads.submit(renderer.compile_all)
 
     @property
     def is_stopping(self) -> bool:
@@ -135,9 +133,7 @@ class Service:
         if self._peers:
             await self._peers.close()
         await self.store.close(self.settings.shutdown_timeout)
-        self._threads.shutdown(wait=True)
-        while not self._lookers.empty():
-            self._lookers.get_nowait().close()
+        self.threads.close()
 
     async def _meet(self) -> None:
         """Over PostgreSQL: what other services of the database tell, and what they are told."""
@@ -196,24 +192,17 @@ class Service:
 
     async def look(self, question: Question[T]) -> T:
         """Ask the store, in a thread."""
-        reader = await self._lookers.get()
-        try:
-            loop = asyncio.get_running_loop()
-            return await loop.run_in_executor(self._threads, reader.ask, question)
-        finally:
-            self._lookers.put_nowait(reader)
+        return await self.threads.reads.ask(question)
 
-    async def in_thread(self, work: Callable[[], T]) -> T:
-        """What takes the processor for a while."""
-        return await asyncio.get_running_loop().run_in_executor(self._threads, work)
+    async def kept(self, key: str, *, is_page: bool = False) -> SagaView | None:
+        """A saga with all that is kept of it; large values as they are stored. `is_page`: it is
+        for a page."""
+        pool = self.threads.pages if is_page else self.threads.reads
+        return await pool.ask(one_saga.view(key, stored))
 
-    async def kept(self, key: str) -> SagaView | None:
-        """A saga with all that is kept of it."""
-        return await self.look(one_saga.view(key))
-
-    async def saga(self, key: str) -> SagaView | None:
+    async def saga(self, key: str, *, is_page: bool = False) -> SagaView | None:
         """The same, and of what has begun what the node knows that drives it."""
-        view = await self.kept(key)
+        view = await self.kept(key, is_page=is_page)
         if view is None or not any(step.state in activity.BEGUN for step in view.steps):
             return view
         return activity.known(

@@ -10,7 +10,7 @@ from sagas.inspection.question import Question
 from sagas.server import answers, json_views
 from sagas.server.auth import May
 from sagas.server.operations import Answer, Call, Routes
-from sagas.server.responses import Json
+from sagas.server.responses import parted
 from sagas.server.routes import filters
 from sagas.server.shapes import Choice, Field, Text
 from sagas.storage.filters import Filter
@@ -24,8 +24,15 @@ def place_of(cursor: str | None) -> tuple[str | None, Place]:
     """The kind and the place in a cursor."""
     if cursor is None:
         return None, None
-    kind, id, step = cursor.split(".")
-    return kind, (min(int(id), 2**62), int(step))
+    kind, _, rest = cursor.partition(".")
+    position, _, step = rest.rpartition(".")
+    at, id = filters.place_of(position)
+    return kind, (at, id, int(step))
+
+
+def cursor_of(entry: Entry) -> str:
+    """What `place_of` reads."""
+    return f"{entry.kind}.{filters.cursor_of((entry.started, entry.id))}.{entry.place}"
 
 
 def pages(
@@ -51,7 +58,7 @@ def pages(
         "step": Field(Text(most=32), "of this step", default=None),
         "order": Field(Choice(("oldest", "newest")), "which are first, of each kind",
             default="oldest"),
-        "after": Field(Text(most=60, pattern=rf"({KIND})\.[0-9]{{1,20}}\.-?[0-9]{{1,4}}"),
+        "after": Field(Text(most=90, pattern=rf"({KIND})\.{filters.POSITION}\.-?[0-9]{{1,4}}"),
             "`next` of the page before", default=None),
         "limit": filters.LIMIT,
     },
@@ -73,10 +80,10 @@ async def listed(call: Call) -> Response:
     )
     _, counts = await call.service.figures.of(call.who.definitions)
     last = found[-1] if len(found) == limit else None
-    return Json(
-        {
-            "counts": counts,
-            "entries": [json_views.entry(one) for one in found],
-            "next": last and f"{last.kind}.{last.id}.{last.place}",
-        }
-    )
+    more = last and cursor_of(last)
+
+    def told() -> Response:
+        entries = [json_views.entry(one) for one in found]
+        return parted({"counts": counts, "entries": entries, "next": more}, "entries")
+
+    return await call.service.threads.answers.do(told)

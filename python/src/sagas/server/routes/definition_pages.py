@@ -44,17 +44,18 @@ async def listed(call: Call) -> Response:
 
 @routes.get("/ui/definitions/{name}", query={"unfold": FIELD})
 async def one(call: Call) -> Response:
-    """One of them: its steps with what is at each, durations, and the costs of recoveries."""
+    """One of them: its steps with what is at each, durations, and the costs of recoveries. Of one
+    that only another service has, or none any more, its sagas alone."""
     request, name = call.request, call.path["name"]
     if answer := closed(request):
         return answer
     service, who = call.service, looker(request)
     some = [saga for saga in service.settings.sagas if saga.name == name and who.sees(name)]
-    if not some:
+    since = service.hub.now
+    counts, _ = await service.figures.of(who.definitions)
+    if not some and name not in counts:
         told: dict[str, Any] = {"title": "There is no such definition", "back": "/ui/definitions"}
         return shows(request, "fault.html", 404, text=f"No definition is named {name}.", **told)
-    since, saga = service.hub.now, max(some, key=lambda one: one.version)
-    counts, _ = await service.figures.of(who.definitions)
 
     def question() -> Question[tuple[dict[str, AtStep], list[tuple[float, int, int]]]]:
         return (yield from definitions.at_steps(name)), (
@@ -64,19 +65,29 @@ async def one(call: Call) -> Response:
     at, costs = await service.look(question())
     of = counts.get(name, dict.fromkeys(COUNTED, 0))
     over = of["completed"] + of["recovered"] + of["resolved"] + of["stuck"]
-    declared = declared_steps.of(saga)
-    groups = Groups([one.spot for one in declared])
-    unfolding = Unfolding(groups, call.query["unfold"], f"/ui/definitions/{name}")
-    steps = rows_of(call, saga, declared, at, unfolding)
-    rows = folded(steps, lambda row: (-row.at.person, -row.at.failed, -row.at.open))
-    more: dict[str, Any] = {"saga": saga, "of": of, "rows": rows, "costs": costs}
-    more |= {"unfolding": unfolding}
+    more: dict[str, Any] = {"name": name, "saga": None, "of": of, "costs": costs}
     more |= {"share": (over - of["completed"]) / over if over else None}
     more |= {"most": max((cost for _, _, cost in costs), default=0)}
-    more |= {"picture": await service.in_thread(functools.partial(drawn, saga, declared, steps))}
+    if some:
+        more |= await steps_told(call, max(some, key=lambda one: one.version), at)
     return shows(
         request, "definition.html", here="definitions", live="/ui/events", since=since, **more
     )
+
+
+async def steps_told(call: Call, saga: Saga, at: dict[str, AtStep]) -> dict[str, Any]:
+    """What the page has of the steps."""
+    declared = declared_steps.of(saga)
+    groups = Groups([one.spot for one in declared])
+    unfolding = Unfolding(groups, call.query["unfold"], f"/ui/definitions/{saga.name}")
+    steps = rows_of(call, saga, declared, at, unfolding)
+    picture = functools.partial(drawn, saga, declared, steps)
+    return {
+        "saga": saga,
+        "unfolding": unfolding,
+        "rows": folded(steps, lambda row: (-row.at.person, -row.at.failed, -row.at.open)),
+        "picture": await call.service.threads.pages.do(picture),
+    }
 
 
 @dataclasses.dataclass(frozen=True, slots=True)

@@ -4,16 +4,20 @@ from __future__ import annotations
 
 import datetime
 from collections.abc import Iterable, Mapping
+from decimal import Decimal
 from typing import Any
 
 from sagas.definition.labels import checked
+from sagas.inspection.pages import Position
 from sagas.server.access import check_definition
 from sagas.server.auth import Who
 from sagas.server.shapes import Field, Invalid, Mapped, Number, Schema, Several, Shape, Text
 from sagas.storage.filters import Filter
 
 LIMIT = Field(Number(1, 1000, whole=True), "how many at most", default=100)
-CURSOR = Text(most=20, pattern="[0-9]+")
+POSITION = r"-?[0-9]+(\.[0-9]+)?-[0-9]+"
+CURSOR = Text(most=64, pattern=POSITION)
+"""A place in the list: when a saga started, and its id, as 1795934845.949-1048577."""
 
 
 class Moment(Shape):
@@ -68,6 +72,18 @@ def labels_of(told: Iterable[str]) -> dict[str, str]:
     return dict(one.partition("=")[::2] for one in told)
 
 
-def id_of(cursor: str | None) -> int | None:
-    """The id in a cursor; one that is too large is behind all."""
-    return None if cursor is None else min(int(cursor), 2**62)
+def cursor_of(place: tuple[float, int]) -> str:
+    """The text of a place, which is read as exactly the same."""
+    at, id = place
+    return f"{Decimal(repr(at)):f}-{id}"  # no exponent, which has signs
+
+
+def position_of(cursor: str | None) -> Position:
+    """The place in a cursor."""
+    return None if cursor is None else place_of(cursor)
+
+
+def place_of(cursor: str) -> tuple[float, int]:
+    """What `cursor_of` wrote; an id that is too large is behind all."""
+    at, _, id = cursor.rpartition("-")
+    return float(at), min(int(id), 2**62)

@@ -7,7 +7,7 @@ from starlette.responses import Response
 from sagas.server import answers, json_views
 from sagas.server.auth import May
 from sagas.server.operations import Answer, Call, Routes
-from sagas.server.responses import Json
+from sagas.server.responses import Json, parted
 from sagas.server.routes.sagas import kept_of, view_of
 from sagas.server.timeline_answers import TIMELINE
 
@@ -23,7 +23,9 @@ async def log(call: Call) -> Response:
 
     Each event with its time and what came of it, and what people did."""
     view = await kept_of(call.service, call.who, call.key)
-    return Json({"events": json_views.log(view)})
+    return await call.service.threads.answers.do(
+        lambda: parted({"events": json_views.log(view)}, "events")
+    )
 
 
 @routes.get(
@@ -34,5 +36,5 @@ async def timeline(call: Call) -> Response:
     """Get when each attempt of a saga was queued, ran, waited and backed off.
 
     With the workers that had it, and with what people decided and why."""
-    view = await view_of(call)
-    return Json(json_views.timeline(view, call.service.store.now()))
+    view, now = await view_of(call), call.service.store.now()
+    return await call.service.threads.answers.do(lambda: Json(json_views.timeline(view, now)))

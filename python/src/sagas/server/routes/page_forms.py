@@ -5,12 +5,15 @@ from __future__ import annotations
 import contextlib
 import functools
 import json
+import time
 from typing import Any
 
 from starlette.requests import Request
 from starlette.responses import RedirectResponse, Response
 
-from sagas.base.errors import DefinitionError, NoSuchSaga, SagasError
+from sagas.base.errors import DefinitionError, NoSuchSaga, NoSuchSchedule, SagasError
+from sagas.inspection.views import SagaView
+from sagas.server import step_waits
 from sagas.server.access import service_of
 from sagas.server.auth import Who
 from sagas.server.dashboard_session import closed, looker, sent, shows
@@ -44,32 +47,39 @@ RESOLVE = {
     ),
 }  # fmt: skip
 
+REMOVE: dict[str, Any] = {
+    "verb": "Remove it", "danger": True,
+    "text": (
+        "It starts no more sagas, and its times are forgotten. Sagas that it started stay. This "
+        "cannot be undone. The service's log has your name and the time."
+    ),
+}  # fmt: skip
+
 
 def asked(
     request: Request, key: str, words: dict[str, Any], status: int = 200, **more: Any
 ) -> Response:
-    """Asks once more."""
-    return shows(
-        request,
-        "confirm.html",
-        status,
-        here="sagas",
-        key=key,
-        base=address_of(key),
-        **words,
-        **more,
-    )
+    """Asks once more what is to be done to a saga."""
+    crumbs = [("/ui/sagas", "Sagas"), (address_of(key), key)]
+    told = {"here": "sagas", "crumbs": crumbs, **words, **more}
+    return shows(request, "confirm.html", status, **told)
 
 
-async def is_approval(request: Request, key: str, step: str, undo: bool) -> bool:
+async def seen(call: Call) -> SagaView | None:
+    """The saga with what is kept of it; None where there is none that is theirs to see."""
+    with contextlib.suppress(NoSuchSaga):
+        return await kept_of(call.service, looker(call.request), call.key)
+    return None
+
+
+async def is_approval(call: Call, view: SagaView, step: str, undo: bool) -> bool:
     """Whether a step waits to be approved, or is to be once it begins."""
+    if any((one.step, one.undo, one.why) == (step, undo, "approval") for one in view.held):
+        return True
+    if undo or not any((one.name, one.state) == (step, "waiting") for one in view.steps):
+        return False
     with contextlib.suppress(NoSuchSaga, DefinitionError):
-        service = service_of(request)
-        view = await kept_of(service, looker(request), key)
-        if any((one.step, one.undo, one.why) == (step, undo, "approval") for one in view.held):
-            return True
-        waits = any((one.name, one.state) == (step, "waiting") for one in view.steps)
-        return waits and not undo and await service.is_approval(key, step)
+        return await call.service.is_approval(call.key, step)
     return False
 
 
@@ -107,6 +117,15 @@ def step_words(step: str, outcome: str, undo: bool, approval: bool) -> dict[str,
                 "check it."
             ),
         }  # fmt: skip
+    if undo:
+        return {
+            "title": f"Report that {which} had no effect?", "verb": "It had no effect",
+            "danger": True, "note_title": "A note", "asks_why": True,
+            "text": (
+                f"The compensation fails permanently, and the effect of {step} stays until a "
+                "person repairs it. This cannot be undone."
+            ),
+        }  # fmt: skip
     return {
         "title": f"Report that {which} had no effect?", "verb": "It had no effect",
         "danger": True, "note_title": "A note", "asks_why": True,
@@ -132,7 +151,7 @@ async def effect_of(call: Call, **words: Any) -> str | None:
         view = await call.service.saga(call.key)
         if view is not None:
             told = functools.partial(saga_pages.effect, view, **words)
-            return await call.service.in_thread(told)
+            return await call.service.threads.pages.do(told)
     return None
 
 
@@ -173,21 +192,21 @@ async def resolve(call: Call) -> Response:
 
 @routes.get("/ui/sagas/{key}/steps/{step}/{outcome}", parts={"outcome": OUTCOME}, query=UNDO)
 async def step_page(call: Call) -> Response:
-    request, key, name = call.request, call.key, call.path["step"]
-    outcome, undo = call.path["outcome"], call.query["undo"]
-    if answer := closed(request):
-        return answer
-    question = step_words(name, outcome, undo, await is_approval(request, key, name, undo))
-    effect = None if outcome == "retry" else await effect_of(call, **{outcome: name})
-    return asked(request, key, question, given=await given_of(request, key), effect=effect)
+    return closed(call.request) or await step_asked(call, await seen(call))
 
 
-async def given_of(request: Request, key: str) -> list[tuple[str, Any]]:
-    """What whoever decides has to see: the saga's input, and its results."""
-    with contextlib.suppress(NoSuchSaga):
-        view = await kept_of(service_of(request), looker(request), key)
-        return [("Input", view.input), ("Results in effect", view.results)]
-    return []
+async def step_asked(call: Call, view: SagaView | None, status: int = 200, **more: Any) -> Response:
+    """The question for a step's end, with what whoever decides has to see: the saga's input, its
+    results, and what the answer would do. The form has the name of what it answers."""
+    name, outcome, undo = call.path["step"], call.path["outcome"], call.query["undo"]
+    approval = view is not None and await is_approval(call, view, name, undo)
+    words = step_words(name, outcome, undo, approval)
+    if view is not None:
+        words["given"] = [("Input", view.input), ("Results in effect", view.results)]
+        words["waits"] = step_waits.name_of(view, name, undo)
+    if outcome != "retry":
+        words["effect"] = await effect_of(call, **{outcome: name})
+    return asked(call.request, call.key, words, status, **more)
 
 
 def result_of(form: dict[str, str]) -> Any:
@@ -207,39 +226,50 @@ def result_of(form: dict[str, str]) -> Any:
 
 @routes.post("/ui/sagas/{key}/steps/{step}/{outcome}", parts={"outcome": OUTCOME}, query=UNDO)
 async def step_said(call: Call) -> Response:
-    request, key, name = call.request, call.key, call.path["step"]
-    outcome, undo = call.path["outcome"], call.query["undo"]
-    session, form = await sent(request)
-    note = form.get("note") or None
-    question = step_words(name, outcome, undo, await is_approval(request, key, name, undo))
-    again: dict[str, Any] = {
-        "type": form.get("type"),
-        "note": note,
-        "result": form.get("result"),
-        "failed": form.get("failed"),
-    }
-    failed = None if outcome != "failed" else form.get("failed", "").strip()[:2000]
-    if failed == "":
-        return asked(request, key, question, 422, fault="Say why.", **again)
+    session, form = await sent(call.request)
+    view = await seen(call)
+    again = functools.partial(
+        step_asked, call, view,
+        **{word: form.get(word) for word in ("type", "note", "result", "failed")},
+    )  # fmt: skip
+    if view is not None and (fault := moved_on(call, view, form.get("waits", ""))):
+        return await again(409, fault=fault)
+    if call.path["outcome"] == "failed" and not form.get("failed", "").strip():
+        return await again(422, fault="Say why.")
     try:
         result = result_of(form)
     except (ValueError, KeyError, RecursionError):
-        fault = FAULTS.get(form.get("type", ""), FAULTS["json"])
-        again["given"] = await given_of(request, key)
-        return asked(request, key, question, 422, fault=fault, **again)
+        return await again(422, fault=FAULTS.get(form.get("type", ""), FAULTS["json"]))
     try:
-        service = service_of(request)
-        await service.check_sees(session.who, key)
-        words: dict[str, Any] = {"undo": undo, "by": session.who.name, "note": note}
-        if outcome == "retry":
-            await service.in_time(service.store.retry(key, name, **words))
-        elif failed is None:
-            await service.in_time(service.store.complete(key, name, result, **words))
-        else:
-            await service.in_time(service.store.fail(key, name, failed, **words))
+        await report(call, session.who, form, result)
     except SagasError as error:
-        return asked(request, key, question, 409, fault=str(error), **again)
-    return back(request, key)
+        return await again(409, fault=str(error))
+    return back(call.request, call.key)
+
+
+def moved_on(call: Call, view: SagaView, answered: str) -> str | None:
+    """Why a form is asked again that was for something else than what the step waits for now. Of
+    a step of which no attempt is under way the store tells."""
+    step, undo = call.path["step"], call.query["undo"]
+    if step_waits.name_of(view, step, undo) in ("", answered):
+        return None
+    now = step_waits.words_of(view, step, undo, time.time())
+    return f"The step has gone on since you saw this form: {now}. Check it again."
+
+
+async def report(call: Call, who: Who, form: dict[str, str], result: Any) -> None:
+    """Does to the step what a form says. Raises what the store raises."""
+    service, step, outcome = call.service, call.path["step"], call.path["outcome"]
+    await service.check_sees(who, call.key)
+    note = form.get("note") or None
+    words: dict[str, Any] = {"undo": call.query["undo"], "by": who.name, "note": note}
+    if outcome == "retry":
+        work = service.store.retry(call.key, step, **words)
+    elif outcome == "done":
+        work = service.store.complete(call.key, step, result, **words)
+    else:
+        work = service.store.fail(call.key, step, form["failed"].strip()[:2000], **words)
+    await service.in_time(work)
 
 
 @routes.get("/ui/schedules")
@@ -254,6 +284,19 @@ async def shown_schedules(
     found = await schedules.seen(service_of(request), who)
     words = {"schedules": found, "fault": fault}
     return shows(request, "schedules.html", status, here="schedules", **words)
+
+
+@routes.get("/ui/schedules/{name}/{change}", parts={"change": Choice(("remove",))})
+async def remove_page(call: Call) -> Response:
+    """Asks before a schedule is removed: unlike a pause, that cannot be undone here."""
+    if answer := closed(call.request):
+        return answer
+    name = call.path["name"]
+    if name not in {one.name for one in await schedules.seen(call.service, looker(call.request))}:
+        raise NoSuchSchedule(f"no schedule has the name {name!r}")
+    told: dict[str, Any] = {"title": f"Remove the schedule {name}?", **REMOVE}
+    crumbs = [("/ui/schedules", "Schedules")]
+    return shows(call.request, "confirm.html", here="schedules", crumbs=crumbs, **told)
 
 
 @routes.post("/ui/schedules/{name}/{change}", parts={"change": Choice((*schedules.DONE,))})

@@ -14,6 +14,7 @@ from starlette.responses import RedirectResponse, Response
 from sagas.base.errors import SagasError
 from sagas.definition.labels import checked
 from sagas.inspection import lists
+from sagas.inspection import pages as pages_module
 from sagas.inspection import wording as words
 from sagas.inspection.lists import COUNTED
 from sagas.runtime.leased_tasks import Queue
@@ -21,9 +22,9 @@ from sagas.server import renderer
 from sagas.server.access import address, service_of
 from sagas.server.auth import May, Who
 from sagas.server.dashboard_session import (
-    COOKIE,
     begin,
     closed,
+    cookie_of,
     form_of,
     looker,
     page,
@@ -35,6 +36,7 @@ from sagas.server.dashboard_session import (
 from sagas.server.event_stream import Listener
 from sagas.server.operations import Call, Routes
 from sagas.server.problems import Problem
+from sagas.server.routes import filters
 from sagas.server.routes.filters import CURSOR
 from sagas.server.routes.sagas import stream
 from sagas.server.shapes import Field, Text
@@ -114,9 +116,10 @@ async def login(call: Call) -> Response:
 async def logout(call: Call) -> Response:
     request = call.request
     await sent(request)
-    service_of(request).sessions.end(request.cookies.get(COOKIE, ""))
+    cookie = cookie_of(request)
+    service_of(request).sessions.end(request.cookies.get(cookie, ""))
     response = RedirectResponse("/ui/login", 303)
-    response.delete_cookie(COOKIE, path="/ui")
+    response.delete_cookie(cookie, path="/ui")
     return response
 
 
@@ -150,17 +153,19 @@ async def listed(call: Call) -> Response:
     given["phase"] = given["phase"] if given["phase"] in words.PHASES else None
     phase, fault = given["phase"], None
     counts, needing = await service.figures.of(who.definitions)
-    asked: dict[str, Any] = {"before": before and int(before), "after": after and int(after)}
+    asked: dict[str, Any] = {"most": LISTED + 1}
+    asked |= {"before": filters.position_of(before), "after": filters.position_of(after)}
     try:
         of = filter_of(given, who)
     except (ValueError, SagasError) as error:
         fault, of = f"{error}.", Filter(phase, sagas=())
-    found = await service.look(lists.page(most=LISTED + 1, of=of, **asked))
+    found = await service.look(pages_module.page(of=of, **asked))
     more, found = len(found) > LISTED, found[:LISTED]
     if after is not None:
         found.reverse()
-    newer = found[0].id if found and (more if after is not None else before is not None) else None
-    older = found[-1].id if found and (more or after is not None) else None
+    places = [filters.cursor_of(pages_module.position_of(one)) for one in found[:1] + found[-1:]]
+    newer = places[0] if places and (more if after is not None else before is not None) else None
+    older = places[-1] if places and (more or after is not None) else None
 
     def url(**change: Any) -> str:
         words = {

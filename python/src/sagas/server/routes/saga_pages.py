@@ -42,13 +42,13 @@ async def saga(call: Call) -> Response:
     since, view = service.hub.now, None
     with contextlib.suppress(NoSuchSaga):
         await service.check_sees(looker(request), key)
-        view = await service.saga(key)
+        view = await service.saga(key, is_page=True)
         view = view and families.seen_by(view, looker(request).sees)
     if view is None:
         told: dict[str, Any] = {"title": "There is no such saga", "back": "/ui/sagas"}
         return shows(request, "fault.html", 404, text=f"No saga has the key {key}.", **told)
     work = functools.partial(told_of, view, service.approvals, time.time(), call.query["unfold"])
-    told = await service.in_thread(work)
+    told = await service.threads.pages.do(work)
     return shows(request, "saga.html", since=since, **told)
 
 

@@ -17,7 +17,7 @@ from starlette.responses import PlainTextResponse, Response
 from sagas.base.errors import DefinitionError, NoSuchSaga
 from sagas.definition import tracing
 from sagas.engine.plan import certificate_text
-from sagas.inspection import families, lists
+from sagas.inspection import families, pages
 from sagas.inspection import picture as picture_module
 from sagas.inspection import what_if as what_if_module
 from sagas.inspection.views import SagaView
@@ -28,7 +28,7 @@ from sagas.server.client_waits import first
 from sagas.server.event_stream import Listener
 from sagas.server.operations import Answer, Call, Routes
 from sagas.server.problems import Problem
-from sagas.server.responses import Json, tagged
+from sagas.server.responses import Json, parted, tagged
 from sagas.server.routes import filters
 from sagas.server.routes.filters import CURSOR, LIMIT
 from sagas.server.shapes import (
@@ -112,6 +112,16 @@ async def kept_of(service: Any, who: Who, key: str) -> SagaView:
     return there(await service.kept(key), key)
 
 
+async def answered(call: Call) -> Response:
+    """The saga as it is now. Raises `NoSuchSaga`."""
+    view = await view_of(call)
+
+    def told() -> Response:
+        return tagged(call.request, parted(json_views.saga(view), "results"))
+
+    return await call.service.threads.answers.do(told)
+
+
 def there(view: SagaView | None, key: str) -> SagaView:
     """Raises `NoSuchSaga` where there is none."""
     if view is None:
@@ -162,10 +172,11 @@ async def listed(call: Call) -> Response:
 
     A page, of the definitions that the token may see."""
     query = call.query
-    limit, before = query["limit"], filters.id_of(query["after"])
-    page = lists.page(before=before, most=limit, of=filters.of(call.who, query, query["phase"]))
+    limit, before = query["limit"], filters.position_of(query["after"])
+    page = pages.page(before=before, most=limit, of=filters.of(call.who, query, query["phase"]))
     found = await call.service.look(page)
-    more = str(found[-1].id) if len(found) == limit else None
+    last = pages.position_of(found[-1]) if len(found) == limit else None
+    more = last and filters.cursor_of(last)
     return Json({"sagas": [json_views.summary(one) for one in found], "next": more})
 
 
@@ -176,7 +187,7 @@ async def get(call: Call) -> Response:
     A step is `running` where it is called now or a worker has it, and `begun` where it waits for
     something, or the service does not know. With `If-None-Match` the answer is 304 where nothing
     has changed."""
-    return tagged(call.request, json_views.saga(await view_of(call)))
+    return await answered(call)
 
 
 @routes.get(
@@ -192,7 +203,7 @@ async def wait(call: Call) -> Response:
     ending = asyncio.ensure_future(call.service.store.over(call.key))
     if await first(call.request, call.who, ending, call.query["seconds"]):
         ending.result()  # raises, where there is no such saga
-    return tagged(call.request, json_views.saga(await view_of(call)))
+    return await answered(call)
 
 
 @routes.post(
@@ -226,13 +237,15 @@ async def what_if(call: Call) -> Response:
     view = await view_of(call)
     if view.phase != "open":
         raise Problem("SagaOver", f"saga {call.key!r} is {view.phase}: nothing of it is to be done")
-    try:
-        found = await call.service.in_thread(
-            lambda: what_if_module.of(view, abort=suppose["abort"], failed=step)
-        )
-    except ValueError as error:
-        raise Problem("InvalidRequest", f"fail: {error}", "fail") from None
-    return Json(json_views.what_if(found))
+
+    def told() -> Response:
+        try:
+            found = what_if_module.of(view, abort=suppose["abort"], failed=step)
+        except ValueError as error:
+            raise Problem("InvalidRequest", f"fail: {error}", "fail") from None
+        return Json(json_views.what_if(found))
+
+    return await call.service.threads.answers.do(told)
 
 
 @routes.get(
@@ -245,9 +258,11 @@ async def picture(call: Call) -> Response:
 
     Its steps with their states, and what the plan keeps and why. The items of a step, and the
     steps of an included saga, are one box."""
-    text = picture_module.document(await view_of(call), unfolding.names_in(call.query["unfold"]))
+    view, unfold = await view_of(call), unfolding.names_in(call.query["unfold"])
     return Response(
-        renderer.sent(text),
+        await call.service.threads.answers.do(
+            lambda: renderer.sent(picture_module.document(view, unfold))
+        ),
         media_type="image/svg+xml",
         headers={"Content-Security-Policy": "default-src 'none'; style-src 'unsafe-inline'"},
     )

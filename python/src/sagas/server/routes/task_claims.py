@@ -4,9 +4,13 @@ from __future__ import annotations
 
 import asyncio
 import contextlib
+import dataclasses
 import functools
 import re
+from collections.abc import Callable
 from typing import Any
+
+from starlette.responses import Response
 
 from sagas.base.errors import SagasError
 from sagas.runtime.leased_tasks import LeasedTask, Word
@@ -15,6 +19,8 @@ from sagas.server.client_waits import first
 from sagas.server.middleware import GONE
 from sagas.server.operations import Call
 from sagas.server.problems import Problem
+from sagas.server.responses import Json, parted
+from sagas.server.threads import LARGE
 
 NAME = "[a-z][a-z0-9_-]{0,31}"
 WORD = re.compile(rf"({NAME})/((?:{NAME}/)*?{NAME})(/undo)?\Z")
@@ -46,10 +52,46 @@ def _word_of(step: str) -> Word | None:
     return (told[1], told[2], "undo" if told[3] else "run") if told else None
 
 
-async def claimed(call: Call, body: dict[str, Any]) -> dict[str, Any]:
+@dataclasses.dataclass(frozen=True, slots=True)
+class Claimed:
+    """What is answered of a claim: its tasks, and what else is told with them."""
+
+    tasks: list[LeasedTask]
+    more: dict[str, Any]
+    now: float
+
+    @property
+    def is_large(self) -> bool:
+        """Whether its values take long to be read and written."""
+        return sum(map(_size, self.tasks)) > LARGE
+
+    def told(self) -> dict[str, Any]:
+        """The answer as JSON has it."""
+        return {"tasks": [json_views.task(one, self.now) for one in self.tasks], **self.more}
+
+
+def _size(one: LeasedTask) -> int:
+    texts = one.task.texts
+    own = (one.given, texts["input"], texts["result"] or "")
+    return sum(map(len, own)) + sum(map(len, texts["results"].values()))
+
+
+async def claimed(call: Call, body: dict[str, Any]) -> Claimed:
     """Claims, as long as the client is there; none where the service is about to stop."""
     found = await _claimed(call, body, body["limit"], body["wait"])
     return _answer(call, body, await _handed(call, found))
+
+
+async def answered(
+    call: Call, made: Callable[[Any], Any], found: Claimed | None, *path: str
+) -> Response:
+    """The answer, `made` of what is told of a claim, which is where the path leads."""
+    if found is None or not found.is_large:
+        return Json(made(found and found.told()))
+    told = found.told
+    return await call.service.threads.answers.do(
+        lambda: parted(made(told()), *path, "tasks", "*", "results")
+    )
 
 
 class NextClaim:
@@ -86,7 +128,7 @@ class NextClaim:
         if not self._call.service.is_stopping and not _is_gone(self._call):
             self._claiming = _claim(self._call, self._body, self._body["limit"], 0.0)
 
-    async def answer(self) -> dict[str, Any] | None:
+    async def answer(self) -> Claimed | None:
         """What is answered, once the reports are over."""
         if self._body is None:
             return None
@@ -123,11 +165,15 @@ async def _give_back(call: Call, found: list[LeasedTask]) -> None:
         await call.service.store.workers.give_back(found, holder=call.who.name)
 
 
+def worker_of(call: Call, body: dict[str, Any]) -> str:
+    """The name of a worker: that of its token, and its own."""
+    return f"{call.who.name}/{body['worker']}" if body["worker"] else call.who.name
+
+
 def _claim(
     call: Call, body: dict[str, Any], limit: int, wait: float
 ) -> asyncio.Task[list[LeasedTask]]:
-    service, who = call.service, call.who
-    name = f"{who.name}/{body['worker']}" if body["worker"] else who.name
+    service, name = call.service, worker_of(call, body)
     service.saw(name, body["steps"])
     work = service.store.workers.claim(
         words_of(body["steps"]),
@@ -135,28 +181,31 @@ def _claim(
         wait=wait,
         lease=body["lease"],
         worker=name,
-        holder=who.name,
+        holder=call.who.name,
     )
     return asyncio.get_running_loop().create_task(work)
 
 
-async def _is_over(call: Call, claiming: asyncio.Task[list[LeasedTask]], wait: float) -> bool:
-    """Whether it came to an end while the client was there; else it is cancelled."""
-    return claiming.done() or await first(call.request, call.who, claiming, wait + PATIENCE)
+async def _is_over(
+    call: Call, claiming: asyncio.Task[list[LeasedTask]], wait: float, *ends: asyncio.Future[None]
+) -> bool:
+    """Whether it came to an end while the client was there, and before any of the `ends`; else it
+    is cancelled."""
+    return claiming.done() or await first(call.request, call.who, claiming, wait + PATIENCE, *ends)
 
 
 async def _claimed(call: Call, body: dict[str, Any], limit: int, wait: float) -> list[LeasedTask]:
     if call.service.is_stopping:
         return []
     claiming = _claim(call, body, limit, wait)
-    return claiming.result() if await _is_over(call, claiming, wait) else []
+    with call.service.claims.waiting(worker_of(call, body)) as end:
+        return claiming.result() if await _is_over(call, claiming, wait, end) else []
 
 
-def _answer(call: Call, body: dict[str, Any], found: list[LeasedTask]) -> dict[str, Any]:
-    now = call.service.store.now()
-    return {
-        "tasks": [json_views.task(one, now) for one in found],
+def _answer(call: Call, body: dict[str, Any], found: list[LeasedTask]) -> Claimed:
+    more = {
         "heartbeat_seconds": round(body["lease"] / HEARTBEATS, 3),
         "repeat_statuses": problems.REPEAT,
         "unknown_steps": sorted(set(body["steps"]) - call.service.words()),
     }
+    return Claimed(found, more, call.service.store.now())

@@ -12,8 +12,7 @@ from sagas.server import answers, problems
 from sagas.server.auth import May
 from sagas.server.operations import Answer, Call, Routes
 from sagas.server.problems import Problem
-from sagas.server.responses import Json
-from sagas.server.routes.task_claims import NextClaim
+from sagas.server.routes.task_claims import NextClaim, answered
 from sagas.server.routes.tasks import LEASE, MORE, check_next
 from sagas.server.shapes import Anything, Choice, Field, Flag, Nullable, Record, Several, Text
 
@@ -86,4 +85,4 @@ async def report(call: Call) -> Response:
         some = (_kept(call, claim, *one) for one in zip(body["reports"], outcomes))
         told = await asyncio.gather(*some)
         found = await claim.answer()
-    return Json({"reports": told, "next": found})
+        return await answered(call, lambda next: {"reports": told, "next": next}, found, "next")

@@ -12,7 +12,7 @@ from sagas.server.auth import May
 from sagas.server.operations import Answer, Call, Routes
 from sagas.server.problems import Problem
 from sagas.server.responses import Json, times
-from sagas.server.routes.task_claims import NextClaim, claimed, words_of
+from sagas.server.routes.task_claims import NextClaim, answered, claimed, words_of, worker_of
 from sagas.server.shapes import Anything, Field, Flag, Nullable, Number, Record, Several, Text
 
 routes = Routes("workers", "/v1/tasks")
@@ -27,8 +27,14 @@ CLAIM = {
     "lease": Field(
         Number(0.5, LONGEST_LEASE), "seconds until a task may be another worker's", default=30.0
     ),
-    "worker": Field(Text(most=64), "a name, for people", default=""),
+    "worker": Field(Text(most=64), "the worker's name", default=""),
 }
+END = Record(
+    "EndClaimsRequest",
+    {"worker": Field(Text(most=64), "the worker's name, as in its claims", default="")},
+    example={"worker": "host-7"},
+)
+ENDED = Record("EndedClaims", {"ended": Field(answers.COUNT, "how many were ended")})
 CLAIM_REQUEST = Record(
     "ClaimRequest", CLAIM, example={"steps": ["trip/car", "trip/car/undo"], "wait": 20, "lease": 30}
 )
@@ -96,7 +102,19 @@ async def claim(call: Call) -> Response:
     check_steps(call.who, call.body["steps"])
     if call.service.is_stopping:
         raise Problem("Stopping", "the service is about to stop: ask again in a while")
-    return Json(await claimed(call, call.body))
+    return await answered(call, lambda told: told, await claimed(call, call.body))
+
+
+@routes.post(
+    "/claim/end", "endClaims", may=May.WORK, body=END,
+    answers={200: Answer("They are answered.", ENDED, example={"ended": 1})},
+)  # fmt: skip
+async def end(call: Call) -> Response:
+    """End claims that wait.
+
+    For a worker that stops: the claims of this token with this `worker` that wait at this service
+    are answered at once, without tasks."""
+    return Json({"ended": call.service.claims.end(worker_of(call, call.body))})
 
 
 @routes.post(
@@ -133,8 +151,9 @@ async def _report(call: Call, **outcome: Any) -> Response:
             call.path["attempt_id"], body["lease"], holder=call.who.name,
             stored=claim.stored, **outcome,
         )  # fmt: skip
-        told = await claim.answer()
-    return Json({"kept": True, "repeated": not kept, "next": told})
+        told = {"kept": True, "repeated": not kept}
+        found = await claim.answer()
+        return await answered(call, lambda next: {**told, "next": next}, found, "next")
 
 
 @routes.post(

@@ -18,51 +18,58 @@ times();
 setInterval(times, 5000);
 
 // A large picture can be fitted, zoomed and dragged, and has a small one beside; it begins where something goes on, or went wrong.
-const scales = {}; // by the place of the picture: what was chosen stays so on a page that is put in anew
-const pictures = () => document.querySelectorAll(".scroll.pad > svg.picture").forEach((svg, number) => {
-  const frame = svg.parentElement, wide = svg.viewBox.baseVal.width, high = svg.viewBox.baseVal.height;
-  if (frame.previousElementSibling?.classList.contains("tools") || (wide <= frame.clientWidth && high <= 900)) return;
-  const tools = document.createElement("p"), holder = document.createElement("div"), map = document.createElement("div");
-  tools.className = "tools"; holder.className = "frame"; map.className = "map";
-  frame.before(tools, holder);
-  holder.append(frame, map);
-  map.setAttribute("aria-hidden", "true");
-  const ns = "http://www.w3.org/2000/svg", small = document.createElementNS(ns, "svg"), seen = document.createElementNS(ns, "rect");
-  small.setAttribute("viewBox", svg.getAttribute("viewBox"));
-  for (const box of svg.querySelectorAll(".step")) {
-    const copy = box.cloneNode(false);
-    copy.append(box.querySelector(".box").cloneNode(false));
-    small.append(copy);
-  }
+const drawn = new WeakMap(); // by the frame of a picture that has tools: what draws it as it was chosen
+const make = (name, className) => {
+  const one = document.createElement(name);
+  one.className = className;
+  one.dataset.made = ""; // it is not of the service's page
+  return one;
+};
+const tools = (frame) => {
+  const bar = make("p", "tools"), map = make("div", "map");
+  const small = map.appendChild(document.createElementNS("http://www.w3.org/2000/svg", "svg"));
+  const seen = document.createElementNS("http://www.w3.org/2000/svg", "rect");
   seen.classList.add("seen");
-  small.append(seen);
-  map.append(small);
+  map.setAttribute("aria-hidden", "true");
+  frame.before(bar);
+  frame.after(map);
+  const picture = () => frame.querySelector("svg"), size = () => picture().viewBox.baseVal;
   const show = () => {
-    const scale = svg.clientWidth / wide || 1;
-    for (const [name, value] of [["x", frame.scrollLeft / scale], ["y", frame.scrollTop / scale], ["width", frame.clientWidth / scale], ["height", frame.clientHeight / scale]]) seen.setAttribute(name, value);
+    const by = picture().clientWidth / size().width || 1;
+    for (const [name, value] of [["x", frame.scrollLeft], ["y", frame.scrollTop], ["width", frame.clientWidth], ["height", frame.clientHeight]]) seen.setAttribute(name, value / by);
   };
-  const zoom = (scale) => {
-    scales[number] = scale;
+  let scale = size().width > 1.45 * frame.clientWidth ? 1 : 0; // fitted, nobody could read it
+  const draw = () => {
+    const svg = picture(), boxes = [...svg.querySelectorAll(".step")];
     frame.classList.toggle("fit", scale === 0);
     frame.classList.toggle("zoomed", scale !== 0);
-    svg.setAttribute("width", wide * (scale || 1));
-    svg.setAttribute("height", high * (scale || 1));
+    svg.setAttribute("width", size().width * (scale || 1));
+    svg.setAttribute("height", size().height * (scale || 1));
     map.hidden = scale === 0 || frame.clientHeight < 260;
-    const going = svg.querySelector(".step:is(.failed, .person, .running, .undoing)");
-    if (going && scale) {
-      const place = going.getBoundingClientRect(), around = frame.getBoundingClientRect();
-      frame.scrollLeft += place.left - around.left - (around.width - place.width) / 2;
-      frame.scrollTop += place.top - around.top - (around.height - place.height) / 2;
-    }
+    small.setAttribute("viewBox", svg.getAttribute("viewBox"));
+    small.replaceChildren(...boxes.map((box) => {
+      const copy = box.cloneNode(false);
+      copy.append(box.querySelector(".box").cloneNode(false));
+      return copy;
+    }), seen);
     show();
   };
-  for (const [title, next] of [["Fit", () => 0], ["−", (s) => Math.max(0.2, (s || svg.clientWidth / wide) / 1.4)], ["100 %", () => 1], ["+", (s) => Math.min(3, (s || svg.clientWidth / wide) * 1.4)]]) {
-    const button = document.createElement("button");
+  const zoom = (next) => {
+    scale = next;
+    draw();
+    const going = picture().querySelector(".step:is(.failed, .person, .running, .undoing)");
+    if (!going || !scale) return;
+    const place = going.getBoundingClientRect(), around = frame.getBoundingClientRect();
+    frame.scrollLeft += place.left - around.left - (around.width - place.width) / 2;
+    frame.scrollTop += place.top - around.top - (around.height - place.height) / 2;
+  };
+  const now = () => scale || picture().clientWidth / size().width;
+  for (const [title, name, next] of [["Fit", "Fit", () => 0], ["−", "smaller", () => Math.max(0.2, now() / 1.4)], ["100 %", "100 %", () => 1], ["+", "larger", () => Math.min(3, now() * 1.4)]]) {
+    const button = bar.appendChild(make("button", ""));
     button.type = "button";
     button.textContent = title;
-    button.setAttribute("aria-label", `Picture: ${{ "−": "smaller", "+": "larger" }[title] ?? title}`);
-    button.addEventListener("click", () => zoom(next(scales[number])));
-    tools.append(button);
+    button.setAttribute("aria-label", `Picture: ${name}`);
+    button.addEventListener("click", () => zoom(next()));
   }
   frame.addEventListener("scroll", show, { passive: true });
   frame.addEventListener("pointerdown", (event) => {
@@ -73,8 +80,16 @@ const pictures = () => document.querySelectorAll(".scroll.pad > svg.picture").fo
     addEventListener("pointermove", move);
     addEventListener("pointerup", stop);
   });
-  zoom(scales[number] ?? (wide > 1.45 * frame.clientWidth ? 1 : 0)); // smaller, nobody could read it
-});
+  zoom(scale);
+  return draw;
+};
+const pictures = () => {
+  for (const svg of document.querySelectorAll(".scroll.pad > svg.picture")) {
+    const frame = svg.parentElement, { width, height } = svg.viewBox.baseVal;
+    if (drawn.has(frame)) drawn.get(frame)();
+    else if (width > frame.clientWidth || height > 900) drawn.set(frame, tools(frame));
+  }
+};
 pictures();
 
 document.addEventListener("keydown", (event) => {
@@ -86,66 +101,113 @@ document.addEventListener("keydown", (event) => {
   }
 });
 
-// What is selected and unfolded stays so on a page that is put in anew.
-const selection = (main) => {
-  const box = (one) => `input[type=checkbox][name="${one.name}"][value="${CSS.escape(one.value)}"]`;
-  const checked = [...main.querySelectorAll("input[type=checkbox]:checked")].map(box);
-  const open = [...main.querySelectorAll("details[open]")].map((one) => `details[data-keep="${one.dataset.keep}"]`);
-  const focused = document.activeElement?.matches?.("input[type=checkbox]") ? box(document.activeElement) : null;
-  return () => {
-    for (const one of checked) { const there = main.querySelector(one); if (there) there.checked = true; }
-    for (const one of open) main.querySelector(one)?.setAttribute("open", "");
-    if (focused) main.querySelector(focused)?.focus({ preventScroll: true });
-  };
+// What a node is: a link by what it leads to, a field by its name and value, and a row by the first of these in it.
+const named = "[data-keep], a[href], input, button, option";
+const identity = (node) => {
+  if (node.nodeType !== Node.ELEMENT_NODE) return node.nodeName;
+  const one = node.matches(named) ? node : node.matches("tr, li, .group") ? node.querySelector(named) : null;
+  const words = ["data-keep", "href", "name", "value"].map((name) => one?.getAttribute(name));
+  return [node.nodeName, ...words, one?.nodeName === "OPTION" ? one.text : ""].join("\n");
 };
 
-// Takes the page again when something has happened, at most once a second, and puts in what is new where nobody is about to type.
+// Makes a node like a new one, and leaves alone what is the same: so what is typed, selected, focused, unfolded and scrolled to stays so.
+const patch = (old, fresh) => {
+  if (old.isEqualNode(fresh)) return;
+  if (old.nodeType !== Node.ELEMENT_NODE) { old.data = fresh.data; return; }
+  for (const name of new Set([...old.getAttributeNames(), ...fresh.getAttributeNames()])) {
+    if (name === "open" || old.getAttribute(name) === fresh.getAttribute(name)) continue;
+    if (fresh.hasAttribute(name)) old.setAttribute(name, fresh.getAttribute(name));
+    else old.removeAttribute(name);
+  }
+  const left = [...old.childNodes].filter((one) => one.dataset?.made === undefined), names = left.map(identity), passed = new Map();
+  for (const child of [...fresh.childNodes]) {
+    const name = identity(child), place = child.nodeType === Node.ELEMENT_NODE || names[0] === name ? names.indexOf(name) : -1;
+    for (let count = place; count > 0; count--) { // these are gone, or come later
+      left[0].remove();
+      passed.set(names.shift(), left.shift());
+    }
+    const there = place < 0 ? passed.get(name) : left.shift();
+    if (place < 0) old.insertBefore(there ?? child, left[0] ?? null);
+    else names.shift();
+    passed.delete(name);
+    if (there) patch(there, child);
+  }
+  for (const one of left) one.remove();
+};
+const merge = (main, fresh) => { // what was selected or focused is so as well where it has come to another place
+  const active = document.activeElement, focused = main.contains(active) && active.matches(named) ? identity(active) : null;
+  const selected = new Set([...main.querySelectorAll("input:checked")].map(identity));
+  patch(main, fresh);
+  let isLost = focused && document.activeElement !== active;
+  for (const one of isLost || selected.size ? main.querySelectorAll(named) : []) {
+    const name = identity(one), isFocus = isLost && name === focused, isSelected = selected.has(name) && !one.checked;
+    if (isSelected) one.checked = true;
+    if (isSelected || isFocus) one.closest("details")?.setAttribute("open", "");
+    if (isFocus) { one.focus({ preventScroll: true }); isLost = false; }
+  }
+};
+const words = (main) => { // what it says, but for its times
+  const copy = main.cloneNode(true);
+  for (const one of copy.querySelectorAll("time, [data-made]")) one.remove();
+  return copy.textContent;
+};
+
+// Takes the page again when something has happened, at most once a second and for a sixth of the time, and puts in what is new.
 const live = document.body.dataset.live;
 if (live) {
-  let wanted = false, busy = false;
+  const [main, lapsed, said] = ["main", "lapsed", "said"].map((id) => document.getElementById(id));
+  const pause = 5000; // until what has failed is tried again
+  let wanted = false, busy = false, isCut = false, isOld = false, again = 0;
+  const tell = () => { lapsed.hidden = !isCut && !isOld; };
+  let isSaid = false, isUnsaid = false;
+  const say = () => { // to those who hear the page, and not each time
+    isUnsaid = isSaid;
+    if (isSaid) return;
+    said.textContent = `This page changed at ${new Date().toLocaleTimeString()}.`;
+    isSaid = true;
+    setTimeout(() => { isSaid = false; if (isUnsaid) say(); }, 30000);
+  };
+  const put = (fresh) => {
+    if (words(fresh) !== words(main)) say();
+    merge(main, fresh);
+    times();
+    pictures();
+  };
+  const page = async () => {
+    const answer = await fetch(location.href, { headers: { accept: "text/html" }, signal: AbortSignal.timeout(60000) });
+    const isPage = answer.ok || answer.status === 404; // it may say that the saga is not kept any more
+    return isPage ? new DOMParser().parseFromString(await answer.text(), "text/html").getElementById("main") : null;
+  };
   const renew = async () => {
-    const main = document.getElementById("main");
     if (busy || document.hidden) { wanted = true; return; }
-    if (main.contains(document.activeElement) && document.activeElement !== main && document.activeElement.matches("input:not([type=checkbox]), textarea, select")) return;
-    busy = true;
-    wanted = false;
-    try {
-      const answer = await fetch(location.href, { headers: { accept: "text/html" } });
-      if (answer.ok) {
-        const fresh = new DOMParser().parseFromString(await answer.text(), "text/html").getElementById("main");
-        if (fresh && fresh.innerHTML !== main.dataset.was) {
-          main.dataset.was = fresh.innerHTML;
-          const places = [...main.querySelectorAll(".scroll")].map((one) => one.scrollLeft);
-          const focus = document.activeElement?.getAttribute?.("href"), kept = selection(main);
-          main.replaceChildren(...fresh.childNodes);
-          kept();
-          main.querySelectorAll(".scroll").forEach((one, place) => { one.scrollLeft = places[place] ?? 0; });
-          if (focus) main.querySelector(`[href="${CSS.escape(focus)}"]`)?.focus({ preventScroll: true });
-          times();
-          pictures();
-        }
-      }
-    } catch { /* the service is about to start again */ }
-    setTimeout(() => { busy = false; if (wanted) renew(); }, 1000);
+    [busy, wanted] = [true, false];
+    const began = performance.now(), fresh = await page().catch(() => null), took = performance.now() - began;
+    if (!fresh) wanted = true; // the service starts again, or has too much to do
+    isOld = !fresh;
+    tell();
+    setTimeout(() => { busy = false; if (wanted) renew(); }, fresh ? Math.max(1000, 5 * took) : pause);
+    if (fresh) put(fresh);
     againLater();
   };
   const againLater = () => { // figures that are older than what has happened are counted anew in so many seconds
     const seconds = document.querySelector("[data-again]")?.dataset.again;
-    if (seconds) setTimeout(renew, 1000 * seconds + 100);
+    clearTimeout(again);
+    if (seconds) again = setTimeout(renew, 1000 * seconds + 100);
   };
   againLater();
   const names = ["saga_started", "step_started", "step_succeeded", "step_retrying", "step_failed", "step_exhausted", "step_unknown", "step_cannot_decode", "step_suspended", "plan_adopted", "saga_overdue", "saga_aborted", "saga_ended", "saga_stuck", "saga_resolved", "step_overdue", "lease_expired", "missed"];
   let source = null, since = document.body.dataset.since, later = 0;
-  const lapsed = document.getElementById("lapsed");
   const opened = () => { // what happened while there was no stream is on a new page
-    if (!lapsed.hidden) renew();
-    lapsed.hidden = true;
+    if (isCut) renew();
+    isCut = false;
+    tell();
   };
   const ended = () => { // a browser tries again by itself, except where a stream was refused
-    lapsed.hidden = false;
+    isCut = true;
+    tell();
     clearTimeout(later);
     if (source?.readyState !== EventSource.CLOSED) return;
-    later = setTimeout(() => renew().finally(listen), 5000); // a new page may have a new session
+    later = setTimeout(() => renew().finally(listen), pause); // a new page may have a new session
   };
   const listen = () => { // a page that nobody sees has no stream: a browser has few connections
     clearTimeout(later);

@@ -1,0 +1,176 @@
+"""Pages of the list of sagas, in the order of their starts."""
+
+from __future__ import annotations
+
+import dataclasses
+from collections.abc import Collection
+from typing import Any, Optional
+
+from sagas.core.results import Summary
+from sagas.definition import arguments
+from sagas.definition import labels as labels_module
+from sagas.definition import validation
+from sagas.definition.labels import Labels
+from sagas.inspection.lists import SUMMARY, summary_of
+from sagas.inspection.question import Query, Question
+from sagas.storage.filters import FEW as FEW_PHASES
+from sagas.storage.filters import Filter
+from sagas.storage.queries import PHASES, SORTED_AT
+from sagas.storage.sqlite.schema import PLANNED
+
+Position = Optional[tuple[float, int]]
+"""A place in the list: the start of a saga, and its id."""
+Bounds = tuple[Position, Position]
+"""Places: the sagas are behind the first, and before the second, where there is one."""
+RARE = ("stuck", "undo_failed", "resolved")
+"""The phases that few sagas are in, however many there are."""
+FEW = 3000
+"""So many are sorted without further questions."""
+LABELED = "SELECT 1 FROM labels WHERE name = ? AND value = ?"
+INDEXED = {
+    "open": f"SELECT 1 FROM sagas s WHERE {PHASES['open']}",
+    "recovered": f"SELECT 1 FROM sagas s WHERE {PLANNED}",
+}
+NEAR, MOST_NEAR = 100, 20_000
+"""Sagas that are looked at one by one for each that is wanted, and at most: of what is rarer, all
+are sorted."""
+
+
+def check(phase: str | None, after: object, limit: int) -> None:
+    """Raises `ValueError` or `TypeError` where no page is asked for by these words."""
+    if phase is not None and phase not in PHASES:
+        raise ValueError(f"phase={phase!r}: must be one of {', '.join(PHASES)}")
+    if not (after is None or isinstance(after, Summary) or validation.is_count(after)):
+        raise TypeError(
+            f"after={after!r}: must be the last saga of the page before: list(after=page[-1])"
+        )
+    arguments.count("limit", limit)
+
+
+def position(after: Summary | int | None) -> Question[Position]:
+    """Where a page ends, by its last saga or the id of that. Raises `ValueError`."""
+    if after is None:
+        return None
+    if isinstance(after, Summary):
+        return position_of(after)
+    id = max(-1, min(after, 1 << 62))
+    rows = yield Query("SELECT at FROM sagas WHERE id = ?", (id,))
+    if not rows:
+        raise ValueError(
+            f"after={after!r}: no saga has this id, maybe because it was deleted. Give the last "
+            "saga of the page before instead of its id: list(after=page[-1])"
+        )
+    return rows[0][0], id
+
+
+def position_of(one: Summary) -> tuple[float, int]:
+    """The place of a saga."""
+    return one.started, one.id
+
+
+def page(
+    *,
+    phase: str | None = None,
+    saga: str | None = None,
+    labels: Labels = labels_module.NONE,
+    search: str | None = None,
+    before: Position = None,
+    after: Position = None,
+    newest: bool | None = None,
+    most: int | None = 50,
+    sagas: Collection[str] | None = None,
+    of: Filter | None = None,
+) -> Question[list[Summary]]:
+    """A page of the list, the newest first, or the oldest first: those `before` a place, or `after`
+    one. `newest`: which are first; by default the oldest where `after` is given.
+
+    `most`: None for all; `phase`, `saga`, `labels`, `search`, `sagas`: as of a `Filter`, or `of`.
+
+    A database cannot know which is less work: to go through the sagas in their order, or to sort
+    all that are of the filter. So it goes through those that are near, and then it sorts.
+    """
+    of = of or Filter(phase, saga, labels, search, sagas)
+    is_newest = after is None if newest is None else newest
+    bounds = _bounds(of, after, before)
+    if of.has_times_alone:
+        return (yield from _rows(of, bounds, is_newest, most, "s.at"))
+    are_many = yield from _are_many(of)
+    if most is not None and are_many:
+        near, is_all = yield from _near(bounds, is_newest, min(NEAR * most, MOST_NEAR))
+        found = yield from _rows(of, near, is_newest, most, "s.at")
+        if len(found) == most or is_all:
+            return found
+    is_indexed = not are_many or bool(of.search) or bool(of.labels) or of.phase in FEW_PHASES
+    of_few = bool(of.labels) and not are_many
+    form = {"of_few": of_few, "each_label": are_many and bool(of.search)}
+    at = "+s.at" if is_indexed else SORTED_AT
+    return (yield from _rows(of, bounds, is_newest, most, at, **form))
+
+
+def _bounds(of: Filter, after: Position, before: Position) -> Bounds:
+    """The times of a filter as places, with those of a page: ids are above -1."""
+    since, until = (
+        (at, -1) if at is not None else None for at in (of.started_after, of.started_before)
+    )
+    lower = [place for place in (after, since) if place is not None]
+    upper = [place for place in (before, until) if place is not None]
+    return max(lower, default=None), min(upper, default=None)
+
+
+def _are_many(of: Filter) -> Question[bool]:
+    """Whether there may be so many of a filter that it is much work to sort them."""
+    if of.phase in RARE:
+        return False
+    probes: list[tuple[str, tuple[str, ...]]] = [(LABELED, label) for label in of.labels.items()]
+    if of.phase in INDEXED:
+        probes.append((INDEXED[of.phase], ()))
+    for text, words in probes:
+        rows = yield Query(f"SELECT count(*) FROM ({text} LIMIT ?) found", (*words, FEW))
+        if rows[0][0] < FEW:
+            return False
+    return True
+
+
+def _near(bounds: Bounds, newest: bool, most: int) -> Question[tuple[Bounds, bool]]:
+    """The places between which the first so many are, of any filter, and whether that is all."""
+    conditions, words = _within(bounds, "s.at")
+    rows = yield Query(
+        f"SELECT s.at, s.id FROM sagas s WHERE {' AND '.join(conditions)} "
+        f"ORDER BY {_order('s.at', newest)} LIMIT 1 OFFSET ?",
+        (*words, most),
+    )
+    if not rows:
+        return bounds, True
+    at, id = rows[0]
+    return (((at, id), bounds[1]) if newest else (bounds[0], (at, id))), False
+
+
+def _within(bounds: Bounds, at: str) -> tuple[list[str], list[Any]]:
+    """A condition on the places of sagas, and its words. `at`: with a + where the index of the
+    starts is not to be used, as it leads to more sagas than another."""
+    given = [(sign, place) for sign, place in zip("><", bounds) if place is not None]
+    conditions = [f"({at}, s.id) {sign} (?, ?)" for sign, _ in given]
+    return ["1 = 1", *conditions], [word for _, place in given for word in place]
+
+
+def _order(at: str, newest: bool) -> str:
+    return f"{at} DESC, s.id DESC" if newest else f"{at}, s.id"
+
+
+def _rows(
+    of: Filter, bounds: Bounds, newest: bool, most: int | None, at: str, **form: bool
+) -> Question[list[Summary]]:  # fmt: skip
+    """`at`: `s.at` where the index of the starts leads to them; the others as of `_within`. `form`:
+    as of `Filter.where`."""
+    conditions, words = _within(bounds, at)
+    rest = dataclasses.replace(of, started_after=None, started_before=None)
+    where, more = rest.where(in_order=at == "s.at", **form)
+    condition, words = " AND ".join([*conditions, where]), [*words, *more]
+    if most is None:
+        query = f"SELECT {SUMMARY} FROM sagas s WHERE {condition}"
+    else:  # of others no labels are put together
+        lot = f"SELECT s.id FROM sagas s WHERE {condition} ORDER BY {_order(at, newest)} LIMIT ?"
+        query = f"SELECT {SUMMARY} FROM ({lot}) lot CROSS JOIN sagas s WHERE s.id = lot.id"
+        words.append(most)
+    found = map(summary_of, (yield Query(query, (*words,))))
+    return sorted(found, key=position_of, reverse=newest)
