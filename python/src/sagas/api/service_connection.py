@@ -71,17 +71,11 @@ class ServiceConnection:
     def __init__(
         self, url: str | Sequence[str], token: str | None, patience: float, stop: threading.Event
     ) -> None:
-        self._urls = deque(one.rstrip("/") for one in ([url] if isinstance(url, str) else url))
+        self._urls = deque(address_of(one) for one in ([url] if isinstance(url, str) else url))
         if not self._urls:
             raise ValueError("no service is given. Write, for example, http://127.0.0.1:8080")
         if token and not (token.isascii() and token.isprintable()):
             raise ValueError("the token has a character that no token has. Copy it again")
-        for one in self._urls:
-            if not one.startswith(("http://", "https://")):
-                raise ValueError(
-                    f"{one!r} is not the address of a service. Write, for example, "
-                    "http://127.0.0.1:8080"
-                )
         self._headers = {"Authorization": f"Bearer {token}"} if token else {}
         self._patience, self._stop = patience, stop
         self._lock = threading.Lock()
@@ -104,16 +98,17 @@ class ServiceConnection:
                 self._urls.rotate(-1)
 
     def until_told(
-        self, path: str, body: dict[str, Any], giving_up: bool = False
+        self, path: str, body: dict[str, Any], seconds: float | None = None, giving_up: bool = False
     ) -> dict[str, Any] | None:
-        """Asks until the service answers: it may be about to start again. None: it was stopped
-        meanwhile, and gives up. Raises `ServiceRefused`.
+        """Asks until the service answers: it may be about to start again. One try takes at most so
+        many seconds (None: its patience). None: it was stopped meanwhile, and gives up. Raises
+        `ServiceRefused`.
         """
-        pause = FIRST_PAUSE
+        pause, within = FIRST_PAUSE, seconds or self._patience
         while True:
             url = self.url
             try:
-                found = self.ask(url, path, body, self._patience)
+                found = self.ask(url, path, body, within)
                 self._lacks, self.heard = False, True
                 for step in (found.get("next") or found).get("unknown_steps", ()):
                     self._say_unknown(url, step)
@@ -124,6 +119,8 @@ class ServiceConnection:
                 text = str(refusal)
             except (OSError, ValueError) as error:
                 text = str(error)
+                if isinstance(error, TimeoutError):  # a request may be large, and the way slow
+                    within = max(within, min(2 * within, self._patience))
             self.turn_from(url)
             if giving_up and self._stop.is_set():
                 return None
@@ -133,6 +130,18 @@ class ServiceConnection:
             logger.info("%s: %s", path, text)
             time.sleep(pause * random.uniform(0.5, 1.0))
             pause = min(MOST_PAUSE, 2 * pause)
+
+    def try_to_tell(self, path: str, body: dict[str, Any], seconds: float) -> bool:
+        """Asks once, whatever comes of it. Whether it is of use to ask again: a service may refuse
+        it.
+        """
+        try:
+            self.ask(self.url, path, body, seconds)
+        except ServiceRefused as refusal:
+            return refusal.status in REPEAT
+        except (OSError, ValueError):
+            pass
+        return True
 
     def repeated(
         self, call: Callable[[str, float], T], patience: float, stop: threading.Event
@@ -287,6 +296,22 @@ class ServiceConnection:
             http.client.HTTPSConnection if is_secure else http.client.HTTPConnection
         )
         return kind(parts.hostname or "", parts.port, timeout=seconds)
+
+
+def address_of(text: str) -> str:
+    """The address of a service. Raises `ValueError`, which shows no password."""
+    _, at, host = text.rpartition("@")
+    if not text.startswith(("http://", "https://")):
+        shown = f"...@{host}" if at else text
+        raise ValueError(
+            f"{shown!r} is not the address of a service. Write, for example, http://127.0.0.1:8080"
+        )
+    if "@" in urllib.parse.urlsplit(text).netloc:
+        raise ValueError(
+            f"the address ...@{host} has a user or a password, which is not sent. Leave it out, "
+            "and pass a token"
+        )
+    return text.rstrip("/")
 
 
 def is_final(refusal: ServiceRefused) -> bool:

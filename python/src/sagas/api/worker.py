@@ -15,7 +15,6 @@ connection (nobody knows).
 
 from __future__ import annotations
 
-import dataclasses
 import inspect
 import itertools
 import logging
@@ -27,9 +26,10 @@ from collections import deque
 from collections.abc import Callable, Sequence
 from typing import Any
 
-from sagas.api.service_connection import ServiceConnection, ServiceRefused, is_final
+from sagas.api.service_connection import REPEAT, ServiceConnection, ServiceRefused, is_final
 from sagas.api.worker_task import (
     Function,
+    Held,
     WorkerStep,
     lifespan,
     outcome,
@@ -47,22 +47,11 @@ logger = logging.getLogger("sagas.worker")
 AHEAD, MOST_AHEAD = 0.1, 10
 """One question takes as many tasks as are lately done in so many seconds, and at most so many."""
 NO_CONTEXT = "the worker was made without one: give it by sagas.Worker(.., context=..)"
+HEARTBEAT, REPORT = 10.0, 40.0
+"""Seconds that one try may take at most; less, by the lease, so that the next service hears in
+time."""
 LOOK = 0.5
 """Seconds between looks at what was taken ahead; also the shortest lease of the service."""
-
-
-@dataclasses.dataclass(slots=True, eq=False)
-class _Held:
-    """A task that this worker has; until half of its lease is over it may be begun, so that its
-    first heartbeat comes in time.
-    """
-
-    attempt_id: str
-    lease: str
-    task: Task[Any]
-    until: float
-    lost: bool = False
-    unstorable: bool = False
 
 
 class Worker:
@@ -108,8 +97,8 @@ class Worker:
         self._stop = threading.Event()
         self._service = ServiceConnection(url, token, wait + 40.0, self._stop)
         self._steps: dict[str, WorkerStep] = {}
-        self._ahead: deque[_Held] = deque()  # taken, and not begun
-        self._held: set[_Held] = set()  # begun
+        self._ahead: deque[Held] = deque()  # taken, and not begun
+        self._held: set[Held] = set()  # begun
         self._rests = threading.Condition()
         self._busy = self._asking = self._moves = 0
         # seconds that a function took lately; that nothing is known makes one task at a time
@@ -243,7 +232,7 @@ class Worker:
                     self._busy -= 1
                     self._add(told)
 
-    def _one(self) -> _Held | None:
+    def _one(self) -> Held | None:
         """A task to begin, taken ahead or asked for now; where several may come at once, one
         thread asks for all. None: it was stopped.
         """
@@ -295,7 +284,7 @@ class Worker:
         claimed = (told.get("next") or told) if told else {}
         for task in claimed.get("tasks", ()):
             self._ahead.append(
-                _Held(
+                Held(
                     task["attempt_id"],
                     task["lease"],
                     task_of(task, self._context),
@@ -305,7 +294,7 @@ class Worker:
             self._moves += 1
         self._rests.notify_all()
 
-    def _do(self, one: _Held) -> dict[str, Any] | None:
+    def _do(self, one: Held) -> dict[str, Any] | None:
         """Does a task and reports it; gives the answer, with what was taken with the report
         where nothing was there to go on with.
         """
@@ -324,12 +313,13 @@ class Worker:
         return self._report(one, verb, body, more)
 
     def _report(
-        self, one: _Held, verb: str, body: dict[str, Any], more: dict[str, Any],
+        self, one: Held, verb: str, body: dict[str, Any], more: dict[str, Any],
     ) -> dict[str, Any] | None:  # fmt: skip
         """Says how a task ended. Where no more tasks may be taken with it, it is said alone."""
         path, told = f"/v1/tasks/{one.attempt_id}/{verb}", {"lease": one.lease, **body}
         try:
-            return self._service.until_told(path, {**told, **more})
+            seconds = min(REPORT, max(1.0, self.lease / 3))
+            return self._service.until_told(path, {**told, **more}, seconds)
         except ServiceRefused as refusal:
             if is_final(refusal):
                 if refusal.status == 403 and more:
@@ -345,19 +335,22 @@ class Worker:
         """Keeps the leases of what runs. Gives back what was taken ahead where no thread has
         come to it since the last look, and at a stop.
         """
-        looks, seen = max(1, round(self.lease / 3 / LOOK)), -1  # between two beats
+        looks, seen, ends = max(1, round(self.lease / 3 / LOOK)), -1, True  # between two beats
         pause = self.lease / 3 / looks
         for look in itertools.count(1):
             stopped = self._stop.wait(pause)
             if stopped or self._moves == seen:
                 self._give_back()
             seen = self._moves
+            if stopped and self._asking and ends:
+                ends = self._service.try_to_tell("/v1/tasks/claim/end", {"worker": self.name}, LOOK)
             with self._rests:
                 if stopped:
                     self._rests.notify_all()  # whoever waits for another's answer
-                    if self._rests.wait_for(lambda: not self._held, pause):
+                    if self._rests.wait_for(lambda: not self._held and not self._asking, pause):
                         return
-                held = [one for one in self._held if not one.lost] if look % looks == 0 else []
+                is_time = look % looks == 0
+                held = [one for one in self._held if one.unheard or is_time and not one.lost]
             for one in held:
                 self._renew(one, self.lease)
 
@@ -380,19 +373,24 @@ class Worker:
                 self._busy -= 1
                 self._rests.notify_all()
 
-    def _renew(self, one: _Held, seconds: float) -> None:
+    def _renew(self, one: Held, seconds: float) -> None:
         url, told = self.url, one.task.news()
         more = {"progress": told.fraction, "detail": told.detail} if told else {}
+        path = f"/v1/tasks/{one.attempt_id}/heartbeat"
+        body = {"lease": one.lease, "seconds": seconds, **more}
         try:
-            path = f"/v1/tasks/{one.attempt_id}/heartbeat"
-            body = {"lease": one.lease, "seconds": seconds, **more}
-            if reason := self._service.ask(url, path, body, 10.0).get("cancelled"):
+            found = self._service.ask(url, path, body, min(HEARTBEAT, self.lease / 6))
+            one.unheard = False
+            if reason := found.get("cancelled"):
                 one.task.cancelled.set(reason)
         except ServiceRefused as refusal:
+            one.unheard = refusal.status in REPEAT
             if refusal.status in (403, 404, 409):
                 one.lost = True
                 one.task.cancelled.set("lost")
             logger.warning("%s: %s", one.attempt_id, refusal)
         except (OSError, ValueError) as error:
+            one.unheard = True
             logger.info("%s: the heartbeat failed: %s", one.attempt_id, error)
+        if one.unheard:
             self._service.turn_from(url)

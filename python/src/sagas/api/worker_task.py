@@ -43,6 +43,21 @@ class WorkerStep:
     cancel_on_abort: bool = False
 
 
+@dataclasses.dataclass(slots=True, eq=False)
+class Held:
+    """A task that a worker has; until half of its lease is over it may be begun, so that its
+    first heartbeat comes in time. `unheard`: no service heard its last one.
+    """
+
+    attempt_id: str
+    lease: str
+    task: Task[Any]
+    until: float
+    lost: bool = False
+    unheard: bool = False
+    unstorable: bool = False
+
+
 @contextlib.contextmanager
 def lifespan(given: Any, shared: Context) -> Iterator[None]:
     """A worker's context, while the worker runs. Raises `TypeError` where it is an async one, which
