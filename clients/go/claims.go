@@ -3,6 +3,7 @@ package sagas
 import (
 	"context"
 	"encoding/json"
+	"errors"
 	"time"
 )
 
@@ -49,7 +50,7 @@ func (r *run) next() *claim {
 	r.mu.Lock()
 	defer r.mu.Unlock()
 	limit := r.wanted()
-	if r.stopped || r.claiming || r.claims.Err() != nil || limit < 1 || len(r.queue) > limit/2 {
+	if r.claiming || r.claims.Err() != nil || limit < 1 || len(r.queue) > limit/2 {
 		return nil
 	}
 	r.claiming = true
@@ -69,8 +70,11 @@ func (r *run) claimedNext(found *claimed) {
 	r.changed()
 }
 
-// claimTasks waits at the service while there is nothing to do, until the worker is stopped.
+// claimTasks waits at the service while there is nothing to do, until the worker is stopped. It
+// returns what the last answer brings.
 func (r *run) claimTasks() {
+	defer r.busy.Done()
+	defer r.giveBack()
 	for r.claims.Err() == nil {
 		limit, wait := r.idle()
 		if limit == 0 {
@@ -81,7 +85,8 @@ func (r *run) claimTasks() {
 			continue
 		}
 		body, _ := json.Marshal(r.claimOf(limit, wait))
-		answer, err := r.w.conn.until(r.claims, request{method: "POST", path: "/v1/tasks/claim", body: body, timeout: wait + 40*time.Second})
+		asked := request{method: "POST", path: "/v1/tasks/claim", body: body, wait: wait, timeout: wait + late}
+		answer, err := r.w.conn.repeat(r.claims, asked, r.waitFor)
 		var found claimed
 		if err == nil {
 			err = json.Unmarshal(answer, &found)
@@ -96,6 +101,41 @@ func (r *run) claimTasks() {
 			return
 		}
 		r.add(found)
+	}
+}
+
+// waitFor sends a claim to a service. If the worker is stopped while it waits there, the service is
+// asked to end it.
+func (r *run) waitFor(service string, asked request) ([]byte, time.Duration, error) {
+	if asked.wait > 0 {
+		unanswered, answered := context.WithCancel(r.answers)
+		defer answered()
+		r.busy.Add(1)
+		go r.endAtStop(unanswered, service)
+	}
+	return r.w.conn.ask(r.answers, service, asked)
+}
+
+// endAtStop asks a service, once the worker is stopped, to end the claims of this worker's name that
+// wait there. It repeats that until the context ends, because the claim may not have arrived yet, or
+// a balancer may lead the request to a service that does not have it. An older service refuses it.
+func (r *run) endAtStop(ctx context.Context, service string) {
+	defer r.busy.Done()
+	select {
+	case <-ctx.Done():
+		return
+	case <-r.claims.Done():
+	}
+	body, _ := json.Marshal(struct {
+		Worker string `json:"worker"`
+	}{r.w.name})
+	asked := request{method: "POST", path: "/v1/tasks/claim/end", body: body, timeout: mostEnd}
+	for {
+		_, _, err := r.w.conn.ask(ctx, service, asked)
+		var problem *Problem
+		if errors.As(err, &problem) && !repeats(problem.Status) || !sleep(ctx, endPause) {
+			return
+		}
 	}
 }
 
@@ -123,7 +163,7 @@ func (r *run) add(found claimed) {
 			continue // nobody asked for it
 		}
 		begin := now.Add(time.Duration(one.Seconds / 2 * float64(time.Second)))
-		r.queue = append(r.queue, &held{leased: one, begin: begin})
+		r.queue = append(r.queue, &held{leased: one, claimed: now, begin: begin})
 		r.moves++
 	}
 	var news []string
@@ -154,13 +194,15 @@ func (r *run) begin() {
 		r.busy.Add(1)
 		ctx, cancel := context.WithCancel(r.calls)
 		it := &call{cancel: cancel, reason: one.Cancelled}
-		r.running[it] = struct{}{}
+		r.running[it] = one
 		go r.do(context.WithValue(ctx, callKey{}, it), it, one)
 	}
 }
 
-// lookAhead returns tasks that were claimed ahead, and did not begin for a while.
+// lookAhead returns tasks that were claimed ahead, and did not begin for a while, or before the stop.
 func (r *run) lookAhead() {
+	defer r.busy.Done()
+	defer r.giveBack()
 	ticker := time.NewTicker(look)
 	defer ticker.Stop()
 	seen := -1
@@ -194,7 +236,11 @@ func (r *run) giveBack() {
 	for _, one := range back {
 		go func(one *held) {
 			defer r.busy.Done()
-			r.beat(r.calls, one, look)
+			within, end := r.within()
+			defer end()
+			if _, answered := r.beat(within, one, look); !answered {
+				r.beat(within, one, look) // to the next service, or over a connection that is open
+			}
 		}(one)
 	}
 	r.changed()

@@ -15,6 +15,9 @@ import (
 // mostWait is the longest that one request waits at the service.
 const mostWait = 30 * time.Second
 
+// mostWay is how much of the time of a Wait is for the way of its first answer, at most.
+const mostWay = 500 * time.Millisecond
+
 // mostPage is how many sagas a page of a list has at most.
 const mostPage = 1000
 
@@ -140,8 +143,8 @@ func (c *Client) get(ctx context.Context, key, more string, wait time.Duration) 
 
 // Wait returns a saga when it is over, that is when its phase is not Open.
 //
-// If the context ends first, it returns its error and the saga as it was seen last, which is nil if
-// it was not seen. Its Waits say what it waits for.
+// If the context ends first, it returns its error and the saga as it was seen last. Its Waits say what
+// it waits for. The saga is nil if no service answered in time.
 func (c *Client) Wait(ctx context.Context, key string) (*Saga, error) {
 	var last *Saga
 	for {
@@ -150,6 +153,9 @@ func (c *Client) Wait(ctx context.Context, key string) (*Saga, error) {
 			if left := time.Until(deadline); left < seconds {
 				seconds = left
 			}
+		}
+		if last == nil && seconds < mostWait {
+			seconds -= shortest(seconds/10, mostWay) // so that it is seen before the context ends
 		}
 		if seconds < 0 {
 			seconds = 0

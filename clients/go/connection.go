@@ -22,8 +22,9 @@ const (
 	mostPause      = 5 * time.Second
 	connectTimeout = 10 * time.Second
 	answerTimeout  = 20 * time.Second // of a client's request
-	requestTimeout = 60 * time.Second // of a report
 )
+
+var errNoObject = errors.New("something other than the service answered: that is not a JSON object")
 
 // Logger gets what a client or worker says for people. A *log.Logger is one.
 type Logger interface {
@@ -84,12 +85,12 @@ func newConnection(address string, s settings) (*connection, error) {
 	for at, one := range c.services {
 		parsed, err := url.Parse(one)
 		if err != nil || (parsed.Scheme != "http" && parsed.Scheme != "https") || parsed.Host == "" {
-			return nil, invalidArgument("%q is not the address of a service; write, for example, http://127.0.0.1:8080", one)
+			return nil, invalidArgument("%q is not the address of a service; write, for example, http://127.0.0.1:8080", shown(one))
 		}
 		c.services[at] = strings.TrimRight(one, "/")
 	}
-	if strings.ContainsAny(c.token, "\r\n") {
-		return nil, invalidArgument("the token has a line break")
+	if strings.IndexFunc(c.token, func(one rune) bool { return one <= ' ' || one > '~' }) >= 0 {
+		return nil, invalidArgument("the token has a character that no token has, for example a line break; copy it again")
 	}
 	if c.http == nil {
 		c.http = defaultHTTPClient()
@@ -101,6 +102,15 @@ func newConnection(address string, s settings) (*connection, error) {
 		c.timeout = time.Minute
 	}
 	return c, nil
+}
+
+// shown is an address for people: without a user and a password.
+func shown(address string) string {
+	if parsed, err := url.Parse(address); err == nil && parsed.Host != "" {
+		parsed.User = nil
+		return parsed.String()
+	}
+	return address[strings.LastIndex(address, "@")+1:] // of one that cannot be read, they are before that
 }
 
 func defaultHTTPClient() *http.Client {
@@ -139,7 +149,7 @@ func (c *connection) lacking(service string, err error) {
 	c.lacks = true
 	c.mu.Unlock()
 	if !said {
-		c.logger.Printf("sagas: %s does not answer: %v. Retrying", service, err)
+		c.logger.Printf("sagas: %s does not answer: %v. Retrying", shown(service), err)
 	}
 }
 
@@ -154,6 +164,7 @@ type request struct {
 	method, path string
 	body         []byte
 	timeout      time.Duration // of one attempt
+	most         time.Duration // each attempt that takes its timeout doubles that of the next one, up to this; or 0
 	wait         time.Duration // of the service, before it answers
 	header       http.Header   // beside those of every request; may be nil
 }
@@ -180,7 +191,8 @@ func (c *connection) open(ctx context.Context, service string, r request, header
 	return c.http.Do(asked)
 }
 
-// ask sends a request to a service once. An answer that is not a success is a *Problem.
+// ask sends a request to a service once. An answer that is not a success is a *Problem. One that is
+// not a JSON object is no answer of the service: a page of a proxy, for example.
 func (c *connection) ask(ctx context.Context, service string, r request) (body []byte, pause time.Duration, err error) {
 	ctx, cancel := context.WithTimeout(ctx, r.timeout)
 	defer cancel()
@@ -195,6 +207,9 @@ func (c *connection) ask(ctx context.Context, service string, r request) (body [
 	}
 	if answer.StatusCode >= 300 {
 		return nil, retryAfter(answer.Header), problemOf(answer.StatusCode, body)
+	}
+	if !json.Valid(body) || !bytes.HasPrefix(bytes.TrimSpace(body), []byte("{")) {
+		return nil, 0, errNoObject
 	}
 	c.answered()
 	return body, 0, nil
@@ -220,11 +235,22 @@ func retryAfter(header http.Header) time.Duration {
 // until repeats a request until a service answers it. It returns a *Problem, or an
 // *UnreachableError once the context has ended.
 func (c *connection) until(ctx context.Context, r request) ([]byte, error) {
+	return c.repeat(ctx, r, func(service string, r request) ([]byte, time.Duration, error) {
+		return c.ask(ctx, service, r)
+	})
+}
+
+// attempt sends a request to a service once, as ask does.
+type attempt func(service string, r request) (body []byte, pause time.Duration, err error)
+
+// repeat is until with a function for each attempt: one that is under way when the repetition ends
+// may still be answered.
+func (c *connection) repeat(ctx context.Context, r request, try attempt) ([]byte, error) {
 	pause := firstPause
 	last := errors.New("no answer in time")
 	for tries := 0; ; tries++ {
 		service := c.url()
-		body, asked, err := c.ask(ctx, service, r)
+		body, asked, err := try(service, r)
 		if err == nil {
 			return body, nil
 		}
@@ -234,10 +260,12 @@ func (c *connection) until(ctx context.Context, r request) ([]byte, error) {
 			return nil, err
 		}
 		if ctx.Err() != nil {
-			return nil, &UnreachableError{URL: service, Last: last, Context: ctx.Err()}
+			return nil, unreachable(service, last, ctx.Err())
 		}
 		if !errors.Is(err, context.DeadlineExceeded) { // of the attempt
 			last = err
+		} else if r.timeout < r.most {
+			r.timeout = shortest(2*r.timeout, r.most)
 		}
 		c.turnFrom(service)
 		if tries == 0 && problem == nil {
@@ -249,7 +277,7 @@ func (c *connection) until(ctx context.Context, r request) ([]byte, error) {
 			wait = asked
 		}
 		if !sleep(ctx, wait) {
-			return nil, &UnreachableError{URL: service, Last: last, Context: ctx.Err()}
+			return nil, unreachable(service, last, ctx.Err())
 		}
 		if pause *= 2; pause > mostPause {
 			pause = mostPause
@@ -275,10 +303,10 @@ func (c *connection) send(ctx context.Context, r request, asked, answer any) err
 	within, cancel := context.WithTimeout(ctx, r.wait+c.timeout)
 	defer cancel()
 	body, err := c.until(within, r)
-	var unreachable *UnreachableError
-	if errors.As(err, &unreachable) {
-		if unreachable.Context = ctx.Err(); unreachable.Context == nil { // its caller has not given up
-			c.turnFrom(unreachable.URL)
+	var silent *UnreachableError
+	if errors.As(err, &silent) {
+		if silent.Context = ctx.Err(); silent.Context == nil { // its caller has not given up
+			c.turnFrom(silent.service)
 		}
 	}
 	if err != nil || answer == nil {
@@ -297,6 +325,13 @@ func sleep(ctx context.Context, d time.Duration) bool {
 	case <-timer.C:
 		return true
 	}
+}
+
+func shortest(a, b time.Duration) time.Duration {
+	if a < b {
+		return a
+	}
+	return b
 }
 
 // escaped writes a key or a name as a part of a path.

@@ -184,12 +184,18 @@ func least(a, b int) int {
 // errors.Is(err, ErrUnavailable) is true for it. If the caller's context ended, so is
 // errors.Is(err, context.DeadlineExceeded) or errors.Is(err, context.Canceled).
 type UnreachableError struct {
-	// URL is the service that was asked last.
+	// URL is the service that was asked last, without a user and a password.
 	URL string
 	// Last is what the last attempt failed with.
 	Last error
 	// Context is the error of the caller's context, or nil if it did not end.
 	Context error
+
+	service string // the address as it was given
+}
+
+func unreachable(service string, last, ended error) *UnreachableError {
+	return &UnreachableError{URL: shown(service), Last: last, Context: ended, service: service}
 }
 
 // Error returns the address and the last failure.

@@ -6,6 +6,7 @@ import (
 	"encoding/json"
 	"errors"
 	"io"
+	"mime"
 	"net/http"
 	"net/url"
 	"strings"
@@ -16,6 +17,8 @@ import (
 // quiet is after how long without a byte a stream counts as lost: the service says something every
 // 15 seconds.
 const quiet = 45 * time.Second
+
+var errNoStream = errors.New("something other than the service answered: that is not a stream of events")
 
 // Missed is the name of the event that stands for events which are no longer stored. Look at the
 // sagas themselves.
@@ -96,9 +99,10 @@ type EventStream struct {
 	path   string
 	last   string // the ID of the last event
 	at     Event
-	answer *http.Response
+	first  *Event // that was read while the stream was opened
+	body   io.Closer
 	lines  *bufio.Reader
-	alarm  *time.Timer
+	alarm  *time.Timer // ends a stream that says nothing while it is read
 	stop   context.CancelFunc
 	err    error
 	mu     sync.Mutex
@@ -107,11 +111,14 @@ type EventStream struct {
 
 // connect asks for the stream until a service answers, and for at most a time if it is not 0.
 func (s *EventStream) connect(most time.Duration) error {
-	began, pause := time.Now(), firstPause
+	until, pause := time.Now().Add(most), firstPause
 	last := errors.New("no answer in time")
 	for {
-		service := s.conn.url()
-		err := s.open(service)
+		service, left := s.conn.url(), answerTimeout
+		if most > 0 {
+			left = shortest(left, time.Until(until))
+		}
+		err := s.open(service, left)
 		if err == nil {
 			return nil
 		}
@@ -122,13 +129,16 @@ func (s *EventStream) connect(most time.Duration) error {
 		if !errors.Is(err, context.Canceled) && !errors.Is(err, context.DeadlineExceeded) {
 			last = err
 		}
-		if s.ctx.Err() != nil || most > 0 && time.Since(began) > most {
-			return &UnreachableError{URL: service, Last: last, Context: s.ctx.Err()}
+		if s.ctx.Err() != nil {
+			return unreachable(service, last, s.ctx.Err())
 		}
 		s.conn.turnFrom(service)
+		if most > 0 && time.Until(until) < pause {
+			return unreachable(service, last, nil)
+		}
 		s.conn.lacking(service, last)
 		if !sleep(s.ctx, pause) {
-			return &UnreachableError{URL: service, Last: last, Context: s.ctx.Err()}
+			return unreachable(service, last, s.ctx.Err())
 		}
 		if pause *= 2; pause > mostPause {
 			pause = mostPause
@@ -136,28 +146,49 @@ func (s *EventStream) connect(most time.Duration) error {
 	}
 }
 
-func (s *EventStream) open(service string) error {
+// open asks a service for the stream, and reads what comes first: the ID behind which it goes on if
+// the connection breaks.
+func (s *EventStream) open(service string, most time.Duration) (err error) {
 	header := http.Header{"Accept": {"text/event-stream"}}
 	if s.last != "" {
 		header.Set("Last-Event-ID", s.last)
 	}
 	ctx, cancel := context.WithCancel(s.ctx)
-	s.alarm = time.AfterFunc(quiet, cancel) // the context ends with the stream's
+	s.alarm = time.AfterFunc(most, cancel) // the context ends with the stream's
+	defer func() {
+		s.alarm.Stop()
+		if err != nil {
+			cancel()
+		}
+	}()
 	answer, err := s.conn.open(ctx, service, request{method: "GET", path: s.path}, header)
 	if err != nil {
-		s.alarm.Stop()
-		cancel()
 		return bare(err)
 	}
+	s.body, s.lines, s.stop = answer.Body, bufio.NewReader(answer.Body), cancel
+	if err = refusalOf(answer); err == nil {
+		s.first, err = s.block()
+	}
+	if err != nil {
+		answer.Body.Close()
+		return bare(err)
+	}
+	s.conn.answered()
+	return nil
+}
+
+// refusalOf is what an answer says that is not a stream of events, or nil.
+func refusalOf(answer *http.Response) error {
 	if answer.StatusCode != http.StatusOK {
-		defer cancel()
-		defer answer.Body.Close()
-		s.alarm.Stop()
-		body, _ := io.ReadAll(io.LimitReader(answer.Body, 1<<16))
+		body, err := io.ReadAll(io.LimitReader(answer.Body, 1<<16))
+		if err != nil {
+			return err
+		}
 		return problemOf(answer.StatusCode, body)
 	}
-	s.answer, s.lines, s.stop = answer, bufio.NewReader(answer.Body), cancel
-	s.conn.answered()
+	if kind, _, _ := mime.ParseMediaType(answer.Header.Get("Content-Type")); kind != "text/event-stream" {
+		return errNoStream
+	}
 	return nil
 }
 
@@ -167,11 +198,11 @@ func (s *EventStream) Next() bool {
 	for s.err == nil {
 		found, err := s.read()
 		if err == nil {
-			s.at = found
+			s.at = *found
 			return true
 		}
 		s.hangUp()
-		if s.ctx.Err() == nil {
+		if sleep(s.ctx, firstPause) { // it may be one that ends each stream at once
 			err = s.connect(0)
 		}
 		if s.ctx.Err() != nil {
@@ -182,26 +213,38 @@ func (s *EventStream) Next() bool {
 	return false
 }
 
-// read reads up to the end of one event.
-func (s *EventStream) read() (Event, error) {
+// read waits for the next event.
+func (s *EventStream) read() (*Event, error) {
+	if first := s.first; first != nil {
+		s.first = nil
+		return first, nil
+	}
+	defer s.alarm.Stop()
+	for {
+		s.alarm.Reset(quiet)
+		if found, err := s.block(); found != nil || err != nil {
+			return found, err
+		}
+	}
+}
+
+// block reads up to an empty line: an event, or nil if there is only a comment or an ID.
+func (s *EventStream) block() (*Event, error) {
 	var name string
 	var data strings.Builder
 	id, told := s.last, false
 	for {
 		line, err := s.lines.ReadString('\n')
 		if err != nil {
-			return Event{}, err // what was not told to its end is told again
+			return nil, err // what was not told to its end is told again
 		}
-		s.alarm.Reset(quiet)
 		line = strings.TrimRight(line, "\r\n")
 		if line == "" {
 			s.last = id
 			if told {
 				return eventOf(name, id, data.String()), nil
 			}
-			name, told = "", false
-			data.Reset()
-			continue
+			return nil, nil
 		}
 		field, value, _ := strings.Cut(line, ":")
 		value = strings.TrimPrefix(value, " ")
@@ -220,9 +263,9 @@ func (s *EventStream) read() (Event, error) {
 	}
 }
 
-func eventOf(name, id, data string) Event {
-	var event Event
-	_ = json.Unmarshal([]byte(data), &event) // what a later service adds does not matter
+func eventOf(name, id, data string) *Event {
+	event := new(Event)
+	_ = json.Unmarshal([]byte(data), event) // what a later service adds does not matter
 	event.Name, event.ID, event.Data = name, id, json.RawMessage(data)
 	return event
 }
@@ -230,7 +273,7 @@ func eventOf(name, id, data string) Event {
 func (s *EventStream) hangUp() {
 	s.alarm.Stop()
 	s.stop()
-	s.answer.Body.Close()
+	s.body.Close()
 }
 
 // Event returns the event that Next went to.

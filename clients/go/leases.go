@@ -7,17 +7,21 @@ import (
 	"time"
 )
 
-// keepLease renews the lease of a running function.
+// keepLease renews the lease of a running function. If a heartbeat is not answered, the next service
+// gets one soon, so that the lease outlasts it.
 func (r *run) keepLease(ctx context.Context, it *call, one *held) {
-	ticker := time.NewTicker(r.w.lease / heartbeats)
-	defer ticker.Stop()
-	for {
-		select {
-		case <-ctx.Done():
-			return
-		case <-ticker.C:
+	each, pause := r.w.lease/heartbeats, firstPause
+	next := one.claimed.Add(each)
+	for sleep(ctx, time.Until(next)) {
+		began := time.Now()
+		reason, answered := r.beat(ctx, one, r.w.lease)
+		if !answered {
+			next = time.Now().Add(pause)
+			pause = shortest(2*pause, each)
+			continue
 		}
-		switch reason := r.beat(ctx, one, r.w.lease); reason {
+		next, pause = began.Add(each), firstPause
+		switch reason {
 		case NotStopped:
 		case Lost:
 			it.stop(Lost, true)
@@ -28,8 +32,9 @@ func (r *run) keepLease(ctx context.Context, it *call, one *held) {
 	}
 }
 
-// beat sends one heartbeat, with the progress. It returns why the function should stop.
-func (r *run) beat(ctx context.Context, one *held, lease time.Duration) StopReason {
+// beat sends one heartbeat, with the progress. It returns why the function should stop, and whether
+// a service answered.
+func (r *run) beat(ctx context.Context, one *held, lease time.Duration) (StopReason, bool) {
 	asked := struct {
 		Lease    string   `json:"lease"`
 		Seconds  float64  `json:"seconds"`
@@ -42,23 +47,24 @@ func (r *run) beat(ctx context.Context, one *held, lease time.Duration) StopReas
 	}
 	body, _ := json.Marshal(asked)
 	service := r.w.conn.url()
-	answer, _, err := r.w.conn.ask(ctx, service, request{method: "POST", path: "/v1/tasks/" + escaped(one.AttemptID) + "/heartbeat", body: body, timeout: beatTimeout})
+	answer, _, err := r.w.conn.ask(ctx, service, request{method: "POST", path: "/v1/tasks/" + escaped(one.AttemptID) + "/heartbeat", body: body, timeout: shortest(mostBeat, r.w.lease/heartbeats/2)})
 	var problem *Problem
 	switch {
 	case err == nil:
 		one.sent = news
 		var held struct{ Cancelled StopReason }
 		if json.Unmarshal(answer, &held) == nil {
-			return held.Cancelled
+			return held.Cancelled, true
 		}
 	case ctx.Err() != nil: // the function has ended
 	case errors.As(err, &problem) && !repeats(problem.Status):
 		r.w.conn.logger.Printf("sagas: %s: %v", one.AttemptID, err)
 		if problem.Status == 404 || problem.Status == 409 || problem.Name == string(ErrInvalidLease) {
-			return Lost
+			return Lost, true
 		}
 	default:
 		r.w.conn.turnFrom(service)
+		return NotStopped, false
 	}
-	return NotStopped
+	return NotStopped, true
 }

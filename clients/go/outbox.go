@@ -4,6 +4,7 @@ import (
 	"context"
 	"encoding/json"
 	"errors"
+	"time"
 )
 
 const (
@@ -49,14 +50,24 @@ func (r *run) batch() []taskReport {
 	return batch
 }
 
-// within is the context of a report: it ends some time behind the shutdown timeout.
+// within is the context of a report, or of a return: it ends some time behind the shutdown timeout.
 func (r *run) within() (context.Context, context.CancelFunc) {
 	r.mu.Lock()
 	defer r.mu.Unlock()
 	if r.closed {
-		return context.WithTimeout(r.calls, lastReport)
+		return context.WithTimeout(r.calls, r.grace)
 	}
 	return r.reported, func() {}
+}
+
+// reportTimeout is for one attempt of a report: if one service does not answer, another one hears of
+// the outcome within the lease. An attempt that takes it leaves more to the next one, so that a slow
+// upload gets through in the end.
+func (r *run) reportTimeout() time.Duration {
+	if third := r.w.lease / heartbeats; third > shortReport {
+		return shortest(late, third)
+	}
+	return shortReport
 }
 
 // deliver repeats reports until each is answered.
@@ -106,7 +117,7 @@ func (r *run) together(ctx context.Context, batch []taskReport, next *claim) ([]
 		Reports []taskReport `json:"reports"`
 		Next    *claim       `json:"next,omitempty"`
 	}{batch, next})
-	answer, err := r.w.conn.until(ctx, request{method: "POST", path: "/v1/tasks/report", body: body, timeout: requestTimeout})
+	answer, err := r.w.conn.until(ctx, request{method: "POST", path: "/v1/tasks/report", body: body, timeout: r.reportTimeout(), most: late})
 	if err != nil {
 		return batch, nil, err
 	}
@@ -145,7 +156,7 @@ func (r *run) alone(ctx context.Context, one taskReport, next *claim) *claimed {
 			taskReport
 			Next *claim `json:"next,omitempty"`
 		}{bare, next})
-		answer, err := r.w.conn.until(ctx, request{method: "POST", path: path, body: body, timeout: requestTimeout})
+		answer, err := r.w.conn.until(ctx, request{method: "POST", path: path, body: body, timeout: r.reportTimeout(), most: late})
 		if err == nil {
 			var kept struct{ Next *claimed }
 			if err := json.Unmarshal(answer, &kept); err != nil {

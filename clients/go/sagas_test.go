@@ -11,6 +11,7 @@ import (
 	"net"
 	"net/http"
 	"net/http/httptest"
+	"runtime"
 	"strings"
 	"testing"
 	"time"
@@ -97,7 +98,7 @@ func TestNextServiceIsAsked(t *testing.T) {
 		fmt.Fprint(w, `{"key": "k"}`)
 	}))
 	defer service.Close()
-	client, _ := NewClient("http://"+still.Addr().String(), WithServices(service.URL), WithTimeout(100*time.Millisecond))
+	client, _ := NewClient("http://app:s3cret@"+still.Addr().String(), WithServices(service.URL), WithTimeout(100*time.Millisecond))
 	if _, err := client.Get(context.Background(), "k"); !errors.Is(err, ErrUnavailable) {
 		t.Error(err)
 	}
@@ -122,7 +123,8 @@ func TestArguments(t *testing.T) {
 	for name, call := range map[string]func() error{
 		"address":    func() error { _, err := NewClient("127.0.0.1:8080"); return err },
 		"services":   func() error { _, err := NewClient("http://a", WithServices("ftp://b")); return err },
-		"token":      func() error { _, err := NewClient("http://a", WithToken("a\nb")); return err },
+		"token":      func() error { _, err := NewClient("http://a", WithToken("a\n")); return err },
+		"characters": func() error { _, err := NewClient("http://a", WithToken("\ufeffa")); return err },
 		"key":        func() error { _, err := client.Get(ctx, ""); return err },
 		"input":      func() error { _, err := Start(ctx, client, "a", "k", math.NaN()); return err },
 		"page":       func() error { list := client.List(ctx, Filter{Page: 1001}); list.Next(); return list.Err() },
@@ -178,6 +180,7 @@ func TestOutcomes(t *testing.T) {
 		`{"lease":"","outcome":"unknown","error":"full"}`:                                          func() (any, error) { return 7, cause },
 		`{"lease":"","outcome":"unknown","error":"context deadline exceeded"}`:                     func() (any, error) { return 7, context.DeadlineExceeded },
 		`{"lease":"","outcome":"unknown","error":"panic: full"}`:                                   func() (any, error) { panic(cause) },
+		`{"lease":"","outcome":"unknown","error":"the function ended its goroutine"}`:              func() (any, error) { runtime.Goexit(); return 7, nil },
 		`{"lease":"","outcome":"complete","result":{"unstorable":"json: unsupported value: NaN"}}`: func() (any, error) { return math.NaN(), nil },
 	}
 	for wanted, call := range calls {

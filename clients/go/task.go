@@ -138,6 +138,7 @@ type leased struct {
 // held is a task that this worker has.
 type held struct {
 	leased
+	claimed  time.Time // when its lease began
 	begin    time.Time // the latest time to begin it, so that its first heartbeat comes in time
 	progress atomic.Pointer[told]
 	sent     *told // the progress that was sent last

@@ -39,7 +39,8 @@ func WithConcurrency(functions int) WorkerOption {
 }
 
 // WithLease sets after how long another worker may have the task of a worker that is gone (default:
-// 30 seconds). A running function renews its lease three times in this time.
+// 30 seconds). A running function renews its lease three times in this time. If a service does not
+// answer that within a sixth of it, and ten seconds at most, the next service is asked.
 func WithLease(lease time.Duration) WorkerOption {
 	return workerOption(func(w *workerSettings) { w.lease = lease })
 }
@@ -56,8 +57,9 @@ func WithName(name string) WorkerOption {
 }
 
 // WithShutdownTimeout sets for how long Run waits for running functions after its context ended
-// (default: without limit). Then their contexts are canceled, and a report that no service answers
-// is given up.
+// (default: without limit). Then their contexts are canceled, and Run returns within ten seconds. A
+// function that has not ended five seconds later is left alone, and its outcome is not reported. A
+// report that no service answers for five seconds is given up.
 func WithShutdownTimeout(timeout time.Duration) WorkerOption {
 	return workerOption(func(w *workerSettings) { w.shutdown = timeout })
 }
@@ -168,6 +170,11 @@ func (w *Worker) declare(word string, missing bool, call function) {
 // waits for running functions, reports their outcomes, and returns nil. The context of a function
 // does not end with that of Run, but has its values.
 //
+// A request for tasks that waits at the service when the context ends is answered first: its tasks
+// return to the service, too. The worker asks the service to answer it at once. If the service is an
+// older one, or a balancer leads that to another one, Run may take as long as WithWait says, even if
+// no function runs.
+//
 // It returns a *Problem if the service refuses the worker, for example ErrUnauthorized or
 // ErrForbidden, and ErrInvalidArgument if a declaration is not valid or none was made.
 func (w *Worker) Run(ctx context.Context) error {
@@ -180,23 +187,22 @@ func (w *Worker) Run(ctx context.Context) error {
 	return newRun(w, ctx).run()
 }
 
-// call runs a step's function, and makes an outcome of a panic.
-func (w *Worker) call(ctx context.Context, h *held) (told taskReport) {
-	over := false
-	defer func() {
-		if over {
-			return
-		}
-		if value := recover(); value != nil {
-			w.conn.logger.Printf("sagas: %s of %s: panic: %v\n%s", h.Name, h.AttemptID, value, debug.Stack())
-			told = reportOfError(fmt.Errorf("panic: %v", value))
-		} else {
-			told = reportOfError(errors.New("the function ended its goroutine"))
-		}
+// call runs a step's function in a goroutine of its own, which the function may end, and makes an
+// outcome of that and of a panic.
+func (w *Worker) call(ctx context.Context, h *held) taskReport {
+	ended := make(chan taskReport, 1)
+	go func() {
+		told := reportOfError(errors.New("the function ended its goroutine"))
+		defer func() {
+			if value := recover(); value != nil {
+				w.conn.logger.Printf("sagas: %s of %s: panic: %v\n%s", h.Name, h.AttemptID, value, debug.Stack())
+				told = reportOfError(fmt.Errorf("panic: %v", value))
+			}
+			ended <- told
+		}()
+		told = w.steps[h.Name](ctx, h)
 	}()
-	told = w.steps[h.Name](ctx, h)
-	over = true
-	return told
+	return <-ended
 }
 
 // words are the steps that this worker performs.
