@@ -19,12 +19,17 @@ class Relay:
         """Chances: that a statement is cut on its way there; that its answer is, once it was done; that either is late."""
         self.mark: bytes | None = None
         """The next statement that holds this is done, and its connection cut before the answer; then it is None."""
+        self.still: bytes | None = None
+        """Once this is said, in either direction, it stands still: that and all else is held, and connections stay open, until `go_on`."""
+        self.stands = threading.Event()
         self.cuts: Counter[str] = Counter()
         self._draw = random.Random(seed)
         self._ready = threading.Event()
         self._loop = asyncio.new_event_loop()
         self._thread = threading.Thread(target=self._run, daemon=True)
         self._links: set[asyncio.StreamWriter] = set()
+        self._passes = asyncio.Event()
+        self._passes.set()
 
     def start(self) -> None:
         """Listens."""
@@ -39,6 +44,11 @@ class Relay:
     def cut(self) -> None:
         """Cuts all connections."""
         self._loop.call_soon_threadsafe(self._cut_all)
+
+    def go_on(self) -> None:
+        """Passes what was held."""
+        self.still = None
+        self._loop.call_soon_threadsafe(self._passes.set)
 
     def _cut_all(self) -> None:
         self.cuts["all"] += 1
@@ -67,6 +77,9 @@ class Relay:
             marked = asyncio.Event()
             both = [asyncio.create_task(self._pass(reader, forth, "before", marked)), asyncio.create_task(self._pass(back, writer, "after", marked))]
             await asyncio.wait(both, return_when=asyncio.FIRST_COMPLETED)
+            if both[0].done() and not self._passes.is_set():  # the client said all that it says, and what is held still comes to it
+                forth.write_eof()
+                await both[1]
             self._links -= {writer, forth}
             for one in both:
                 one.cancel()
@@ -82,6 +95,10 @@ class Relay:
                 elif way == "after" and marked.is_set():
                     self.cuts["marked"] += 1
                     return
+                if self.still and self.still in data:
+                    self._passes.clear()
+                    self.stands.set()
+                await self._passes.wait()
                 if self._draw.random() < self.delay:
                     await asyncio.sleep(self._draw.uniform(0.0, 0.05))
                 if self._draw.random() < getattr(self, way):

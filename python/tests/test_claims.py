@@ -20,6 +20,7 @@ from sagas.base.errors import Closed, StoreUnavailable
 from sagas.server.middleware import GONE, SERVICE
 from sagas.server.problems import Problem
 from sagas.server.routes import task_claims
+from sagas.server.waiting_claims import WaitingClaims
 from sagas.storage.lots import Lots
 
 WORD = [("far", "a", "run")]
@@ -313,6 +314,7 @@ class Claims:
     def __init__(self, *outcomes: list[str] | BaseException) -> None:
         self.outcomes, self.given_back, self.is_stopping = [*outcomes], list[str](), False
         self.store = types.SimpleNamespace(workers=self, now=lambda: 0.0)
+        self.claims = WaitingClaims()
         self.tokens, self.stopping = None, asyncio.get_running_loop().create_future()
         self.gone: asyncio.Future[None] = asyncio.get_running_loop().create_future()
 
@@ -363,6 +365,6 @@ def test_what_was_claimed_and_is_not_answered(
                 if of_report:
                     raise of_report
                 told = await claim.answer()
-        assert (told and told["tasks"], service.given_back) == (found, back)
+        assert (told and told.tasks, service.given_back) == (found, back)
 
     run(main())

@@ -4,21 +4,27 @@ from __future__ import annotations
 
 import asyncio
 import contextlib
+import datetime
 import functools
 import io
 import json
 import logging
+import os
 import pathlib
 import re
+import shlex
 import sqlite3
 import subprocess
+import sys
 from typing import Any
 
 import pytest
-from cases import Task, run, until
+from cases import Task, ended, run, simple, until
+from serving import environment
 
 import sagas
-from sagas.cli import formatting, store_command
+from sagas.cli import audits, formatting, store_command
+from sagas.cli.snapshot import Snapshot
 from sagas.base import program, wording
 from sagas.inspection import wording as words
 from sagas.inspection import saga as one_saga
@@ -43,6 +49,13 @@ class Shell:
     def json(self, *words: str, status: int = 0) -> Any:
         """What it prints for programs."""
         return json.loads(self(*words, "--json", status=status))
+
+
+class Screen(io.StringIO):
+    """A terminal."""
+
+    def isatty(self) -> bool:
+        return True
 
 
 def shop() -> sagas.Saga:
@@ -205,11 +218,7 @@ def test_audit_and_export(shell: Shell, path: str, tmp_path: pathlib.Path, capsy
 def test_progress_on_a_terminal(path: str, monkeypatch: pytest.MonkeyPatch) -> None:
     """What takes long says how far it has come, where somebody looks."""
 
-    class Terminal(io.StringIO):
-        def isatty(self) -> bool:
-            return True
-
-    said = Terminal()
+    said = Screen()
     monkeypatch.setattr("sys.stderr", said)
     assert store_command.main([path, "audit"]) == 0
     assert re.findall(r"shards: \d+ of \d+", said.getvalue())[-1] == "shards: 1 of 1"
@@ -308,6 +317,59 @@ def test_texts_that_the_output_has_no_characters_for(place: str, capsys: pytest.
     assert "\\xe9" in text and json.loads("{" + rest)["input"] == odd
 
 
+def test_no_text_adds_a_line_or_moves_a_cursor(tmp_path: pathlib.Path, capsys: pytest.CaptureFixture[str]) -> None:
+    """What callers, workers, functions and operators say: a terminal obeys none of it, each table has a line a row, and JSON has it as it is."""
+    odd = "part\n40\x1b[1A\x1b[2K\x1b]0;x\x07\x7f\x9b31m\u202e"
+    far, letter, place = sagas.Saga("far"), signed(), str(tmp_path / "store.db")
+    far.step(name="car", external=True, undo=0)
+
+    @far.step(tries=1, on_exhausted="ask")
+    def pay(task: Task) -> None:
+        raise ValueError(odd)
+
+    must = simple(lambda task: odd if task.input is None else failed(), skip=sagas.NEVER)
+
+    def failed() -> None:
+        raise sagas.Fail(odd)
+
+    async def main() -> None:
+        store = sagas.open(place, [far, letter, must])
+        store.leased = True
+        async with store:
+            await store.start(far, "far", odd)
+            (task,) = await store.workers.claim([("far", "car", "run")], wait=30, lease=3600, worker=odd)
+            await store.workers.heartbeat(task.attempt_id, task.lease, 3600, progress=0.4, detail=odd)
+            await store.start(letter, "letter")
+            assert (await ended(store, must, "good")).ok and (await ended(store, must, "bad", 1)).phase == "stuck"
+            await store.resolve("bad", odd, by=odd)
+            assert (await ended(store, must, "worse", 1)).phase == "stuck"
+            await until(lambda: len(shell.json("pending")) == 3)
+            with pytest.raises(sagas.StepNotWaiting):
+                await store.fail("letter", "none", odd, by=odd, note=odd)
+            await store.fail("letter", "sign", odd, by=odd, note=odd)
+            await store.wait("letter")
+
+    shell = Shell(place, capsys)
+    run(main())
+
+    def printed(*words: str) -> str:
+        told = shell(*words)
+        assert all(line.isprintable() for line in told.split("\n")), (words, told)
+        return told
+
+    for words in (["pending"], ["attention"], ["log", "letter"], ["log", "bad"], ["log", "good"]):
+        told = printed(*words)
+        assert told.count("\n") == 1 + len(json.loads(printed(*words, "--json"))) and "\\x1b[2K" in told, told
+    for words in (["show", "far"], ["show", "bad"], ["show", "good"], ["draw", "far", "--svg"]):
+        assert "\\x1b[2K" in printed(*words) and printed(*words, "--json")
+    assert "\nnote     part 40\\x1b[1A" in printed("show", "bad") and printed("export", "bad")
+    shown, exported = shell.json("show", "far"), shell.json("export", "far")
+    assert shown["input"] == odd and shown["steps"][0]["detail"] == odd and shell.json("show", "bad")["note"] == odd
+    assert shown.pop("plan") is None and shown.items() <= exported.items()
+    assert store_command.main([place, "show", "a\nb \x1b[2K"]) == 1
+    assert capsys.readouterr().err == "sagas store: no saga has the key a b \\x1b[2K\n"
+
+
 def test_a_compensation_that_failed_is_seen(place: str, capsys: pytest.CaptureFixture[str]) -> None:
     """Those that ended with it are listed and counted, and told of as `undo failed`, with what was raised; programs get the word of the rules."""
     row = sagas.Saga("row")
@@ -343,6 +405,113 @@ def test_a_compensation_that_failed_is_seen(place: str, capsys: pytest.CaptureFi
     assert told["undo_failed"] == 1 and "list --phase undo_failed" in shell("stats")
     assert shell.json("stuck") == [] and "1 ended with a permanently failed compensation" in shell("stuck")
     assert "phase    recovered, undo failed\n" in shell("show", "bad") and "phase    recovered\n" in shell("show", "undone")
+    shell("resolve", "bad", "--note", "it was found")
+    for key, phase in (("undone", "recovered"), ("bad", "resolved")):
+        assert store_command.main([place, "abort", key]) == 1
+        assert capsys.readouterr().err == f"sagas store: {key} has ended ({phase}), so there is nothing to abort\n"
+
+
+def test_a_log_says_who_did_what_and_why(place: str, capsys: pytest.CaptureFixture[str], monkeypatch: pytest.MonkeyPatch) -> None:
+    """Of what an operator did, also of what was refused; texts are cut for terminals alone."""
+    kind, why, shell = signed(), f"the customer {'who is well known ' * 9}called", Shell(place, capsys)
+
+    async def main() -> None:
+        async with sagas.open(place, [kind]) as store:
+            for key in ("agreed", "not", "twice"):
+                await store.start(kind, key)
+            await until(lambda: len(held(place)) == 3)
+            await store.complete("agreed", "sign", {"long": why}, by="ann", note="known customer")
+            await asyncio.to_thread(shell, "fail", "not", "sign", why)
+            await asyncio.to_thread(shell, "complete", "twice", "write", "--undo", "--note", "no letter", status=1)
+            for key in ("agreed", "not"):
+                await store.wait(key)
+
+    run(main())
+    shell("complete", "twice", "sign", "--note", "as agreed")
+    for key, line in (
+        ("agreed", "complete by ann: known customer"),
+        ("agreed", f'{{"long": "{why}"}}'),
+        ("not", f"fail: {why}"),
+        ("twice", r"complete (undo): no letter (refused: saga 'twice', step 'write': it has not started. Report it after it starts)"),
+        ("twice", "complete: as agreed (no answer yet)"),
+    ):
+        assert f"  {line}\n" in shell("log", key)
+    monkeypatch.setattr("sys.stdout", screen := Screen())
+    assert store_command.main([place, "log", "not"]) == 0
+    assert re.search(r"Z  note +sign +fail: the customer who .*\.\.\.\n", screen.getvalue()) and why not in screen.getvalue()
+
+
+def test_a_far_time_hides_nothing(tmp_path: pathlib.Path, capsys: pytest.CaptureFixture[str]) -> None:
+    """An approval may wait for longer than any calendar has days."""
+    kind, place = sagas.Saga("patient"), str(tmp_path / "store.db")
+    kind.approval(name="sign", timeout=datetime.timedelta.max)(lambda task: None)
+
+    async def main() -> None:
+        async with sagas.open(place, [kind, soon := signed()]) as store:
+            await store.start(kind, "far")
+            await store.start(soon, "near")
+            await until(lambda: len(held(place)) == 2)
+
+    run(main())
+    shell = Shell(place, capsys)
+    assert {line.split()[0] for line in shell("pending").splitlines()} == {"KEY", "far", "near"}
+    assert "an approval" in shell("show", "far") and shell.json("pending")[0]["until"] > 1e12
+
+
+def test_wrong_words_of_lists(place: str, capsys: pytest.CaptureFixture[str]) -> None:
+    """They have the status 2 and a line; and the words to go on with are as a shell takes them."""
+    kind = simple(lambda task: None)
+
+    async def main() -> None:
+        async with sagas.open(place, [kind]) as store:
+            for key in ("a b", "-c"):
+                await ended(store, kind, key)
+
+    run(main())
+    for command in ("list", "attention", "deliveries"):
+        assert store_command.main([place, command, "--limit", "0"]) == 0
+        for value in ("-1", "9" * 20, "x"):
+            with pytest.raises(SystemExit) as usage:
+                store_command.main([place, command, "--limit", value])
+            assert usage.value.code == 2 and f"argument --limit: invalid value '{value}': use an integer from 0 to" in capsys.readouterr().err
+    assert store_command.main([place, "list", "--label", "x="]) == 2
+    assert capsys.readouterr().err.startswith("sagas store: --label: label 'x': '': ")
+    with pytest.raises(SystemExit):
+        store_command.main([place, "abort", "a b", "--timeout", "nan"])
+    assert "argument --timeout: invalid value 'nan'" in capsys.readouterr().err
+    words, keys = ["--limit", "1"], list[str]()
+    for _ in range(2):
+        assert store_command.main([place, "list", "--json", *words]) == 0
+        told = capsys.readouterr()
+        keys += [one["key"] for one in json.loads(told.out)]
+        line = told.err.removeprefix("there may be more: continue with ")
+        words = [*shlex.split(line), "--limit", "1"]
+    assert keys == ["a b", "-c"] and line == "--after=-c\n" and store_command.main([place, "list", *words]) == 0
+
+
+FULL = "sagas store: cannot write the output or a temporary file: No space left on device\n"
+
+
+def test_an_output_that_takes_nothing(tmp_path: pathlib.Path) -> None:
+    """Status 4, and of a disk that is full a line that says so; a pipe whose reader has ended needs none."""
+    with sagas.open_sync(place := str(tmp_path / "store.db"), [kind := simple(lambda task: None)]) as store:
+        store.start(kind, "k").wait()
+    there, pipe = os.pipe()
+    os.close(there)
+    with open("/dev/full", "wb") as full, open(pipe, "wb") as broken:
+        for output, words, line in ((full, ["list"], FULL), (full, ["export", "k"], FULL), (broken, ["list", "--json"], "")):
+            told = [sys.executable, "-m", "sagas", "store", place, *words]
+            done = subprocess.run(told, stdout=output, stderr=subprocess.PIPE, text=True, env=environment())
+            assert (done.returncode, done.stderr) == (4, line)
+
+
+def test_errors_that_nobody_reads(path: str, capsys: pytest.CaptureFixture[str], monkeypatch: pytest.MonkeyPatch) -> None:
+    """Where standard error is closed, the status says it alone: no error is printed between the answers."""
+    for words, status in (["audit"], 0), (["show", "none"], 1), (["list", "--limit", "1"], 0):
+        monkeypatch.setattr("sys.stderr", None)
+        assert store_command.main([path, *words, "--json"]) == status
+        told = capsys.readouterr().out
+        assert bool(json.loads(told) if told else None) == (status == 0)
 
 
 def test_beside_the_running_program(place: str, capsys: pytest.CaptureFixture[str]) -> None:
@@ -400,9 +569,10 @@ def test_finish_says_what_is_wrong(place: str, capsys: pytest.CaptureFixture[str
     assert "not JSON" in finish("letter-1", "sign", "--result", "yes", status=2)
     store_command.main([path, "complete", "letter-1", "sign", "--result", "yes"])
     assert """Write a text as '"yes"'""" in capsys.readouterr().err
-    with pytest.raises(SystemExit):
-        store_command.main([path, "complete", "--help"])
-    assert "waits for an approval" in capsys.readouterr().out
+    for command, told in ("complete", "waits for an approval"), ("retry", "\n  1    no saga or step has the name, or"):
+        with pytest.raises(SystemExit):
+            store_command.main([path, command, "--help"])
+        assert told in capsys.readouterr().out
 
 
 def test_many_stuck_sagas_are_resolved_at_once(place: str, capsys: pytest.CaptureFixture[str]) -> None:
@@ -426,7 +596,7 @@ def test_many_stuck_sagas_are_resolved_at_once(place: str, capsys: pytest.Captur
     ]
     assert shell.json("stats")["sagas"]["shop"] == {"open": 0, "completed": 1, "recovered": 0, "stuck": 0, "resolved": 5}
     assert "paid in cash" in shell("show", "bad-0")
-    for words in ([], ["bad-0", "--all"]):
+    for words in ([], ["bad-0", "--all"], ["good", "--count"]):
         shell("resolve", *words, "--note", "x", status=2)
 
 
@@ -456,6 +626,64 @@ def test_words_for_people() -> None:
     record = logging.LogRecord("sagas", logging.INFO, "", 0, "said", None, None)
     record.created, record.msecs = 86400.0, 7
     assert formatting.moment(86400.0) == words.clock(86400.0) == "1970-01-02 00:00:00Z"
+    assert formatting.moment(1e15) == words.clock(1e15) and formatting.moment(None) == ""
     assert log_format.Text("%(asctime)s %(message)s").format(record) == "1970-01-02 00:00:00.007Z said"
     assert [wording.number(count, "saga") for count in (0, 1, 2)] == ["0 sagas", "1 saga", "2 sagas"]
     assert repr(sagas.Saga("none")) == "<saga none, version 1, 0 steps>" and repr(signed()) == "<saga signed, version 1, 2 steps>"
+
+
+FORGED = {
+    "UPDATE sagas SET phase = CASE key WHEN 'good' THEN 'stuck' ELSE 'ended' END WHERE key IN ('good', 'bad')": [
+        "good: the row says stuck, the events say completed", "bad: the row says completed, the events say stuck",
+    ],
+    "UPDATE sagas SET phase = 'ended', outcome = (SELECT outcome FROM sagas WHERE key = 'good') WHERE key = 'bad'": ["bad: the row says completed, the events say stuck"],
+    "UPDATE sagas SET outcome = replace(outcome, 'committed', 'undone') WHERE key = 'good'": ["good: the row says completed with another outcome than the events"],
+    "UPDATE sagas SET recovered = 1 WHERE key = 'good'": ["good: the row says recovered, the events say completed"],
+    "UPDATE sagas SET phase = 'ended', outcome = '' WHERE key = 'odd'": ["odd: the row says completed, the events say open"],
+    "UPDATE sagas SET definition_index = 7 WHERE key = 'odd'": ["odd: the row has definition 7, the events 0"],
+    "UPDATE attempts SET event = 'missed' WHERE id = (SELECT id FROM sagas WHERE key = 'bad') AND event = 'fail'": ["bad: charge, run 2: the row says missed, the events fail"],
+    "DELETE FROM attempts WHERE id = (SELECT id FROM sagas WHERE key = 'good')": [
+        "good: reserve, run 1: the row says nothing, the events commit", "good: charge, run 1: the row says nothing, the events commit",
+    ],
+    "INSERT INTO attempts SELECT id, 1, 'undo', 1, 'undone', NULL, 0 FROM sagas WHERE key = 'good'": ["good: charge, undo 1: the row says undone, the events nothing"],
+    "DELETE FROM sagas WHERE key = 'letter-1'": ["saga 3: events, and no row"],
+    "INSERT INTO attempts SELECT id, 1, 'undo', 1, 'ok', NULL, 0 FROM sagas WHERE key = 'good'": ["good: charge, undo 1: the row says ok, the events nothing"],
+    "INSERT INTO attempts SELECT id, 1, 'run', 1, 'ok', NULL, 0 FROM sagas WHERE key = 'odd'": [],  # as of a transaction that nobody has reported
+    "UPDATE attempts SET value = 'null'": [],
+}
+"""What is done to the rows of a store, and what the audit says of it."""
+
+
+def test_rows_that_differ_from_the_events(path: str, tmp_path: pathlib.Path, capsys: pytest.CaptureFixture[str]) -> None:
+    """The audit names each saga and each attempt of which the rows say something else; a value is in the rows alone."""
+    if path.startswith("postgresql:"):
+        return
+    for place, (statement, told) in enumerate(FORGED.items()):
+        copy = tmp_path / f"{place}.db"
+        with contextlib.closing(sqlite3.connect(path)) as source, contextlib.closing(sqlite3.connect(copy)) as forged:
+            source.backup(forged)
+            forged.execute(statement)
+            forged.commit()
+        (log,) = (forger := Shell(copy, capsys)).json("audit", status=1 if told else 0)
+        assert log["differences"] == told and log["audit"].startswith("yes"), statement
+        assert forger("audit", status=1 if told else 0).splitlines()[2:] == [f"shard 0: {line}" for line in told]
+
+
+def test_an_audit_of_what_is_being_written(place: str) -> None:
+    """Rows and events are of one moment, at each of them."""
+    kind = shop()
+
+    def differences() -> list[audits.Judged]:
+        with Snapshot(place) as store:
+            judged = [audits.judge(store, log) for log, _, _ in store.rows(audits.SHARDS)]
+        return [one for one in judged if not one.is_good]
+
+    async def main() -> None:
+        async with sagas.open(place, [kind]) as store:
+            work = asyncio.gather(*(ended(store, kind, f"k{number}", "fails" if number % 3 else None) for number in range(60)))
+            while not work.done():
+                assert await asyncio.to_thread(differences) == []
+            await work
+        assert differences() == []
+
+    run(main())

@@ -105,7 +105,7 @@ def test_the_command_shows_it(place: str, capsys: pytest.CaptureFixture[str]) ->
 
     when = run(fill())
     told = datetime.datetime.fromtimestamp(when, UTC).strftime("%Y-%m-%d %H:%M:%SZ")
-    assert f"\ndeadline {told}\n" in shell("show", "k") and "deadline" not in shell("show", "none")
+    assert f"\ndeadline {told}\n" in shell("show", "k") and "\ndeadline " not in shell("show", "none")
     assert shell.json("show", "k")["deadline"] == when
     assert [one["deadline"] for one in shell.json("list")] == [when, None]
 

@@ -3,20 +3,26 @@
 from __future__ import annotations
 
 import asyncio
+import contextlib
 import json
 import os
 import pathlib
 import signal
+import subprocess
+import sys
+import time
 from collections.abc import Callable
 from typing import Any
 
 import pytest
 from cases import HOUR, PLACES, QUICK, Task, ended, pairs, run, until
+from serving import environment
 
 import sagas
 import sagas.testing
 from sagas.cli import store_command
 from sagas.core.attention import AttentionReason
+from sagas.storage import admin
 
 ASKS = AttentionReason.EXHAUSTED
 
@@ -215,6 +221,28 @@ def test_a_limit_counts_the_steps_that_are_meant(place: str) -> None:
     run(main())
 
 
+def test_how_often_it_failed(place: str, capsys: pytest.CaptureFixture[str]) -> None:
+    """Each failure is counted, and none of those before a person's retry."""
+    kind, pauses = sagas.Saga("often"), iter((0.01, 3600.0, 3600.0))
+
+    @kind.step(tries=2, max_attempts=9)
+    def a(task: Task) -> None:
+        raise sagas.RetryAfter(next(pauses))
+
+    def has_failed(times: str) -> bool:
+        assert store_command.main([place, "show", "k"]) == 0
+        return f"its next attempt: it failed ({times})" in capsys.readouterr().out
+
+    async def main() -> None:
+        async with opened(place, kind) as store:
+            await store.start(kind, "k")
+            await until(lambda: has_failed("2 times"))
+            await store.retry("k", "a")
+            await until(lambda: has_failed("1 time"))
+
+    run(main())
+
+
 @pytest.mark.parametrize("more", [{"max_attempts": 12}, {"on_exhausted": "retry"}])
 def test_more_attempts_than_a_definition_has(
     place: str, tmp_path: pathlib.Path, more: dict[str, Any]
@@ -356,6 +384,15 @@ def test_the_command(
         assert store_command.main([place, *words]) == 2
 
 
+def all_asked(place: str, count: int) -> None:
+    """Wait, in the thread of the program, until so many commands are in the store."""
+    end = time.monotonic() + 60
+    with contextlib.closing(admin.connect(place)) as link:
+        while link.ask("SELECT count(*) FROM operator_commands WHERE answer IS NULL") != [(count,)]:
+            assert time.monotonic() < end, "they are not asked at once"
+            time.sleep(0.01)
+
+
 def test_the_command_reports_all(place: str, tmp_path: pathlib.Path, capsys: pytest.CaptureFixture[str]) -> None:
     """A count first; then each of the filter alone has the result, or has failed."""
     notes = Notes(tmp_path)
@@ -382,14 +419,31 @@ def test_the_command_reports_all(place: str, tmp_path: pathlib.Path, capsys: pyt
             assert json.loads(said(*done, "--json")) == {"count": 2}
             failed = "fail", "--all", "--label", "lot=y", "--error", "it is down"
             assert said(*failed) == "2 steps: --yes fails them\n" and len(await asked(store)) == 6
-            told = await asyncio.to_thread(said, *done, "--yes", "--note", "seen")
-            assert sorted(told.splitlines()) == ["x-0: a succeeded", "x-1: a succeeded"]
-            told = await asyncio.to_thread(said, *failed, "--yes")
-            assert sorted(told.splitlines()) == ["y-0: a failed", "y-1: a failed"]
+            words = [*done, "--yes", "--note", "seen", "--timeout", "60"]
+            job = asyncio.create_task(asyncio.to_thread(said, *words))
+            await asyncio.sleep(0)
+            all_asked(place, 2)  # while nothing here can answer: no step waits for another one's answer
+            assert sorted((await job).splitlines()) == ["x-0: a succeeded", "x-1: a succeeded"]
+            told = json.loads(await asyncio.to_thread(said, *failed, "--yes", "--json"))
+            entry = {"step": "a", "kind": "run", "asked": "fail", "answer": True}
+            assert sorted(told, key=lambda one: one["key"]) == [{"key": key} | entry for key in ("y-0", "y-1")]
+            assert json.loads(await asyncio.to_thread(said, *failed, "--yes", "--json")) == []
             for number in range(2):
                 assert (await runs[f"x-{number}"].wait()).results == {"a": 7}
                 assert (await runs[f"y-{number}"].wait()).errors == {"a": "it is down"}
             assert sorted({one.key for one in await asked(store)}) == ["z-0", "z-1"]
+            rest = ["--all", "--yes", "--json", "--timeout", "60"]
+            job = asyncio.create_task(asyncio.to_thread(said, "complete", *rest))
+            await asyncio.sleep(0)
+            all_asked(place, 2)
+            words = [sys.executable, "-m", "sagas", "store", place, "fail", *rest, "--error", "no"]
+            with subprocess.Popen(words, stdout=subprocess.PIPE, env=environment()) as late:
+                all_asked(place, 4)
+                answers = [one["answer"] for one in json.loads(await job)]
+                out = await asyncio.to_thread(late.communicate)
+            refused = [one["answer"] for one in json.loads(out[0])]
+            assert answers == [True, True] and late.returncode == 1
+            assert all("it has succeeded. This is a different outcome" in one for one in refused)
 
     run(main())
 

@@ -30,6 +30,7 @@ from kills import children
 from world import started
 
 import sagas
+from sagas.cli import store_command
 from sagas.core import protocol
 from sagas.runtime import coordinator, shard_runner
 from sagas.storage import admin
@@ -163,6 +164,67 @@ def test_a_store_of_two_names(tmp_path: pathlib.Path) -> None:
             assert (await store.wait("k")).ok
 
     run(main())
+
+
+def test_a_look_is_no_program(tmp_path: pathlib.Path, monkeypatch: pytest.MonkeyPatch) -> None:
+    """A command that looks whether a program has the store open is not taken for one by another command, and a program that opens waits for it."""
+    saga = simple(lambda task: 1)
+
+    async def main() -> None:
+        async with sagas.open(tmp_path / "store.db", [saga]) as store:
+            await ended(store, saga)
+        look = os.open(tmp_path / "store.db.lock", os.O_RDONLY)
+        fcntl.flock(look, fcntl.LOCK_SH)
+        with contextlib.closing(admin.File(str(tmp_path / "store.db"), "ro")) as file:
+            assert not file.is_driven()
+            monkeypatch.setattr(os, "sched_yield", lambda: os.close(look))
+            async with sagas.open(tmp_path / "store.db", [saga]) as store:
+                assert (await store.wait("k")).ok and file.is_driven()
+            assert not file.is_driven()
+
+    run(main())
+
+
+@pytest.mark.parametrize("version", [0, 1])
+@pytest.mark.parametrize("mode", ["delete", "wal"])
+def test_a_database_of_another_program(tmp_path: pathlib.Path, capsys: pytest.CaptureFixture[str], mode: str, version: int) -> None:
+    """It is neither opened nor migrated, and nothing of it changes; an empty one becomes a store."""
+    saga, path = simple(lambda task: 1), tmp_path / "other.db"
+
+    async def main() -> None:
+        async with sagas.open(path, [saga]) as store:
+            assert (await ended(store, saga)).ok
+
+    with contextlib.closing(sqlite3.connect(path, isolation_level=None)) as other:
+        other.execute(f"PRAGMA journal_mode={mode}")
+        other.execute(f"PRAGMA user_version={version}")
+        other.execute("CREATE TABLE notes(text)")
+        with pytest.raises(sagas.InvalidStore, match="a database of another program"):
+            run(main())
+        assert store_command.main([str(path), "migrate"]) == 4
+        assert "a database of another program" in capsys.readouterr().err
+        assert other.execute("SELECT name FROM sqlite_master").fetchall() == [("notes",)]
+        assert other.execute("PRAGMA user_version").fetchone() == (version,)
+        assert other.execute("PRAGMA journal_mode").fetchone() == (mode,)
+        other.execute("DROP TABLE notes")
+        other.execute("PRAGMA user_version=0")
+    run(main())
+
+
+def test_a_store_that_is_cut(tmp_path: pathlib.Path, capsys: pytest.CaptureFixture[str]) -> None:
+    """`migrate` says that it is no store any more, and leaves no lock."""
+    saga, path = simple(lambda task: 1), tmp_path / "store.db"
+
+    async def main() -> None:
+        async with sagas.open(path, [saga]) as store:
+            await ended(store, saga)
+
+    run(main())
+    for size in (6000, 4096, 90):
+        os.truncate(path, size)
+        for times in range(2):
+            assert store_command.main([str(path), "migrate"]) == 4
+            assert f"{path}: " in capsys.readouterr().err
 
 
 def test_a_log_handler_raises(place: str, capsys: pytest.CaptureFixture[str]) -> None:

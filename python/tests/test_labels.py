@@ -229,7 +229,7 @@ def test_the_command_counts_first(place: str, capsys: pytest.CaptureFixture[str]
     for words in ([], ["a", "--all"], ["a", *label], ["--all", "--label", "customer"]):
         shell("abort", *words, status=2)
     shell("abort", "--all", *label, "--label", "customer=8", status=2)
-    shell("list", "--label", "=8", status=4)
+    shell("list", "--label", "=8", status=2)
 
 
 def test_a_clients_start_has_its_labels(url: str) -> None:

@@ -2,6 +2,8 @@
 
 from __future__ import annotations
 
+import asyncio
+import pathlib
 import time
 from typing import Any
 
@@ -9,7 +11,7 @@ import records
 from cases import QUICK, Task, run, until
 
 import sagas
-from sagas.inspection import lists
+from sagas.inspection import lists, pages, what_if
 from sagas.inspection import saga as one_saga
 from sagas.inspection.question import StoreReader
 from sagas.server import json_views
@@ -51,8 +53,8 @@ def test_looks_and_who_did_what(place: str) -> None:
                 assert not await store.abort("two", by="bob")
                 told: list[Any] = [(note.what, note.told["by"], note.told["note"], note.answer) for key in ("one", "two") for note in looks.ask(one_saga.notes(key))]
                 assert told == [("complete", "ann", "seen", True), ("abort", "bob", "no more", True)]
-                assert [one.key for one in looks.ask(lists.page(phase="completed"))] == ["one"]
-                assert [one.key for one in looks.ask(lists.page(search="t_"))] == ["t_ree"]
+                assert [one.key for one in looks.ask(pages.page(phase="completed"))] == ["one"]
+                assert [one.key for one in looks.ask(pages.page(search="t_"))] == ["t_ree"]
                 assert looks.ask(lists.stuck()) == []
                 view = looks.ask(one_saga.view("two"))
                 assert view and view.aborted and view.phase == "recovered" and {step.name for step in view.steps} == {"a", "agreed"}
@@ -162,5 +164,70 @@ def test_one_saga_of_a_long_shard(place: str) -> None:
             (kept,) = records.read(place).logs.values()
             whole = sum(len(text) for _, text in kept.chunks)
             assert counting.read < whole / 5
+
+    run(main())
+
+
+def test_what_if_a_step_has_failed_permanently(tmp_path: pathlib.Path) -> None:
+    """While the saga waits for others, such a step is not told to be run, nor its compensation:
+    the answers are what then becomes of the saga."""
+    run_fails, undo_fails = sagas.Saga("run"), sagas.Saga("undo")
+    gate = asyncio.Event()
+
+    async def fails(task: Task) -> None:
+        await gate.wait()
+        raise sagas.Fail("refused for ever")
+
+    run_fails.step(name="car", external=True, skip=3)
+    run_fails.step(name="visa", tries=2, undo=sagas.NEVER, skip=sagas.NEVER)(fails)
+    take = undo_fails.step(name="take", undo=1, keep=7)(lambda task: 1)
+    take.compensation(tries=2, on_exhausted="fail")(fails)
+    undo_fails.step(name="car", external=True, skip=3)
+    for kind in (run_fails, undo_fails):
+        hotel = kind.step(name="hotel", external=True, undo=2, keep=9)
+        hotel.compensation(external=True)
+
+    async def main() -> None:
+        async with sagas.open(tmp_path / "store.db", [run_fails, undo_fails]) as store:
+            looks = StoreReader(store.reader())
+
+            def view(key: str) -> Any:
+                return looks.ask(one_saga.view(key))
+
+            async def has(key: str, step: str, state: str) -> None:
+                await until(lambda: {one.name: one.state for one in view(key).steps}[step] == state)
+
+            async def missed(key: str, outcome: str) -> None:
+                await until(lambda: any(one.outcome == outcome for one in view(key).attempts))
+
+            try:
+                for kind in (run_fails, undo_fails):
+                    await store.start(kind, key=kind.name)
+                await has("undo", "take", "committed")
+                await store.complete("undo", "hotel", 1)
+                await has("undo", "hotel", "committed")
+                for key in ("run", "undo"):
+                    await store.fail(key, "car", "none left")
+                await has("run", "car", "failed")
+                await has("undo", "take", "undoing")
+                await has("undo", "hotel", "undoing")
+                await store.abort("undo")
+                gate.set()
+                await missed("run", "missed")
+                await missed("undo", "undo_missed")
+                assert what_if.done_words(view("run"), "hotel") == "It would be stuck, because of visa"
+                assert what_if.failed_words(view("run"), "hotel") == "It would be stuck, because of visa"
+                told = what_if.of(view("undo"), done="hotel").plan
+                assert (told.cost, told.choices[0].decision) == (10, "stands")
+                await store.complete("run", "hotel", 1)
+                for key in ("run", "undo"):
+                    await has(key, "hotel", "undoing")
+                    await store.complete(key, "hotel", undo=True)
+                ends = [await store.wait(key) for key in ("run", "undo")]
+                assert [end.phase for end in ends] == ["stuck", "recovered"]
+                assert ends[1].states == {"take": "undo_failed", "car": "failed", "hotel": "undone"}
+                assert ends[1].cost == told.cost
+            finally:
+                looks.close()
 
     run(main())

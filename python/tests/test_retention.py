@@ -5,6 +5,7 @@ from __future__ import annotations
 import asyncio
 import contextlib
 import datetime
+import fcntl
 import json
 import os
 import pathlib
@@ -26,7 +27,7 @@ from sagas.cli import store_command
 from sagas.inspection import saga as one_saga
 from sagas.inspection.question import StoreReader
 from sagas.runtime import retention
-from sagas.storage import admin
+from sagas.storage import admin, archive
 
 HERE = pathlib.Path(__file__).resolve().parent
 ROOM = 4
@@ -271,6 +272,68 @@ def test_a_run_that_is_killed(place: str, tmp_path: pathlib.Path) -> None:
     (folder,) = (tmp_path / "archive").iterdir()
     assert audit(folder / "log", [folder / "definition-00.toml"]).startswith(f"yes sagas {ROOM}")
     assert tables(place)["sagas"] == 0
+
+
+def files(folder: pathlib.Path) -> dict[str, str]:
+    """What is in a folder."""
+    return {str(path.relative_to(folder)): path.read_text() for path in folder.rglob("*") if path.is_file()}
+
+
+def test_one_run_at_a_time(place: str, tmp_path: pathlib.Path, capsys: pytest.CaptureFixture[str]) -> None:
+    """While one is at work another one says so, and deletes and writes nothing; afterwards it does."""
+    logs = run(fill(place, shop(), ROOM))
+    age(place, *logs)
+    words = [place, "prune", "--older-than", "30d", "--export", str(tmp_path / "archive")]
+    before = tables(place)
+    with admin.writing(place) as link:
+        assert link.alone() and link.alone()
+        assert store_command.main(words) == 1
+        assert "another program is deleting ended sagas of this store" in capsys.readouterr().err
+        assert tables(place) == before and not (tmp_path / "archive").exists()
+    assert store_command.main(words) == 0 and tables(place)["sagas"] == 0
+    assert len([*(tmp_path / "archive").iterdir()]) == 1
+
+
+def test_a_log_goes_while_it_is_exported(place: str, tmp_path: pathlib.Path) -> None:
+    """What is written is of one moment: all of the log; later nothing is, and what was written stays."""
+    (log,) = run(fill(place, shop(), ROOM))
+    kind = admin.Base if place.startswith("postgresql:") else admin.File
+    overtaken, ask, folder = kind(place, "rw"), kind.ask, tmp_path / "archive"
+
+    def asked(text: str, *words: Any) -> list[admin.Row]:
+        rows = ask(overtaken, text, *words)
+        if text == archive.SHARD:
+            with admin.writing(place) as other:
+                retention._delete(other, log, None)
+        return rows
+
+    with contextlib.closing(overtaken):
+        overtaken.ask = asked  # type: ignore[method-assign]
+        whole = archive.write(overtaken, log, folder)
+        assert whole and tables(place)["sagas"] == 0
+        before = files(folder)
+        told = [json.loads(line) for line in (whole / "sagas.jsonl").read_text().splitlines()]
+        assert [len(one["results"]) for one in told] == [2] * ROOM
+        assert audit(whole / "log", [whole / "definition-00.toml"]).startswith(f"yes sagas {ROOM}")
+        assert archive.write(overtaken, log, folder) is None and files(folder) == before
+
+
+def test_a_forked_child_keeps_no_archive(tmp_path: pathlib.Path) -> None:
+    """Who forks while a log is written hinders no later one."""
+    reader, writer = os.pipe()
+    with archive._locked(tmp_path):
+        child = os.fork()
+        if child == 0:
+            os.close(writer)
+            os.read(reader, 1)  # until the test ends
+            os._exit(0)
+    held = os.open(tmp_path, os.O_RDONLY)
+    try:
+        fcntl.flock(held, fcntl.LOCK_EX | fcntl.LOCK_NB)
+    finally:
+        for fd in (held, writer, reader):
+            os.close(fd)
+        os.waitpid(child, 0)
 
 
 def test_a_run_takes_no_more_than_its_most(place: str) -> None:

@@ -92,6 +92,17 @@ def test_open_says_whose_the_lock_is(store: pathlib.Path) -> None:
     assert not os.path.exists(f"{store}.lock")
 
 
+@pytest.mark.skipif(os.geteuid() != 0, reason="only root can give files to others")
+def test_the_owner_deletes_after_root(store: pathlib.Path) -> None:
+    """A run of an administrator keeps the store's owner from none of his own."""
+    for path in (store.parent, *store.parent.iterdir()):
+        os.chown(path, NOBODY, NOBODY)
+    words = [str(store), "prune", "--older-than", "0s"]
+    assert store_command.main(words) == 0
+    with another():
+        assert store_command.main(words) == 0
+
+
 def test_nothing_is_left_beside_what_is_no_store(tmp_path: pathlib.Path) -> None:
     """Whoever gives his program in place of a store's path finds it as it was, and nothing beside it."""
     path = tmp_path / "order1.py"

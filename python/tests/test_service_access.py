@@ -3,16 +3,19 @@
 from __future__ import annotations
 
 import contextlib
+import html
 import json
 import pathlib
 import re
 import time
 from collections.abc import Iterator
 from typing import Any
+from urllib.parse import parse_qs, urlencode, urlsplit
 
 import httpx
 import pytest
 from serving import DEFINITIONS, LONG, Served, error_of, served, start, stuck, token
+from test_service_denial import answered, raw
 
 from sagas.server.app import API, PAGES
 
@@ -72,6 +75,7 @@ CALLS: list[tuple[str, str, str, Any, int]] = [
     (APPROVE, "POST", "/v1/sagas/asks/steps/review/fail", {"error": "no", "undo": True}, 409),
     (START, "POST", "/v1/sagas/nobody/abort", {}, 404),
     (WORK, "POST", "/v1/tasks/claim", {"steps": ["order/send"], "wait": 0}, 200),
+    (WORK, "POST", "/v1/tasks/claim/end", {"worker": "w"}, 200),
     (WORK, "POST", "/v1/tasks/x/heartbeat", FORGED, 403),
     (WORK, "POST", "/v1/tasks/x/complete", FORGED, 403),
     (WORK, "POST", "/v1/tasks/x/fail", {**FORGED, "error": "no"}, 403),
@@ -340,8 +344,25 @@ def test_the_page_wants_a_session(guarded: Guarded) -> None:
             assert answer.headers["location"] == "/ui"
             cookie = answer.headers["set-cookie"]
             assert "HttpOnly" in cookie and "SameSite=lax" in cookie and "Path=/ui" in cookie and guarded.tokens["operator"] not in cookie
+    with guarded.client(None) as client:
+        paths = [f"/ui/sagas/{key}" for key in ("order%237", "100%2541", "what%3Fx%3D1?unfold=all", "a%2Fb", "%C3%A9?unfold=a&b=%26")]
+        asked = [urlsplit(client.get(path).headers["location"]).query for path in paths]
+        assert [parse_qs(query)["next"] for query in asked] == [[path] for path in paths]
+        for path in paths:
+            answer = client.post("/ui/login", data={"token": guarded.tokens["operator"], "next": path})
+            assert answer.headers["location"] == path
     with guarded.client("operator") as bearer:
         assert bearer.get("/ui").status_code == 303  # a bearer token is no session
+
+
+FOREIGN = (
+    ({"Origin": "https://elsewhere.example"}, "has the Origin 'https://elsewhere.example' and the Host 'HOST'"),
+    ({"Origin": "null"}, "has the Origin 'null' and the Host 'HOST'"),
+    ({"Origin": "http://own.example:8443", "Host": "own.example"}, "A proxy has to pass on the Host that the browser sends, with its port"),
+    ({"Sec-Fetch-Site": "cross-site"}, "has the Sec-Fetch-Site 'cross-site'"),
+    ({"Sec-Fetch-Site": "same-site"}, "has the Sec-Fetch-Site 'same-site'"),
+)
+"""Headers of requests that are of no page of the service, and what is said of them."""
 
 
 def test_forms_are_the_session_s_own(guarded: Guarded) -> None:
@@ -352,9 +373,15 @@ def test_forms_are_the_session_s_own(guarded: Guarded) -> None:
         right, foreign = csrf_of(client, "/ui/sagas/forms/abort"), csrf_of(other, "/ui/sagas/forms/abort")
         for csrf in ("", "x", foreign, "ü"):
             assert client.post("/ui/sagas/forms/abort", data={"csrf": csrf}).status_code == 403
-        for headers in ({"Origin": "https://elsewhere.example"}, {"Origin": "null"}, {"Sec-Fetch-Site": "cross-site"}, {"Sec-Fetch-Site": "same-site"}):
+        for headers, told in FOREIGN:
             answer = client.post("/ui/sagas/forms/abort", data={"csrf": right}, headers=headers)
-            assert (answer.status_code, error_of(answer)) == (403, "CrossOrigin")
+            assert (answer.status_code, answer.headers["content-type"]) == (403, "text/html; charset=utf-8")
+            assert "A page of another site sent the request" in answer.text
+            assert told.replace("HOST", guarded.service.address) in html.unescape(answer.text)
+            with guarded.client("caller") as caller:
+                answer = caller.post("/v1/sagas/forms/abort", json={}, headers=headers)
+                assert (answer.status_code, error_of(answer)) == (403, "CrossOrigin")
+                assert told.replace("HOST", guarded.service.address) in answer.json()["detail"]
         assert client.post("/ui/sagas/forms/abort", content=b"{}", headers={"content-type": "text/plain"}).status_code == 415
         with guarded.client("caller") as caller:
             assert caller.get("/v1/sagas/forms").json()["aborted"] is False
@@ -365,27 +392,66 @@ def test_forms_are_the_session_s_own(guarded: Guarded) -> None:
         assert client.get("/ui").status_code == 303
 
 
+def test_the_cookies_of_two_services(guarded: Guarded) -> None:
+    """A browser sends those of a host to all of its ports: each service has a name of its own."""
+    port = guarded.service.address.rpartition(":")[2]
+    with guarded.client(None) as client:
+        for host, name in ((f"other:{port}", f"sagas_session_{port}"), ("[::1]:81", "sagas_session_81"), ("other", "sagas_session"), ("[::1]", "sagas_session")):
+            answer = client.post("/ui/login", data={"token": guarded.tokens["operator"]}, headers={"Host": host})
+            assert answer.headers["set-cookie"].partition("=")[0] == name
+        client.cookies.clear()
+    with logged_in(guarded) as client:
+        client.cookies.set("sagas_session_81", "another service's")
+        client.cookies.set("sagas_session", "another one's")
+        assert client.get("/ui").status_code == 200
+
+
+@contextlib.contextmanager
+def half_sent(service: Served, path: str, kind: str, body: bytes, **headers: str) -> Iterator[tuple[Any, bytes]]:
+    """A request whose body comes later but for its first byte: its connection, and the rest."""
+    told = {"Host": service.address, "Content-Type": f"application/{kind}", "Content-Length": str(len(body)), **headers}
+    head = "".join(f"{name}: {value}\r\n" for name, value in told.items())
+    with raw(service) as one:
+        one.sendall(f"POST {path} HTTP/1.1\r\n{head}\r\n".encode() + body[:1])
+        yield one, body[1:]
+
+
 def test_a_token_that_is_taken_away(tmp_path: pathlib.Path) -> None:
-    """Its bearer and its sessions end with it, without a new start; a file that cannot be read leaves the others."""
-    words = {role: token(tmp_path, role, "operator") for role in ("first", "second")}
+    """Its bearer and its sessions end with it, without a new start, and so does a request whose body is still to come; a file that cannot be read leaves the others."""
+    words = {role: token(tmp_path, role, role.rpartition("-")[2]) for role in ("an-operator", "a-caller", "second-operator")}
     file = tmp_path / "tokens.toml"
-    assert file.stat().st_mode & 0o077 == 0 and words["first"] not in file.read_text()
-    with served(tmp_path, DEFINITIONS, "--token-file", str(file)) as service:
-        with service.client(words["first"]) as first, service.client(words["second"]) as second, service.client() as page:
-            assert first.get("/v1/sagas").status_code == second.get("/v1/sagas").status_code == 200
-            page.post("/ui/login", data={"token": words["first"]})
-            assert page.get("/ui").status_code == 200
-            file.write_text(file.read_text()[file.read_text().rindex("[[token]]") :])
-            deadline = time.monotonic() + LONG
-            while first.get("/v1/sagas").status_code != 401:
-                assert time.monotonic() < deadline
-                time.sleep(0.1)
-            assert page.get("/ui").status_code == 303 and second.get("/v1/sagas").status_code == 200
-            file.write_text("[[token]\n")
-            while "tokens.toml: cannot be read" not in service.told():
-                assert second.get("/v1/sagas").status_code == 200 and time.monotonic() < deadline
-                time.sleep(0.1)
-            assert "the previous tokens stay valid until it is fixed" in service.told()
+    assert file.stat().st_mode & 0o077 == 0 and words["an-operator"] not in file.read_text()
+    with contextlib.ExitStack() as stack:
+        service = stack.enter_context(served(tmp_path, DEFINITIONS, "--token-file", str(file)))
+        first, caller, second = (stack.enter_context(service.client(word)) for word in words.values())
+        page = stack.enter_context(service.client())
+        assert first.get("/v1/sagas").status_code == second.get("/v1/sagas").status_code == 200
+        page.post("/ui/login", data={"token": words["an-operator"]})
+        assert page.get("/ui").status_code == 200
+        start(second, "order", "late")
+        note, form = b'{"note": "late"}', urlencode({"csrf": csrf_of(page, "/ui/sagas/late/abort")}).encode()
+        cookie = "; ".join(f"{name}={value}" for name, value in page.cookies.items())
+        call = half_sent(service, "/v1/sagas/late/abort", "json", note, Authorization=f"Bearer {words['an-operator']}")
+        narrowed = half_sent(service, "/v1/sagas/late/abort", "json", note, Authorization=f"Bearer {words['a-caller']}")
+        sent = half_sent(service, "/ui/sagas/late/abort", "x-www-form-urlencoded", form, Cookie=cookie)
+        some = [stack.enter_context(one) for one in (call, narrowed, sent)]
+        kept = file.read_text().split("[[token]]\n")[2:]
+        file.write_text("[[token]]\n" + '[[token]]\ndefinitions = ["trip"]\n'.join(reversed(kept)))
+        deadline = time.monotonic() + LONG
+        while first.get("/v1/sagas").status_code != 401:
+            assert time.monotonic() < deadline
+            time.sleep(0.1)
+        assert caller.get("/v1/sagas/late").status_code == 404
+        for one, rest in some:
+            one.sendall(rest)
+        assert [answered(one) for one, _ in some] == [(401, "Unauthorized"), (503, "RightsChanged"), (403, "")]
+        assert second.get("/v1/sagas/late").json()["aborted"] is False
+        assert page.get("/ui").status_code == 303 and second.get("/v1/sagas").status_code == 200
+        file.write_text("[[token]\n")
+        while "tokens.toml: cannot be read" not in service.told():
+            assert second.get("/v1/sagas").status_code == 200 and time.monotonic() < deadline
+            time.sleep(0.1)
+        assert "the previous tokens stay valid until it is fixed" in service.told()
 
 
 def test_texts_are_no_markup(guarded: Guarded) -> None:
@@ -425,7 +491,7 @@ def test_headers(guarded: Guarded) -> None:
 
 def test_without_tokens_only_the_loopback_s_names(tmp_path: pathlib.Path) -> None:
     """A name that some page made point here is not answered to; and rates are limited."""
-    with served(tmp_path, DEFINITIONS, "--rate", "0.5") as service, service.client() as client:
+    with served(tmp_path, DEFINITIONS, "--rate", "0.4") as service, service.client() as client:
         assert error_of(client.get("/v1/sagas", headers={"Host": "elsewhere.example"})) == "UnknownHost"
         for name in ("localhost:1", "127.0.0.1", "[::1]:80"):
             assert client.get("/health/live", headers={"Host": name}).status_code == 200

@@ -15,7 +15,7 @@ from typing import Any
 import httpx
 import pytest
 from driving import program
-from serving import DEFINITIONS, LONG, Served, all_done, error_of, report, served, start, stuck, take
+from serving import DEFINITIONS, LONG, Served, all_done, command, error_of, report, served, start, stuck, take
 
 import sagas
 
@@ -595,6 +595,7 @@ def test_it_stops_although_clients_ask_on(tmp_path: pathlib.Path) -> None:
         ),
         (DEFINITIONS, ("--listen", "0.0.0.0:0"), "only a loopback address is allowed"),
         (DEFINITIONS, ("--listen", "here"), "use HOST:PORT"),
+        (DEFINITIONS, ("--blobs", "definitions/order.toml"), "order.toml: this is a file; pass a directory"),
         (DEFINITIONS, ("--token-file", "nowhere.toml"), "nowhere.toml: file does not exist; create it with `sagas token"),
         (DEFINITIONS, ("--app", "nowhere:store"), "--app nowhere:store: No module"),
     ],
@@ -607,6 +608,29 @@ def test_what_cannot_be_served(tmp_path: pathlib.Path, files: dict[str, str], wo
     done = subprocess.run(one.command(), env=environment(), capture_output=True, text=True, timeout=LONG, cwd=tmp_path)
     assert done.returncode in (1, 2, 4) and says in done.stderr, done.stderr
     assert "Traceback" not in done.stderr
+
+
+def test_numbers_that_options_do_not_take() -> None:
+    """They end the command with status 2 and a line that says what to use, before anything starts; so do names that are none."""
+    for option in ("--rate", "--lease", "--concurrency", "--most-body", "--most-connections", "--blob-threshold"):
+        for value in ("0", "-1", "nan", "inf", "1e99", "x", "9" * 20):
+            done = command("serve", "x.db", option, value)
+            assert done.returncode == 2 and f"argument {option}: invalid value '{value}': use " in done.stderr, done.stderr
+    for words in (("--app", ":x"), ("--app", ".shop:x"), ("--listen", "127.0.0.1:²"), ("--listen", "127.0.0.1:" + "1" * 5000)):
+        done = command("serve", "x.db", *words)
+        assert done.returncode == 2 and f"sagas serve: invalid {words[0]} " in done.stderr, done.stderr
+
+
+def test_what_is_meant_for_a_database(tmp_path: pathlib.Path) -> None:
+    """A list of words and a misspelled URL are no file's name: nothing is made, and the password is not printed."""
+    from serving import environment
+
+    for store in ("password=s3cret host=127.0.0.1", "postgresql//me:s3cret@host/a"):
+        asked = Served(tmp_path, store=store).command()
+        done = subprocess.run(asked, env=environment(), capture_output=True, text=True, timeout=LONG, cwd=tmp_path)
+        assert done.returncode == 2 and "a store is an SQLite file" in done.stderr, done.stderr
+        assert "s3cret" not in done.stderr + done.stdout
+    assert [path.name for path in tmp_path.iterdir()] == ["definitions"]
 
 
 def test_a_module_s_steps_run_here(tmp_path: pathlib.Path) -> None:

@@ -159,7 +159,7 @@ def test_the_command(world: World, receiver: Receiver) -> None:
     for words, status, text in (
         (("redeliver", "msg_none"), 1, "no delivery has the id 'msg_none'"),
         (("redeliver",), 2, "give the id"),
-        (("--limit", "0"), 2, "--limit: must be 1 or more"),
+        (("--limit", "-1"), 2, "argument --limit: invalid value '-1'"),
         (("--state", "lost"), 2, "invalid choice: 'lost'"),
     ):
         done = command("store", store, "deliveries", *words)

@@ -325,6 +325,38 @@ def test_whoever_does_not_read_is_cut_off() -> None:
     asyncio.run(asyncio.wait_for(main(), LONG))
 
 
+def test_a_client_that_says_no_more_is_gone() -> None:
+    """Its connection closes, and it counts as gone from then on, and not only once the connection is lost: no task is handed to it meanwhile."""
+    gone: list[bool] = []
+
+    async def waits(scope: Any, receive: Any, send: Any) -> None:
+        while (await receive())["type"] != "http.disconnect":
+            pass
+
+    async def main() -> None:
+        counted = Connections(10, LONG, LONG)
+
+        class Seen(uvicorn_server.protocol(counted)):  # type: ignore[misc]
+            def eof_received(self) -> bool | None:
+                told: bool | None = super().eof_received()
+                gone.append(self.gone.done())
+                return told
+
+        config = uvicorn.Config(waits, http=Seen, log_config=None, log_level="critical")
+        config.load()
+        state = ServerState()
+        listening = await asyncio.get_running_loop().create_server(lambda: Seen(config=config, server_state=state), host(), 0)
+        back, there = await asyncio.open_connection(*listening.sockets[0].getsockname()[:2])
+        there.write(b"GET / HTTP/1.1\r\nHost: 127.0.0.1\r\n\r\n")
+        there.write_eof()
+        await back.read()
+        there.close()
+        listening.close()
+
+    asyncio.run(asyncio.wait_for(main(), LONG))
+    assert gone == [True]
+
+
 def test_a_body_that_does_not_come(tmp_path: pathlib.Path, monkeypatch: pytest.MonkeyPatch) -> None:
     """Once its time has passed that is answered with 408, and the connection ends; a body that comes in parts is taken."""
     monkeypatch.setenv("SAGAS_PROGRAM", program())

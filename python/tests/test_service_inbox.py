@@ -3,21 +3,48 @@ person is never out of reach."""
 
 from __future__ import annotations
 
+import html
 import pathlib
+import re
 import time
 from collections.abc import Iterator
 
+import httpx
 import pytest
 from selenium.webdriver.common.by import By
-from serving import Served, served, start, take
+from serving import DEFINITIONS, LONG, Served, all_done, report, served, start, take
 from test_service_page import Browser
 
-STUCK = 40
+import sagas
+from sagas.server.routes.bulk import Target
+from sagas.server.routes.inbox_words import question_of
+
+STUCK, ASKED = 40, 25
+PANEL = [f"ask-{number}" for number in range(ASKED)]
+FILES = DEFINITIONS | {
+    "panel.toml": 'format = 2\nname = "panel"\n'
+    + "".join(f'[[step]]\nname = "{name}"\n' for name in PANEL),
+    "panel.service.toml": "".join(f'[step.{name}]\nkind = "approval"\n' for name in PANEL),
+}
+
+
+def closed_shop(folder: pathlib.Path) -> None:
+    """A saga in the store, of a definition that the service does not have."""
+    shop = sagas.Saga("closed-shop")
+
+    @shop.step
+    def sell(task: sagas.Task) -> None:
+        pass
+
+    with sagas.open_sync(folder / "store.db", [shop]) as store:
+        assert store.start(shop, "sold-1").wait().ok
 
 
 @pytest.fixture(scope="module")
 def service(tmp_path_factory: pytest.TempPathFactory) -> Iterator[Served]:
-    with served(tmp_path_factory.mktemp("inbox")) as one, one.client() as client:
+    folder = tmp_path_factory.mktemp("inbox")
+    closed_shop(folder)
+    with served(folder, FILES) as one, one.client() as client:
         for number in range(STUCK + 3):
             start(client, "licence", f"stuck-{number}")
         for step in ("server", "licence"):
@@ -72,8 +99,39 @@ def test_forty_of_one_cause_are_resolved(service: Served, tmp_path: pathlib.Path
         browser.driver.quit()
 
 
+def csrf_of(client: httpx.Client) -> str:
+    found = re.search(r'name="csrf" value="([^"]+)"', client.get("/ui").text)
+    assert found
+    return found[1]
+
+
+def hidden(text: str) -> dict[str, str]:
+    """The hidden fields of the form that a page asks with, as a browser sends them."""
+    form = text.split('<form class="confirm card')[1].split("</form>")[0]
+    fields = re.findall(r'<input type="hidden" name="([^"]+)" value="([^"]*)"', form)
+    return {name: html.unescape(value) for name, value in fields}
+
+
+def asked(client: httpx.Client, kind: str, verb: str, **more: str) -> httpx.Response:
+    """What is asked once these are selected, and an action: by default the first group."""
+    search = more.get("search", "")
+    if "one" not in more:
+        text = client.get("/ui", params={"kind": kind, "search": search}).text
+        more["group"] = text.split('name="group" value="')[1].split('"')[0]
+    form = {"csrf": csrf_of(client), "kind": kind, "verb": verb, **more}
+    return client.post("/ui/inbox", data=form)
+
+
+def waits(client: httpx.Client, key: str, why: str) -> None:
+    deadline = time.monotonic() + LONG
+    while why not in [one["why"] for one in client.get(f"/v1/sagas/{key}").json()["waits"]]:
+        assert time.monotonic() < deadline
+        time.sleep(0.02)
+
+
 def test_each_is_within_reach(service: Served) -> None:
-    """By the pages of a group; without JavaScript, too. A count that has changed is asked again."""
+    """By the pages of a group; without JavaScript, too. What is wrong with a form is said, and what
+    is refused is counted."""
     with service.client() as client:
         text = client.get("/ui?kind=approval").text
         group = text.split('name="group" value="')[1].split('"')[0]
@@ -86,28 +144,149 @@ def test_each_is_within_reach(service: Served) -> None:
         assert len(found) == 60
         newest = client.get(f"/ui?kind=approval&group={group}&order=newest").text
         assert newest.index(">asked-59<") < newest.index(">asked-58<")
-        csrf = text.split('name="csrf" value="')[1].split('"')[0]
-        form = {"csrf": csrf, "kind": "approval", "verb": "done", "group": group, "sure": "1"}
-        wrong = client.post("/ui/inbox", data={**form, "count": "59", "result": "1"})
-        assert wrong.status_code == 422 and "The selection now has 60 entries, not 59" in wrong.text
-        no_json = client.post("/ui/inbox", data={**form, "count": "60", "result": "{"})
+        question = asked(client, "approval", "done").text
+        assert "Approve 60 steps of 60 sagas?" in question
+        sixty = hidden(question)
+        no_json = client.post("/ui/inbox", data={**sixty, "result": "{"})
         assert no_json.status_code == 422 and "not valid JSON" in no_json.text
+        refused = client.post("/ui/inbox", data={**sixty, "result": "NaN"}).text
+        assert "0 done, 60 refused" in refused and "the first 50" in refused
+        assert refused.count('<li class="line">') == 50
         one = shown.split('name="one" value="')[1].split('"')[0]
-        form = {"csrf": csrf, "kind": "approval", "verb": "failed", "one": one, "sure": "1"}
-        said = client.post("/ui/inbox", data={**form, "count": "1", "failed": "too expensive"})
+        question = asked(client, "approval", "failed", one=one).text
+        assert "Refuse 1 step of 1 saga?" in question
+        form = hidden(question)
+        said = client.post("/ui/inbox", data={**form, "failed": "too expensive"})
         assert "1 done" in said.text
         assert client.get("/v1/attention").json()["counts"]["approval"] == 59
+        again = client.post("/ui/inbox", data={**sixty, "result": "{"})
+        assert "Approve 59 steps of 59 sagas?" in again.text
         for other in ({**form, "csrf": "x"}, {**form, "verb": "resolve"}, {**form, "kind": "x"}):
             assert client.post("/ui/inbox", data=other).status_code in (403, 422)
 
 
+def test_what_nobody_saw_is_not_approved(service: Served) -> None:
+    """A form is for the sagas that it was shown with, as far as they still wait: not for others
+    that have come to their group, also once it was sent before."""
+    with service.client() as client:
+        for key in ("seen-1", "seen-2"):
+            start(client, "order", key)
+            waits(client, key, "approval")
+        question = asked(client, "approval", "done", search="seen-").text
+        assert "Approve 2 steps of 2 sagas?" in question
+        form = {**hidden(question), "result": "1"}
+        fraud = {"error": "fraud"}
+        assert client.post("/v1/sagas/seen-1/steps/review/fail", json=fraud).status_code == 200
+        start(client, "order", "seen-3")
+        waits(client, "seen-3", "approval")
+        done = client.post("/ui/inbox", data=form).text
+        assert "1 done" in done and "1 of those that you saw had changed" in done, done
+        assert client.get("/v1/sagas/seen-2").json()["states"]["review"] == "committed"
+        gone = client.post("/ui/inbox", data=form)
+        assert gone.status_code == 422 and "Nothing is selected" in gone.text
+        assert client.get("/v1/sagas/seen-3").json()["states"]["review"] == "begun"
+        client.post("/v1/sagas/seen-3/abort", json={})
+
+
+def test_a_form_is_for_what_its_reader_saw(service: Served) -> None:
+    """An outcome is not reported of a step that a worker has again, nor once its next outcome is
+    unknown: the form is asked again. Sent twice, it is done once."""
+    where = "/ui/sagas/hazy/steps/tour/failed"
+    said = {"failed": "they have no booking"}
+    with service.client() as client:
+        start(client, "trip", "hazy")
+        all_done(client, "trip/flight", "trip/car")
+        (tour,) = take(client, "trip/tour")
+        report(client, tour, "unknown", error="the line went dead")
+        waits(client, "hazy", "unknown")
+        old = {**hidden(client.get(where).text), **said}
+        many = hidden(asked(client, "unknown", "failed", search="hazy").text) | said
+        retry = {**hidden(client.get(where.replace("failed", "retry")).text), "note": "it is up"}
+        assert client.post(where.replace("failed", "retry"), data=retry).status_code == 303
+        (tour,) = take(client, "trip/tour")
+        again = client.post(where, data=old)
+        assert again.status_code == 409 and "w claimed it" in again.text
+        assert 'value="they have no booking"' in again.text
+        report(client, tour, "unknown", error="the line went dead")
+        waits(client, "hazy", "unknown")
+        again = client.post(where, data=old)
+        assert again.status_code == 409 and "unknown once more" in again.text
+        assert client.post("/ui/inbox", data=many).status_code == 422  # none of them waits
+        assert client.get("/v1/sagas/hazy").json()["states"]["tour"] == "begun"
+        undo = client.get("/ui/sagas/hazy/steps/car/failed?undo=true").text
+        assert "The compensation fails permanently" in undo and "plan of least cost" not in undo
+        now = hidden(again.text) | said
+        assert [client.post(where, data=now).status_code for _ in range(2)] == [303, 303]
+        all_done(client, "trip/car/undo")
+        assert client.get("/v1/sagas/hazy/wait?seconds=60").json()["states"]["tour"] == "failed"
+
+
 def test_a_definition_s_page(service: Served) -> None:
-    """What is at each step, and how long attempts took."""
+    """What is at each step, and how long attempts took. Of a definition that the service does not
+    have its sagas are there."""
     with service.client() as client:
         page = client.get("/ui/definitions/licence").text
         assert "Share recovered" in page and "3 failed" in page
         assert client.get("/ui/definitions/order").text.count("for a person") >= 2
         assert client.get("/ui/definitions/none").status_code == 404
+        assert 'href="/ui/definitions/closed-shop"' in client.get("/ui/definitions").text
+        assert "<option>closed-shop</option>" in client.get("/ui").text
+        gone = client.get("/ui/definitions/closed-shop")
+        assert gone.status_code == 200 and "does not have the definition" in gone.text
+        assert "Cost of recoveries" in gone.text and "Start one" not in gone.text
+        assert 'href="/ui/sagas?definition=closed-shop&amp;phase=completed">1</a>' in gone.text
+
+
+STEP, UNDO, OTHER = ("a", "car", False), ("a", "car", True), ("b", "car", True)
+QUESTIONS: list[tuple[str, list[Target], str, str]] = [
+    ("failed", [STEP], "Report that 1 step of 1 saga had no effect?", "Each step fails"),
+    ("failed", [UNDO], "Report that undoing 1 step of 1 saga had no effect?", "Each compensation"),
+    ("failed", [STEP, OTHER], "Report that 2 steps of 2 sagas had no effect?", "Each step fails"),
+    ("done", [STEP], "Report that 1 step of 1 saga is done?", "The sagas continue"),
+    ("done", [UNDO, OTHER], "Report that undoing 2 steps of 2 sagas is done?", "The sagas"),
+    ("retry", [UNDO], "Retry undoing 1 step of 1 saga?", "Each is called"),
+    ("abort", [("a", "", False)], "Abort 1 saga?", "No further step starts"),
+]
+
+
+def test_what_is_asked_of_steps_and_of_compensations() -> None:
+    """Whoever reports on a compensation is asked about that, and not about its step."""
+    for verb, targets, title, text in QUESTIONS:
+        told = question_of("unknown", verb, targets).of(targets, verb)
+        assert told["title"] == title and told["text"].startswith(text), told
+
+
+def tabs(text: str) -> dict[str, int]:
+    """The number of each kind, and which is shown."""
+    found = re.findall(r'(aria-current="true")?>([A-Z][a-z ]+) <span class="pill[^>]*>(\d+)', text)
+    return {("*" if shown else "") + name: int(count) for shown, name, count in found}
+
+
+def test_a_filter_of_the_inbox(service: Served) -> None:
+    """It shows the first kind of which it selects something, and counts what it selects. Each link
+    keeps it."""
+    with service.client() as client:
+        start(client, "panel", "panel-1")
+        deadline = time.monotonic() + LONG
+        while len(client.get("/v1/sagas/panel-1").json()["waits"]) < ASKED:
+            assert time.monotonic() < deadline
+            time.sleep(0.02)
+        page = client.get("/ui/sagas/panel-1").text
+        (link,) = re.findall(r'5 more steps wait for a person: <a href="([^"]+)"', page)
+        shown = client.get(html.unescape(link)).text
+        assert shown.count(">panel-1<") >= 5
+        for path in ("/ui?definition=panel", html.unescape(link)):
+            found = tabs(client.get(path).text)
+            assert (found["*Approvals"], found["Stuck"]) == (ASKED, 0), path
+        assert "Nothing that the filter selects" in client.get("/ui?kind=stuck&search=panel").text
+        question = asked(client, "approval", "abort", search="panel").text
+        assert "Abort 1 saga?" in question
+        question = asked(client, "approval", "done", search="panel").text
+        assert "Approve 1 step of 1 saga?" in question  # each step has a group
+        for query in ("search=oldest", "definition=oldest"):
+            links = re.findall(r'href="(/ui\?[^"]+)"', client.get(f"/ui?{query}").text)
+            assert links and all(query in one for one in links), links
+        client.post("/v1/sagas/panel-1/abort", json={})
 
 
 def test_a_small_screen(service: Served, tmp_path: pathlib.Path) -> None:

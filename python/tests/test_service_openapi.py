@@ -172,6 +172,7 @@ def test_bodies_and_parameters(client: httpx.Client) -> None:
         "limit=1&limit=2",
         "phase=none",
         "after=-1",
+        "after=12",
         "started_after=x",
     ):
         answer = client.get(f"/v1/sagas?{query}")

@@ -19,7 +19,7 @@ from selenium.webdriver.chrome.service import Service as Driver
 from selenium.webdriver.common.by import By
 from selenium.webdriver.common.keys import Keys
 from selenium.webdriver.support.ui import WebDriverWait
-from serving import LONG, Served, all_done, report, served, start, stuck, take
+from serving import DEFINITIONS, LONG, Served, all_done, report, served, start, stuck, take, token
 
 MANY = 100_000
 CONTRAST = """
@@ -293,8 +293,8 @@ def test_the_first_page_shows_what_is_new_by_itself(browser: Browser) -> None:
         for number in range(3):
             start(client, "order", f"late-{number}")
             browser.wait(lambda: browser.driver.find_elements(By.CSS_SELECTOR, f"[aria-label='Look at late-{number}']"))
-            asked = len(client.get("/v1/sagas?phase=open&definition=order").json()["sagas"])
-            browser.wait(lambda: f"Approvals {asked}" in browser.text)
+            asked = len(client.get("/v1/sagas?search=late-").json()["sagas"])
+            browser.wait(lambda: f"Approvals {asked}" in browser.text)  # those of the filter
             if number == 0:  # what is selected stays so when the page is renewed
                 browser.click("input[name=group]")
         assert browser.driver.find_element(By.CSS_SELECTOR, "input[name=group]").is_selected()
@@ -441,7 +441,7 @@ def test_a_hundred_thousand_sagas(tmp_path: pathlib.Path, shots: pathlib.Path) -
             browser.go("/ui/sagas")
             assert len(browser.driver.find_elements(By.CSS_SELECTOR, "tbody tr")) == 50
             browser.click("a.button", "Older →")
-            browser.has("old-099900")
+            browser.has("old-099950")
             browser.click("a.button", "← Newer")
             browser.has("old-099999")
             browser.type("[data-search]", "old-012345")
@@ -455,6 +455,212 @@ def test_a_hundred_thousand_sagas(tmp_path: pathlib.Path, shots: pathlib.Path) -
             browser.driver.quit()
         with service.client() as client:
             began = time.monotonic()
-            for path in ("/ui/sagas", "/ui/sagas?phase=completed&definition=licence", "/ui/sagas?phase=recovered", "/ui/sagas?search=99999", "/ui/sagas?before=1050000"):
+            for path in ("/ui/sagas", "/ui/sagas?phase=completed&definition=licence", "/ui/sagas?phase=recovered", "/ui/sagas?search=99999", "/ui/sagas?before=1700050000.0-1050000"):
                 assert client.get(path).status_code == 200
             assert time.monotonic() - began < LONG
+
+
+KEPT = """
+const all = (css) => [...document.querySelectorAll(css)], at = document.activeElement;
+const frame = document.querySelector(".scroll.pad"), picture = frame?.querySelector("svg");
+return {
+  fields: Object.fromEntries(all(".filter label input").map((one) => [one.name, one.value])),
+  selected: all("input:checked").map((one) => one.ariaLabel),
+  open: all("details").filter((one) => one.open).map((one) => one.dataset.keep ?? one.className),
+  focus: [at.nodeName, at.name ?? "", at.getAttribute("href") ?? "", at.selectionStart ?? -1],
+  picture: [picture?.getAttribute("width"), frame?.scrollLeft],
+  scrolled: document.querySelector("pre")?.scrollTop,
+};
+"""
+HEARD = """
+window.heard = [];
+const said = document.getElementById("said");
+const hear = () => heard.push([performance.now(), said.textContent]);
+new MutationObserver(hear).observe(said, { childList: true });
+"""
+
+
+def kept(browser: Browser) -> Any:
+    """What a person has done on this page: typed, unfolded, focused, zoomed and scrolled to."""
+    return browser.driver.execute_script(KEPT)
+
+
+def focus(browser: Browser, css: str) -> None:
+    browser.driver.execute_script("document.querySelector(arguments[0]).focus()", css)
+
+
+def test_what_is_new_takes_nothing_away(browser: Browser) -> None:
+    """A list shows new sagas also to those who type; what they typed, unfolded and focused stays.
+    Those who hear the page are told, and not once a second."""
+    browser.go("/ui/sagas")
+    browser.driver.execute_script(HEARD)
+    browser.click(".further summary")
+    browser.type("[name=error]", "no such")
+    browser.type("[name=search]", "fixed")
+    browser.driver.switch_to.active_element.send_keys(Keys.ARROW_LEFT)
+    before = kept(browser)
+    assert before["fields"]["search"] == "fixed" and before["open"] == ["further"]
+    assert before["focus"] == ["INPUT", "search", "", 4]
+    with browser.service.client() as client:
+        for number, css in enumerate(("[name=search]", ".filter button", ".further summary")):
+            focus(browser, css)
+            before = kept(browser)
+            start(client, "trip", f"typed-{number}")
+            browser.has(f"typed-{number}")
+            assert kept(browser) == before
+    heard = browser.driver.execute_script("return heard")
+    assert heard[0][1].startswith("This page changed at ")
+    assert all(later[0] - earlier[0] > 20_000 for earlier, later in zip(heard, heard[1:]))
+    focus(browser, "[name=search]")
+    browser.driver.switch_to.active_element.send_keys(Keys.ENTER)
+    browser.wait(lambda: "search=fixed" in browser.driver.current_url)
+    assert "error=no+such" in browser.driver.current_url
+    browser.is_quiet()
+
+
+def test_an_entry_before_the_others_moves_no_focus(browser: Browser) -> None:
+    """In the inbox it stays on its button and on its saga, and so does what is selected."""
+    with browser.service.client() as client:
+        start(client, "order", "moved-0")
+        browser.go("/ui?kind=approval&order=newest&search=moved")
+        browser.click("[aria-label='Select moved-0']")
+        for number, css in enumerate(
+            ("[aria-label='Look at moved-0']", ".bulk button", "[aria-label='Select moved-0']"), 1
+        ):
+            focus(browser, css)
+            before = kept(browser)
+            start(client, "order", f"moved-{number}")
+            look = f"[aria-label='Look at moved-{number}']"
+            browser.wait(lambda: browser.driver.find_elements(By.CSS_SELECTOR, look))
+            after = kept(browser)
+            assert after["focus"] == before["focus"] and after["selected"] == ["Select moved-0"]
+            assert number == 1 or after == before  # the first one's group has become a fold
+    browser.is_quiet()
+
+
+def test_a_saga_goes_on_below_who_looks(browser: Browser) -> None:
+    """Its picture stays where it was dragged and as large, and its input where it was read."""
+    with browser.service.client() as client:
+        start(client, "trip", "looked-at", {"lines": ["word " * 9] * 99})
+        try:
+            browser.size(360)
+            browser.go("/ui/sagas/looked-at")
+            browser.click(".tools button", "+")
+            browser.click(".tools button", "+")
+            browser.driver.execute_script(
+                "document.querySelector('.scroll.pad').scrollLeft = 77;"
+                "document.querySelector('pre').scrollTop = 300"
+            )
+            focus(browser, "pre")
+            before = kept(browser)
+            assert before["picture"][1] == 77 and before["scrolled"] == 300
+            assert client.post("/v1/sagas/looked-at/abort", json={}).status_code == 200
+            browser.has("Aborted")
+            assert kept(browser) == before
+            assert len(browser.driver.find_elements(By.CSS_SELECTOR, ".tools")) == 1
+        finally:
+            browser.size(1280)
+    browser.is_quiet()
+
+
+ANSWERED = """
+window.asked = [];
+const statuses = [...arguments], real = window.fetch, lapsed = document.getElementById("lapsed");
+window.fetch = async (...words) => {
+  const one = { status: statuses.shift() ?? 200, isLive: lapsed.hidden, began: performance.now() };
+  asked.push(one);
+  const answer = await real(...words);
+  await new Promise((done) => setTimeout(done, 300));
+  one.ended = performance.now();
+  return one.status === 200 ? answer : new Response("", { status: one.status });
+};
+"""
+
+
+GONE = """
+history.replaceState(null, "", "/ui/sagas/not-kept");
+document.dispatchEvent(new Event("visibilitychange"));
+"""
+
+
+def test_a_page_that_is_not_answered_is_taken_later(browser: Browser) -> None:
+    """It says that it is not live, and is renewed without another event. What takes long is
+    asked for less often. Of a saga that is not kept any more it says that."""
+    browser.go("/ui/sagas?search=page")
+    browser.driver.execute_script(ANSWERED, 503)
+    with browser.service.client() as client:
+        start(client, "trip", "late-page")
+        browser.has("late-page")
+        assert not browser.driver.find_element(By.ID, "lapsed").is_displayed()
+        start(client, "trip", "slow-page")
+        browser.has("slow-page")
+    refused, first, second = browser.driver.execute_script("return asked")[:3]
+    assert [one["status"] for one in (refused, first, second)] == [503, 200, 200]
+    assert [one["isLive"] for one in (refused, first, second)] == [True, False, True]
+    pause, took = second["began"] - first["ended"], first["ended"] - first["began"]
+    assert pause > 5 * took - 5  # milliseconds
+    browser.is_quiet()
+    browser.driver.execute_script(GONE)
+    browser.has("There is no such saga")
+    assert not browser.driver.find_element(By.ID, "lapsed").is_displayed()
+    browser.driver.get("about:blank")
+    browser.driver.get_log("browser")  # it shows each answer that is no 200
+
+
+CUT = """
+const boxes = "header, main, .card, .scroll:not(.pad)";
+return [...document.querySelectorAll(boxes)].filter((one) => one.scrollWidth > one.clientWidth + 1)
+  .map((one) => `${one.className || one.nodeName} ${one.scrollWidth} > ${one.clientWidth}`);
+"""
+
+
+def test_long_names_are_not_cut_off(browser: Browser, tmp_path: pathlib.Path) -> None:
+    """Those of a token, a label, a worker and a key: the page is no wider, and each box has it."""
+    secret, key = token(tmp_path, "N" * 64, "operator"), "K" * 300
+    paths = (f"sagas/{key}", f"sagas/{key}/abort", "sagas", "workers", "sagas/" + "Q" * 400)
+    with served(tmp_path, DEFINITIONS, "--token-file", str(tmp_path / "tokens.toml")) as service:
+        with service.client(secret) as client:
+            more = {"key": key, "labels": {"L" * 64: "V" * 256}}
+            client.post("/v1/sagas", json={"definition": "trip", **more}).raise_for_status()
+            take(client, "trip/flight")
+        try:
+            browser.driver.get(f"{service.url}/ui/login")
+            browser.type("[name=token]", secret)
+            browser.click("button.primary")
+            browser.has("Inbox")
+            browser.size(600)
+            assert browser.driver.execute_script(WIDTH) <= 600
+            for width in (360, 1280):
+                browser.size(width)
+                for number, path in enumerate(paths):
+                    browser.driver.get(f"{service.url}/ui/{path}")
+                    browser.shot(f"long-{number}-{width}")
+                    assert browser.driver.execute_script(WIDTH) <= width, path
+                    assert browser.driver.execute_script(CUT) == [], (path, width)
+        finally:
+            browser.driver.get("about:blank")  # its stream ends before the service does
+            browser.driver.get_log("browser")
+            browser.size(1280)
+
+
+MENDED = """
+const [paths, done] = arguments, parser = new DOMParser();
+const main = async (path) => {
+  const answer = await fetch(path);
+  return parser.parseFromString(await answer.text(), "text/html").getElementById("main");
+};
+Promise.all(paths.map(main)).then((pages) => done(pages.flatMap((from, a) => pages.map((to, b) => {
+  const old = document.importNode(from, true);
+  patch(old, document.importNode(to, true));
+  return old.isEqualNode(to) ? null : `${paths[a]} to ${paths[b]}`;
+}).filter((wrong) => wrong))), (error) => done([String(error)]));
+"""
+
+
+def test_a_renewed_page_is_the_new_page(browser: Browser) -> None:
+    """Whatever was there before: what stays is never what the service does not say."""
+    browser.go("/ui")
+    shown = ("/ui?kind=unknown", "/ui?kind=approval", "/ui?order=newest", "/ui/sagas?phase=open")
+    paths = [*shown, *(path for path in PATHS if "nobody" not in path)]
+    assert browser.driver.execute_async_script(MENDED, paths) == []
+    browser.is_quiet()

@@ -86,7 +86,8 @@ def test_the_service_starts_and_changes_schedules(world: World) -> None:
 
 
 def test_the_dashboard_has_schedules_and_labels(world: World) -> None:
-    """A page with forms, which ask for the session's word; and a filter of the list."""
+    """A page with forms, which ask for the session's word, and before they remove one; and a filter
+    of the list."""
     page = world.page("operator")
     declare(world.service, "<b>night", "trip", 86400.0)
     text = page.get("/ui/schedules").text
@@ -100,7 +101,11 @@ def test_the_dashboard_has_schedules_and_labels(world: World) -> None:
     theirs = re.search(r'name="csrf" value="([^"]+)"', other.get("/ui").text)
     assert theirs and other.post(f"{path}/remove", data={"csrf": theirs[1]}).status_code == 409
     assert page.post(f"{path}/pause", data={"csrf": csrf[1]}).status_code == 303
-    assert "paused" in page.get("/ui/schedules").text
+    text = page.get("/ui/schedules").text
+    assert "paused" in text and f'href="{path}/remove"' in text and 'remove"><input' not in text
+    question = page.get(f"{path}/remove").text
+    assert "Remove the schedule &lt;b&gt;night?" in question and "<textarea" not in question
+    assert other.get(f"{path}/remove").status_code == page.get(f"{path}x/remove").status_code == 404
     assert page.post(f"{path}/remove", data={"csrf": csrf[1]}).status_code == 303
     assert "There is no schedule" in page.get("/ui/schedules").text
     told = {"definition": "order", "key": "labeled", "labels": {"customer": "7"}}

@@ -298,6 +298,24 @@ def test_a_worker_takes_its_steps(world: World) -> None:
     assert report(world["both"], sent, result=1).status_code == 200
 
 
+def test_a_worker_ends_its_own_claims(world: World) -> None:
+    """By its token and its name, and nobody else does. They are answered at once."""
+    found: list[Any] = []
+    claims = threading.Thread(target=lambda: found.extend(take(world["sends"], "order/pay/undo")))
+    claims.start()
+    path, ends = "/v1/tasks/claim/end", {"worker": "w"}
+    for name in ("caller", "approves-trip"):
+        assert world[name].post(path, json=ends).status_code == 403
+    for name, words in (("worker", ends), ("operator", ends), ("sends", {"worker": "x"}), ("sends", {})):
+        assert world[name].post(path, json=words).json() == {"ended": 0}
+    until_ended = time.monotonic() + LONG  # until the claim has come there
+    other = world.service.client(world.tokens["sends"])
+    while other.post(path, json=ends).json() == {"ended": 0}:
+        assert claims.is_alive() and time.monotonic() < until_ended
+    claims.join(20)  # it would wait for 30 seconds
+    assert not claims.is_alive() and found == []
+
+
 def csrf_of(client: httpx.Client, path: str) -> str:
     found = re.search(r'name="csrf" value="([^"]+)"', client.get(path).text)
     assert found
@@ -368,8 +386,9 @@ def test_the_dashboard_starts_its_definitions(world: World) -> None:
     taken = page.post("/ui/start", data={"csrf": csrf, "definition": "order", "key": "a-trip"})
     assert taken.status_code == 409 and "is another saga&#39;s" in taken.text
     assert "secret" not in taken.text
-    refused = {"csrf": csrf, "failed": "no"}
-    assert page.post("/ui/sagas/a-order/steps/review/failed", data=refused).status_code == 303
+    form = "/ui/sagas/a-order/steps/review/failed"
+    sent = dict(re.findall(r'name="(csrf|waits)" value="([^"]+)"', page.get(form).text))
+    assert page.post(form, data={**sent, "failed": "no"}).status_code == 303
 
 
 def soon(seconds: float) -> str:

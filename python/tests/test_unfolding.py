@@ -2,9 +2,14 @@
 
 from __future__ import annotations
 
+import asyncio
+import contextlib
 import html
 import pathlib
 import re
+import threading
+import time
+import tomllib
 from collections.abc import Iterator
 from typing import Any
 
@@ -23,8 +28,12 @@ import sagas
 from sagas.cli.store_command import main
 from sagas.definition.groups import ALL, Groups
 from sagas.inspection import layout, picture
+from sagas.inspection import saga as one_saga
 from sagas.inspection.group_boxes import MOST_ITEMS, Told, boxes_of
-from sagas.server import declared_steps
+from sagas.inspection.question import StoreReader
+from sagas.inspection.views import SagaView
+from sagas.server import declared_steps, json_views
+from sagas.server.routes import saga_pages
 from sagas.server.table_rows import FEW
 
 DONE = Told("done", "", False, "committed", "committed")
@@ -148,6 +157,32 @@ def test_declared_steps() -> None:
     assert costs["mail"]["skip"] == "input" and costs["reserve"]["keep"] == 0
 
 
+def test_a_definition_is_read_once(
+    tmp_path: pathlib.Path, monkeypatch: pytest.MonkeyPatch
+) -> None:  # fmt: skip
+    """For the steps, the attempts, the plan and the picture of a page, however many ask for it."""
+    loads, texts = tomllib.loads, list[str]()
+
+    def counted(text: str) -> dict[str, Any]:
+        texts.append(text)
+        return loads(text)
+
+    async def main() -> SagaView | None:
+        async with sagas.open(str(tmp_path / "store.db"), [shaped.order]) as store:
+            await store.start(shaped.order, "k", parcels(5, 2))
+            assert (await store.wait("k")).phase == "recovered"
+            with contextlib.closing(StoreReader(store.reader())) as looks:
+                monkeypatch.setattr(tomllib, "loads", counted)
+                return looks.ask(one_saga.view("k"))
+
+    view = asyncio.run(main())
+    assert view and view.plan
+    told = saga_pages.told_of(view, lambda name, text: set(), time.time(), "*")
+    assert [*told["choices"]] == [step.name for step in view.steps] and told["attempts"].shown
+    assert json_views.timeline(view, time.time())["attempts"]
+    assert len(texts) <= 1
+
+
 # -- in a service
 
 
@@ -219,6 +254,29 @@ def test_a_fan_out_is_one_node(
             assert rows(text, "Attempts")[0][0] == f"ship ×{count}"
             assert 'href="/ui/sagas/of-%d?unfold=ship#steps"' % count in text
             assert len(text) < 60_000
+
+
+def test_reads_do_not_wait_for_pages(service: Served) -> None:
+    """While five people look at a large saga again and again, lists are read more often."""
+    pages, is_over = list[int](), threading.Event()
+
+    def looks() -> None:
+        with service.client() as client:
+            while not is_over.is_set():
+                pages.append(len(page(client, "/ui/sagas/of-500")))
+
+    people = [threading.Thread(target=looks) for _ in range(5)]
+    for one in people:
+        one.start()
+    reads = 0
+    with service.client() as client:
+        while len(pages) < 20 and all(one.is_alive() for one in people):
+            assert client.get("/v1/sagas?limit=1").status_code == 200
+            reads += 1
+    is_over.set()
+    for one in people:
+        one.join()
+    assert len(pages) >= 20 and reads > 20, reads
 
 
 def test_items_are_unfolded_by_the_address(service: Served) -> None:

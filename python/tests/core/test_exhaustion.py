@@ -102,10 +102,12 @@ def test_so_many_attempts_as_are_wanted() -> None:
 
 
 def test_an_unknown_one_stays_unknown_where_it_is_retried() -> None:
-    """Nothing is known of it by that: it may have had its effect."""
+    """Nothing is known of it by that: it may have had its effect. Its time begins anew."""
     attempt = attempt_of(number=2, max_unknown=0)
     MACHINE.ended(attempt, outcomes.unknown("lost"), NOW)
-    decision = exhaustion.retry(attempt, NOW)
+    assert attempt.since == NOW
+    decision = exhaustion.retry(attempt, NOW + 5)
+    assert attempt.since == NOW + 5
     assert decision.row and (decision.row.reason, decision.row.error) == (Suspension.UNKNOWN, "lost")
     assert attempt.count == 0 and attempt.outcome and attempt.outcome.kind is OutcomeKind.UNKNOWN
 
