@@ -404,6 +404,29 @@ def test_lost_answers(make: Make, service: Served, operator: str) -> None:
             driver.ask("stop", worker=key)
 
 
+def test_a_service_that_stands_still(make: Make, service: Served, operator: str) -> None:
+    """It costs no lease: the next service hears of a heartbeat, and of an outcome, while the lease lasts."""
+    host, _, port = service.address.rpartition(":")
+    driver, runs, ends = make(), fresh("still"), fresh("still")
+    with contextlib.ExitStack() as stack:
+        for key, word in ((runs, b"/heartbeat"), (ends, b"/complete")):
+            relay = stack.enter_context(relaying(int(port), host=host))
+            urls = [f"http://127.0.0.1:{relay.port}", service.url]
+            work(driver, urls, operator, key, steps=SOLO, concurrency=1, lease=8, wait=1)
+            driver.ask("start", definition="solo", key=key, input=script("hold"))
+            driver.heard("called", key=key, worker=key)
+            relay.still = word
+        client = stack.enter_context(service.client(operator))
+        beats = service.told().count("/heartbeat 200")
+        driver.ask("release", key=ends, step="a")
+        while service.told().count("/heartbeat 200") == beats:
+            assert take(client, "solo/a", wait=0.2) == []  # the task of a lease that has ended
+        driver.ask("release", key=runs, step="a")
+        for key in (runs, ends):
+            assert driver.ask("wait", key=key, timeout=LONG)["results"] == DONE
+            assert len(driver.calls(key, "solo/a")) == 1
+
+
 def test_lost_lease(make: Make, service: Served, operator: str) -> None:
     """A worker stands still past its lease. Another has the task: the function hears of it, and its report counts for nothing."""
     driver = make()
@@ -489,6 +512,42 @@ def test_killed_worker(make: Make, service: Served, operator: str) -> None:
         (again,) = second.calls(key, "solo/a")
         assert again["idempotency_key"] == calls[key]["idempotency_key"]
     second.ask("stop", worker="second")
+
+
+def test_a_claim_that_is_answered_at_a_stop(make: Make, service: Served, operator: str) -> None:
+    """The answer is on its way while the worker is stopped: its task is given back, however long its lease is."""
+    host, _, port = service.address.rpartition(":")
+    with relaying(int(port), host=host) as relay, service.client(operator) as client:
+        driver, key = make(), fresh("claim")
+        work(driver, f"http://127.0.0.1:{relay.port}", operator, "w", steps=["solo/a"], lease=3600)
+        relay.still = b'"attempt_id"'
+        driver.ask("start", definition="solo", key=key, input=script("ok"))
+        assert relay.stands.wait(LONG)
+        stopped = driver.send("stop", worker="w")
+        assert driver.ask("get", key=key)["phase"] == "open"  # what was sent before is under way
+        relay.go_on()
+        assert stopped.result(LONG) == {}
+        for step in ("a", "b"):
+            (task,) = take(client, f"solo/{step}")
+            assert task["key"] == key and report(client, task, result={"done": step}).status_code == 200
+        assert driver.ask("wait", key=key, timeout=LONG)["results"] == DONE and driver.calls(key, "solo/a") == []
+
+
+def test_an_idle_stop_is_quick(make: Make, service: Served, operator: str) -> None:
+    """The claim that waits at the service ends with its worker, and what comes then is another's."""
+    driver, key, claim = make(), fresh("idle"), "/v1/tasks/claim 200"
+    before = service.told().count(claim)
+    work(driver, service.url, operator, "idle", steps=["solo/a"], wait=30)
+    until = time.monotonic() + LONG
+    while service.told().count(claim) == before and time.monotonic() < until:  # the first one, which does not wait
+        time.sleep(0.1)
+    assert driver.send("stop", worker="idle").result(20) == {}
+    driver.ask("start", definition="solo", key=key, input=script("ok"))
+    with service.client(operator) as client:
+        for step in ("a", "b"):
+            (task,) = take(client, f"solo/{step}")
+            assert (task["key"], report(client, task, result={"done": step}).status_code) == (key, 200)
+    assert driver.ask("wait", key=key, timeout=LONG)["results"] == DONE
 
 
 def test_long_functions_and_a_stop(make: Make, service: Served, operator: str) -> None:

@@ -170,7 +170,7 @@ export interface EventOptions {
 export interface ClientOptions {
   /** The token of a caller, an approver or an operator (default: none). */
   token?: string;
-  /** Seconds for which a request is repeated until it is answered (default: 60). */
+  /** Seconds for which a request, or the opening of a stream, is repeated until it is answered (default: 60). */
   timeout?: number;
 }
 
@@ -187,11 +187,11 @@ export class Run<D extends Definitions<D> = AnyDefinitions, S extends Name<D> = 
   abort(options?: AbortOptions): Promise<boolean>;
 }
 
-/** A stream of events, to loop over. It goes on behind the last event after each interruption. */
-export class EventStream implements AsyncIterable<SagaEvent> {
-  private constructor();
+/** A stream of events, to loop over. Once it is open, it goes on behind the last event after each interruption. */
+export interface EventStream extends AsyncIterable<SagaEvent> {
+  /** The id of the last event, or of the moment of the opening. */
   readonly lastEventId: string | undefined;
-  /** Waits until the service has opened the stream: events from now on are seen. */
+  /** Waits until the service has opened the stream: events from now on are seen. A loop does this by itself. */
   open(): Promise<this>;
   /** Ends the stream, also a loop over it. */
   close(): void;
@@ -205,7 +205,7 @@ export class EventStream implements AsyncIterable<SagaEvent> {
  * refuses it, `Unreachable` if no service answered, `InvalidArgument` if nothing was sent, or the reason of `signal`.
  */
 export class Client<D extends Definitions<D> = AnyDefinitions> {
-  /** @param url The service, or several over one database: if one does not answer, the next one is asked. */
+  /** @param url The service, without user and password, or several over one database: if one does not answer, the next one is asked. */
   constructor(url: string | URL | (string | URL)[], options?: ClientOptions);
   /** The service that it asks now. */
   readonly url: string;
@@ -292,7 +292,7 @@ export interface WorkerOptions {
  * outcome is unknown: the task comes again with the same idempotency key.
  */
 export class Worker<D extends Definitions<D> = AnyDefinitions> {
-  /** @param url The service, or several over one database: if one does not answer, the next one is asked. */
+  /** @param url The service, without user and password, or several over one database: if one does not answer, the next one is asked. */
   constructor(url: string | URL | (string | URL)[], options?: WorkerOptions);
   readonly url: string;
   readonly concurrency: number;
@@ -313,7 +313,11 @@ export class Worker<D extends Definitions<D> = AnyDefinitions> {
    * Throws a `Problem` if the service refuses the worker, for example its token.
    */
   run(options?: { signal?: AbortSignal }): Promise<void>;
-  /** Claims nothing more. Tasks that have not begun return to the service. */
+  /**
+   * Claims nothing more. Tasks that have not begun return to the service. `run` awaits the answer to a claim that is
+   * under way: the service gives it at once, as a rule. If the service is older, or a balancer leads the request that
+   * ends the claim elsewhere, it takes `wait` seconds at most and little more.
+   */
   stop(): void;
 }
 

@@ -14,6 +14,7 @@ const LATE = 10;
 
 const name = (what, value) => {
   if (typeof value !== "string" || !value) throw new InvalidArgument(`${what}: it is a text that is not empty`);
+  if (/\p{Surrogate}/u.test(value)) throw new InvalidArgument(`${what}: it has half of a character`);
   return value;
 };
 const path = (key, ...rest) => ["v1/sagas", name("key", key), ...rest].map((part, i) => (i ? encodeURIComponent(part) : part)).join("/");
@@ -125,7 +126,7 @@ export class Client {
   }
 
   events(filter = {}) {
-    return new EventStream(this.#connection, filter, Math.min(ANSWER, this.#timeout));
+    return new EventStream(this.#connection, filter, this.#timeout);
   }
 
   async #ask(method, path, { body, headers, signal, seconds = Math.min(ANSWER, this.#timeout), patience = this.#timeout }) {

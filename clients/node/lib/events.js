@@ -1,13 +1,13 @@
 // The stream of events: an async iterator that goes on after each interruption behind the last event that it saw.
 
-import { rest, REPEAT } from "./connection.js";
-import { Unreachable, problemOf } from "./errors.js";
+import { FIRST_PAUSE, rest, spread } from "./connection.js";
+import { InvalidArgument, Unreachable, problemOf } from "./errors.js";
 import { parse } from "./json.js";
 import { eventOf } from "./views.js";
 
-const SILENT = 40_000; // milliseconds without even a comment: the connection is dead
-const FIRST_PAUSE = 100;
-const MOST_PAUSE = 5000;
+const SILENT = 40; // seconds without even a comment: the connection is dead
+const ANSWER = 20; // seconds until it is opened
+const ID = /^[\x20-\x7e]+$/;
 
 /** Reads server-sent events of a text that comes in parts. */
 export class EventReader {
@@ -32,22 +32,68 @@ export class EventReader {
   }
 }
 
+// An answer, read in blocks: what comes up to an empty line.
+class Blocks {
+  #answer;
+  #parts;
+  #reader = new EventReader();
+  #found = [];
+
+  constructor(answer) {
+    answer.setEncoding("utf8");
+    this.#answer = answer;
+    this.#parts = answer[Symbol.asyncIterator]();
+  }
+
+  /** The next one. Throws where the stream ends or breaks, or is silent for so many seconds. */
+  async next(silent) {
+    while (!this.#found.length) {
+      const { value, done } = await within(this.#answer, silent, () => this.#parts.next());
+      if (done) throw new Unreachable("the stream has ended");
+      this.#found.push(...this.#reader.read(value));
+    }
+    return this.#found.shift();
+  }
+
+  close() {
+    this.#answer.destroy();
+  }
+}
+
+// What comes of reading an answer; it is torn down behind so many seconds.
+async function within(answer, seconds, read) {
+  const alarm = setTimeout(() => answer.destroy(new Unreachable(`silent for ${seconds} s`)), 1000 * seconds);
+  try {
+    return await read();
+  } finally {
+    clearTimeout(alarm);
+  }
+}
+
+async function textOf(answer) {
+  let text = "";
+  for await (const part of answer) text += part;
+  return text;
+}
+
 export class EventStream {
   #connection;
   #path;
   #signal;
   #stopped = new AbortController();
-  #answer = null; // an open one that nobody reads yet
+  #blocks = null; // of the answer that is open
+  #first; // its first block, if that is not looked at yet
   #last;
-  #seconds; // that an answer may take
+  #patience; // seconds for which it is opened
 
-  constructor(connection, { key, definition, lastEventId, signal }, seconds) {
+  constructor(connection, { key, definition, lastEventId, signal }, patience) {
+    if (lastEventId && !ID.test(lastEventId)) throw new InvalidArgument(`lastEventId: ${JSON.stringify(lastEventId)} is not the id of an event`);
     const query = new URLSearchParams();
     for (const [word, value] of Object.entries({ key, definition })) if (value !== undefined) query.set(word, value);
     this.#connection = connection;
     this.#path = `v1/events?${query}`;
-    this.#last = lastEventId;
-    this.#seconds = seconds;
+    this.#last = lastEventId || undefined;
+    this.#patience = patience;
     this.#signal = this.#stopped.signal;
     if (signal?.aborted) this.#stopped.abort(signal.reason);
     signal?.addEventListener("abort", () => this.#stopped.abort(signal.reason), { once: true, signal: this.#signal });
@@ -60,7 +106,7 @@ export class EventStream {
 
   /** Waits until the service has opened the stream: events from now on are seen. */
   async open() {
-    this.#answer ??= await this.#connected();
+    await this.#opened(this.#patience);
     return this;
   }
 
@@ -71,11 +117,10 @@ export class EventStream {
 
   async *[Symbol.asyncIterator]() {
     try {
-      while (!this.#signal.aborted) {
-        await this.open();
-        const answer = this.#answer;
-        this.#answer = null;
-        yield* this.#read(answer);
+      for (let patience = this.#patience; ; patience = Infinity) {
+        await this.#opened(patience);
+        yield* this.#events();
+        await rest(spread(FIRST_PAUSE), this.#signal);
       }
     } catch (error) {
       if (!this.#signal.aborted) throw error;
@@ -84,55 +129,44 @@ export class EventStream {
     }
   }
 
-  // Opens the stream behind the last event, as often as it takes.
-  async #connected() {
-    for (let next = FIRST_PAUSE; ; next = Math.min(MOST_PAUSE, 2 * next)) {
-      const { url } = this.#connection;
-      let refusal;
-      try {
-        const headers = { accept: "text/event-stream", ...(this.#last && { "last-event-id": this.#last }) };
-        const answer = await this.#connection.open(url, "GET", this.#path, { headers, signal: this.#signal, seconds: this.#seconds });
-        answer.setEncoding("utf8");
-        if (answer.statusCode === 200) return answer;
-        let text = "";
-        for await (const part of partsOf(answer, 1000 * this.#seconds)) text += part;
-        refusal = problemOf(answer.statusCode, text);
-        if (!REPEAT.includes(answer.statusCode)) throw refusal;
-      } catch (error) {
-        if (this.#signal.aborted || error === refusal) throw error;
-      }
-      this.#connection.turnFrom(url);
-      await rest(next * (0.5 + Math.random() / 2), this.#signal);
+  // Opens the stream behind the last event, unless it is open.
+  async #opened(patience) {
+    if (this.#blocks) return;
+    const most = Math.min(ANSWER, this.#patience / this.#connection.count);
+    await this.#connection.repeated((url, left) => this.#begun(url, Math.min(most, left)), { patience, signal: this.#signal });
+  }
+
+  // Asks for it, and reads what comes first: the id behind which it goes on.
+  async #begun(url, seconds) {
+    const headers = { accept: "text/event-stream", ...(this.#last !== undefined && { "last-event-id": this.#last }) };
+    const answer = await this.#connection.open(url, "GET", this.#path, { headers, signal: this.#signal, seconds });
+    try {
+      if (answer.statusCode !== 200) throw problemOf(answer.statusCode, await within(answer, seconds, () => textOf(answer)));
+      if (!/^text\/event-stream\b/i.test(answer.headers["content-type"])) throw new Unreachable("the answer is not a stream of events");
+      const blocks = new Blocks(answer);
+      this.#first = await blocks.next(seconds);
+      this.#last = this.#first.id ?? this.#last;
+      this.#blocks = blocks;
+    } finally {
+      if (!this.#blocks) answer.destroy();
     }
   }
 
-  // The events of one answer, until it ends or breaks.
-  async *#read(answer) {
-    const reader = new EventReader();
+  // The events of the answer that is open, until it ends or breaks.
+  async *#events() {
+    const blocks = this.#blocks;
     try {
-      for await (const part of partsOf(answer, SILENT)) {
-        for (const { id, event, data } of reader.read(part)) {
-          if (id !== undefined) this.#last = id;
-          if (event !== undefined && data !== undefined) yield eventOf(event, this.#last, parse(data));
-        }
+      for (;;) {
+        const { id, event, data } = this.#first ?? (await blocks.next(SILENT));
+        this.#first = undefined;
+        this.#last = id ?? this.#last;
+        if (event !== undefined && data !== undefined) yield eventOf(event, this.#last, parse(data));
       }
     } catch (error) {
       if (this.#signal.aborted) throw error; // else it is opened anew
+    } finally {
+      this.#blocks = null;
+      blocks.close();
     }
-  }
-}
-
-// The parts of an answer, until it is silent for so many milliseconds.
-async function* partsOf(answer, silent) {
-  const alarm = setTimeout(() => answer.destroy(new Unreachable("the stream is silent")), silent);
-  alarm.unref();
-  try {
-    for await (const part of answer) {
-      alarm.refresh();
-      yield part;
-    }
-  } finally {
-    clearTimeout(alarm);
-    answer.destroy();
   }
 }

@@ -5,6 +5,7 @@ import { write } from "./json.js";
 
 const MOST_TEXT = 4000; // characters of an error
 const MOST_DETAIL = 200;
+const MOST_CAUSES = 10; // of an error, one behind the other
 
 /** A text of at most so many characters, without halves of characters. */
 export function shortened(text, most = MOST_TEXT) {
@@ -54,11 +55,14 @@ export class Task {
     this.#news = { progress: fraction, detail: detail === undefined ? null : shortened(detail, MOST_DETAIL) };
   }
 
-  /** What was reported of its progress since the last heartbeat. */
-  news() {
-    const news = this.#news;
-    this.#news = null;
-    return news;
+  /** What was reported of its progress, and no heartbeat has told yet. */
+  get news() {
+    return this.#news;
+  }
+
+  /** A heartbeat has told this. */
+  told(news) {
+    if (this.#news === news) this.#news = null;
   }
 
   cancel(reason) {
@@ -80,10 +84,24 @@ export class Task {
   }
 }
 
-function described(error) {
-  if (!(error instanceof Error)) return String(error);
-  const own = error instanceof Fail || error instanceof Retry ? error.message || error.name : `${error.name}: ${error.message || error.code || ""}`;
-  return error.cause === undefined ? own : `${own}: ${described(error.cause)}`;
+// What people read of what a function threw: that may be anything, also what no text can be made of.
+function described(error, most = MOST_CAUSES) {
+  try {
+    if (!(error instanceof Error)) return String(error);
+    const isOurs = error instanceof Fail || error instanceof Retry;
+    const own = isOurs ? `${error.message || error.name}` : `${error.name}: ${error.message || error.code || ""}`;
+    return error.cause === undefined || !most ? own : `${own}: ${described(error.cause, most - 1)}`;
+  } catch {
+    return "an error that cannot be described";
+  }
+}
+
+function isA(error, kind) {
+  try {
+    return error instanceof kind;
+  } catch {
+    return false;
+  }
 }
 
 /** Calls a function; gives what is reported: the verb, and the keys of its body as JSON. */
@@ -93,13 +111,14 @@ export async function outcomeOf(run, task, logger) {
     result = await run(task);
   } catch (error) {
     const text = `"error":${JSON.stringify(shortened(described(error)))}`;
-    if (error instanceof Fail) return { verb: "fail", told: `${text},"final":true` };
-    return { verb: error instanceof Retry ? "fail" : "unknown", told: text };
+    if (isA(error, Fail)) return { verb: "fail", told: `${text},"final":true` };
+    return { verb: isA(error, Retry) ? "fail" : "unknown", told: text };
   }
   try {
     return { verb: "complete", told: `"result":${write(result)}` };
   } catch (error) {
-    logger.warn(`${task.attemptId}: the result could not be stored: ${error.message}`);
-    return { verb: "complete", told: `"result":${JSON.stringify({ unstorable: shortened(error.message) })}` };
+    const why = isA(error, InvalidArgument) ? `${error.message}` : described(error);
+    logger.warn(`${task.attemptId}: the result could not be stored: ${why}`);
+    return { verb: "complete", told: `"result":${JSON.stringify({ unstorable: shortened(why) })}` };
   }
 }

@@ -2,7 +2,7 @@
 
 import os from "node:os";
 import { setImmediate as immediate } from "node:timers/promises";
-import { Connection } from "./connection.js";
+import { Connection, FIRST_PAUSE, MOST_PAUSE, REPEAT, rest, spread } from "./connection.js";
 import { InvalidArgument } from "./errors.js";
 import { write } from "./json.js";
 import { Outbox, Report } from "./outbox.js";
@@ -14,14 +14,22 @@ const MOST_AHEAD = 50; // tasks
 const MOST_REPORTS = 200; // that are not answered yet: then no function begins
 const MOST_CLAIMED = 100; // of one request
 const LOOK = 0.5; // seconds after which tasks that do not begin are given back; also the shortest lease
-const LATE = 40; // seconds that an answer may take beyond the wait
-const HEARTBEAT = 10; // seconds that a heartbeat may take
+const LATE = 40; // seconds that an answer may take beyond the wait; also the longest try of a report
+const MOST_HEARTBEAT = 10; // seconds that a heartbeat may take
+const GRACE = 5; // seconds that the answer to a claim may take beyond the wait, once the worker is stopped
+const MOST_END = 2; // seconds that the request may take that ends a claim
+const END_AGAIN = 1000; // milliseconds behind which that is sent again
 const WORD = /^[a-z][a-z0-9_-]{0,31}$/;
 const PATH = /^[a-z][a-z0-9_-]{0,31}(\/[a-z][a-z0-9_-]{0,31}){0,8}$/; // a step, also of an included saga: `hotel/room`
 
 const between = (what, value, least, most) => {
   if (typeof value !== "number" || !(value >= least && value <= most)) throw new InvalidArgument(`${what}: it is a number from ${least} to ${most}`);
   return value;
+};
+
+const whole = (what, value, least, most) => {
+  if (!Number.isInteger(value)) throw new InvalidArgument(`${what}: it is a whole number from ${least} to ${most}`);
+  return between(what, value, least, most);
 };
 
 export class Worker {
@@ -37,12 +45,14 @@ export class Worker {
   #moves = 0;
   #mean = AHEAD; // seconds that a function took lately
   #stop = new AbortController();
+  #late = new AbortController(); // of the claim that is under way at the stop
+  #alarm;
   #fault = null;
   #ended = null; // resolves what `run` waits for
   #unknown = new Set(); // steps of which was told that nobody has them
 
   constructor(url, { token, concurrency = 10, lease = 30, wait = 20, name, logger = console } = {}) {
-    this.concurrency = between("concurrency", concurrency, 1, 1000);
+    this.concurrency = whole("concurrency", concurrency, 1, 1000);
     this.lease = between("lease", lease, 0.5, 3600);
     this.wait = between("wait", wait, 0, 30);
     this.name = shortened(name ?? `${os.hostname()}-${process.pid}`, 64);
@@ -54,7 +64,8 @@ export class Worker {
       refused: (error) => this.#end(error),
       moved: () => this.#move(),
     };
-    this.#outbox = new Outbox((path, body) => this.#ask(path, body), self, logger);
+    const seconds = Math.min(LATE, Math.max(1, this.lease / 3)); // so that another service may still be asked within the lease
+    this.#outbox = new Outbox((path, body) => this.#ask(path, body, { seconds, most: LATE }), self, logger);
   }
 
   get url() {
@@ -93,16 +104,22 @@ export class Worker {
       await ended;
     } finally {
       clearInterval(look);
+      clearTimeout(this.#alarm);
       signal?.removeEventListener("abort", stop);
       this.#connection.close();
     }
     if (this.#fault) throw this.#fault;
   }
 
-  /** Claims nothing more. Tasks that have not begun are given back. */
+  /**
+   * Claims nothing more. Tasks that have not begun are given back, also those of a claim that is under way: it is ended
+   * at the service. Its answer is awaited, as it may be on the line already, and nobody else has these tasks before
+   * their leases end.
+   */
   stop() {
     if (this.#stop.signal.aborted) return;
     this.#stop.abort();
+    if (this.#isClaiming) this.#alarm = setTimeout(() => this.#late.abort(), 1000 * (this.wait + GRACE));
     this.#giveBack();
     this.#move();
   }
@@ -148,7 +165,8 @@ export class Worker {
       const limit = Math.max(1, this.#room());
       // The first answer comes at once: it says which steps are unknown there.
       const body = JSON.stringify({ ...this.#wanted(limit), wait: this.#isHeard ? this.wait : 0 });
-      const { value } = await this.#ask("v1/tasks/claim", body, { seconds: this.wait + LATE, signal: this.#stop.signal });
+      const signals = { signal: this.#late.signal, stop: this.#stop.signal };
+      const { value } = await this.#ask("v1/tasks/claim", body, { seconds: this.wait + LATE, ...signals, begun: (url) => this.#endAtStop(url) });
       this.#isHeard = true;
       this.#add(value);
     } catch (error) {
@@ -159,12 +177,32 @@ export class Worker {
     }
   }
 
-  #ask(path, body, { seconds = LATE, signal } = {}) {
+  // A claim is under way at a service: a stop ends it. Gives what is called once it is answered.
+  #endAtStop(url) {
+    const answered = new AbortController();
+    const { signal } = answered;
+    this.#stop.signal.addEventListener("abort", () => this.#endClaim(url, signal), { once: true, signal });
+    return () => answered.abort();
+  }
+
+  // Sends the request that ends a claim until that is answered: the claim may arrive later, or be at another service
+  // behind a balancer. What is said to it is no matter, but one that is refused is not sent again: the service is older.
+  async #endClaim(url, signal) {
+    const words = { body: JSON.stringify({ worker: this.name }), seconds: MOST_END, signal };
+    const send = () => this.#connection.ask(url, "POST", "v1/tasks/claim/end", words).then(({ status }) => status, () => 0);
+    try {
+      for (let status = 0; status < 300 || REPEAT.includes(status);) [status] = await Promise.all([send(), rest(END_AGAIN, signal)]);
+    } catch {
+      // the claim is answered
+    }
+  }
+
+  #ask(path, body, words) {
     const lacks = (error, url) => {
       if (error && !this.#isLacking) this.#logger.warn(`${url.origin} does not answer: ${error.message || error.code}. Retrying`);
       this.#isLacking = Boolean(error);
     };
-    return this.#connection.untilAnswered("POST", path, { body, seconds, patience: Infinity, signal, lacks });
+    return this.#connection.untilAnswered("POST", path, { body, patience: Infinity, lacks, ...words });
   }
 
   #add({ tasks, unknown_steps: unknown, heartbeat_seconds: heartbeat }) {
@@ -188,14 +226,14 @@ export class Worker {
   }
 
   async #outcome(task) {
-    const beat = () => {
-      timer = setTimeout(async () => {
-        await this.#renew(task, this.lease);
-        if (timer) beat();
-      }, 1000 * task.heartbeat);
+    let pause = FIRST_PAUSE; // behind a heartbeat that nobody heard
+    const beat = async () => {
+      const isHeard = await this.#renew(task, this.lease);
+      if (!timer) return; // it has ended
+      timer = setTimeout(beat, isHeard ? 1000 * task.heartbeat : spread(pause));
+      pause = isHeard ? FIRST_PAUSE : Math.min(MOST_PAUSE, 1000 * task.heartbeat, 2 * pause);
     };
-    let timer;
-    beat();
+    let timer = setTimeout(beat, 1000 * task.heartbeat);
     try {
       return await outcomeOf(this.#functions.get(task.name), task, this.#logger);
     } finally {
@@ -231,20 +269,26 @@ export class Worker {
     if (!back.length) return;
     this.#mean = Math.max(this.#mean, LOOK);
     for (const task of back) this.#running.add(task);
-    await Promise.all(back.map((task) => this.#renew(task, LOOK)));
+    await Promise.all(back.map(async (task) => (await this.#renew(task, LOOK)) || this.#renew(task, LOOK)));
     for (const task of back) this.#running.delete(task);
     this.#move();
   }
 
+  // One heartbeat. Gives whether a service heard it; else the next one is asked, while some of the lease is left.
   async #renew(task, seconds) {
     const { url } = this.#connection;
-    const body = write({ lease: task.lease, seconds, ...task.news() });
+    const { news } = task;
+    const words = { body: write({ lease: task.lease, seconds, ...news }), seconds: Math.min(MOST_HEARTBEAT, this.lease / 6) };
     try {
-      const { status, text } = await this.#connection.ask(url, "POST", `v1/tasks/${encodeURIComponent(task.attemptId)}/heartbeat`, { body, seconds: HEARTBEAT });
+      const { status, text } = await this.#connection.ask(url, "POST", `v1/tasks/${encodeURIComponent(task.attemptId)}/heartbeat`, words);
+      if (REPEAT.includes(status)) throw new Error(`${status}`);
       if (status >= 300) task.refused(status, text, this.#logger);
       else task.unwanted(JSON.parse(text).cancelled);
+      task.told(news);
+      return true;
     } catch {
-      this.#connection.turnFrom(url); // the next heartbeat, or the report, is heard
+      this.#connection.turnFrom(url);
+      return false;
     }
   }
 

@@ -1,6 +1,6 @@
 // What the types accept and refuse; `tsc --project test` checks it, and nothing runs it.
 
-import { Client, Fail, KeyConflict, Problem, Worker, type Saga, type Task } from "sagas";
+import { Client, Fail, KeyConflict, Problem, Worker, type EventStream, type Saga, type Task } from "sagas";
 import { load, OK } from "sagas/planner";
 
 
@@ -34,7 +34,8 @@ async function call(): Promise<void> {
   const aborted: boolean = await client.abort("order-1", { note: "no more" });
   await client.complete("order-1", "car", { id: "x" }, { undo: true });
   for await (const saga of client.list({ phase: "open", labels: { customer: "7" }, startedAfter: new Date() })) saga.key.length;
-  for await (const event of client.events({ key: "order-1" })) if (event.name === "saga_ended") break;
+  const events: EventStream = await client.events({ key: "order-1" }).open();
+  for await (const event of events) if (event.name === "saga_ended") break;
   try {
     await client.fail("order-1", "car", "too expensive");
   } catch (error) {

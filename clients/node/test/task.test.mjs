@@ -1,0 +1,48 @@
+// The outcome of a function that throws what no text can be made of: it is unknown, and the worker goes on.
+
+import assert from "node:assert/strict";
+import { test } from "node:test";
+import { Fail } from "../index.js";
+import { outcomeOf } from "../lib/task.js";
+
+const circle = new Error("a");
+circle.cause = new Error("b", { cause: circle });
+const bare = Object.create(null);
+const silent = Object.defineProperty(new Error(), "message", { get() { throw new TypeError("no"); } });
+const revoked = Proxy.revocable({}, {});
+revoked.revoke();
+
+async function outcome(run) {
+  const said = [];
+  const { verb, told } = await outcomeOf(run, { attemptId: "x" }, { warn: (text) => said.push(text) });
+  return { verb, said, ...JSON.parse(`{${told}}`) };
+}
+
+for (const [what, thrown, text] of [
+  ["a circle of causes", circle, /^Error: a: Error: b: Error: a/],
+  ["an object without a prototype", bare, /cannot be described/],
+  ["such a cause", new Error("x", { cause: bare }), /^Error: x: .*cannot be described$/],
+  ["a cause that throws", new Error("x", { cause: { toString() { throw bare; } } }), /^Error: x: .*cannot be described$/],
+  ["an error whose message throws", silent, /cannot be described/],
+  ["an error whose message is a symbol", Object.assign(new Error(), { message: Symbol("x") }), /cannot be described/],
+  ["a proxy that is revoked", revoked.proxy, /cannot be described/],
+  ["nothing", undefined, /^undefined$/],
+]) {
+  test(`a function throws ${what}`, async () => {
+    const { verb, error } = await outcome(() => { throw thrown; });
+    assert.equal(verb, "unknown");
+    assert.match(error, text);
+  });
+}
+
+test("a failure says its message, which is any value, and its cause", async () => {
+  const failed = await outcome(() => { throw Object.assign(new Fail("x", { cause: bare }), { message: 42 }); });
+  assert.deepEqual([failed.verb, failed.final], ["fail", true]);
+  assert.match(failed.error, /^42: .*cannot be described$/);
+});
+
+test("a result that says nothing of why it cannot be written is done all the same", async () => {
+  const { verb, result, said } = await outcome(() => ({ toJSON() { throw silent; } }));
+  assert.equal(verb, "complete");
+  assert.ok(result.unstorable && said.length === 1);
+});
