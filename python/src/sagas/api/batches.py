@@ -135,8 +135,9 @@ class Batches:
         """Return what needs a person, the oldest first.
 
         That is: stuck sagas, and those of which a compensation failed permanently, until somebody
-        resolves them; attempts with an unknown outcome that are not repeated; and attempts whose
-        stored values no program could read.
+        resolves them; steps and compensations whose attempts are used up (`on_exhausted="ask"`);
+        attempts with an unknown outcome that are not repeated; and attempts whose stored values
+        no program could read.
 
         Args:
             limit: Maximum number of entries (default: 100).

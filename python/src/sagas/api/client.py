@@ -370,10 +370,8 @@ class Client(Schedules):
         return rows if self._blobs is None else await self._blobs.rows(rows)
 
     async def _find(self, key: str) -> SagaRow | None:
-        rows = [
-            SagaRow(*row)
-            for row in await self._ask(key_finder.FIND, keys=json.dumps([serialization.clean(key)]))
-        ]
+        keys = [serialization.clean(key)] if isinstance(key, str) else []  # as no other key is
+        rows = [SagaRow(*row) for row in await self._ask(key_finder.FIND, keys=json.dumps(keys))]
         return max(rows, key=lambda row: row.id) if rows else None
 
     async def _row(self, key: str) -> SagaRow:

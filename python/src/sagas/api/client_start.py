@@ -168,13 +168,16 @@ class ClientStarter:
         tried past, all that there may be: a start that is made twice is one, by its key."""
         for left in reversed(range(self._most + 1)):
             try:
-                with connections.faults(self._path):
-                    async with self._asker.pool.connection() as link, link.transaction():
-                        return await start(link, words)
+                return await self._asker.whole(self._begin(words))
             except StoreUnavailable as error:
                 if not (left and connections.was_cut(error)):
                     raise
         raise AssertionError
+
+    async def _begin(self, words: dict[str, Any]) -> bool:
+        with connections.faults(self._path):
+            async with self._asker.pool.connection() as link, link.transaction():
+                return await start(link, words)
 
     async def database(self) -> list[Row]:
         """Which database the store is in; nothing where this role may not know."""

@@ -51,7 +51,8 @@ class Loop:
         """Ends it. Threads that still wait for something hear that it is closed."""
         with self._guard:
             loop, self._loop = self._loop, None
-        assert loop
+        if loop is None:  # another thread has ended it
+            return
         asyncio.run_coroutine_threadsafe(_finish(loop), loop).result()
         loop.call_soon_threadsafe(loop.stop)
         self._thread.join()

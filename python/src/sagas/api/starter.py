@@ -40,7 +40,7 @@ class Starter:
         inside = self._access.here()
         arguments.key(key)
         text = serialization.write(input, "input")
-        fitted = self._shelf.fit(saga, input, text)
+        fitted = self._shelf.fit(saga, text)
         if saga.has_children:
             children.check_key(key, saga)
         shape, options = fitted.shape, start_options.NONE
@@ -56,7 +56,7 @@ class Starter:
         inside = self._access.here()
         arguments.key(key)
         text = serialization.write(input, "input")
-        fitted = self._shelf.fit(saga, input, text)
+        fitted = self._shelf.fit(saga, text)
         if fitted.shape is not None:
             options = dataclasses.replace(options, shape=fitted.shape)
         return self._start(inside, saga, fitted, key, text, options, accepts=True)

@@ -187,7 +187,8 @@ class Store(RetryCalls):
         """Close the store: accept nothing new, and wait for running functions.
 
         Their outcomes are stored. A cancelled function runs again, with its idempotency key, when
-        the store is opened again. Calls that still wait raise `Closed`.
+        the store is opened again. Calls that still wait raise `Closed`. If this call is cancelled,
+        the closing goes on, and a further call waits for it.
 
         Args:
             shutdown_timeout: Seconds, or a timedelta, after which running functions are cancelled
@@ -210,7 +211,14 @@ class Store(RetryCalls):
             if self._access.coordinator:
                 await self._access.coordinator.close(seconds)
         finally:
-            self._access.opened.end()
+            if self._is_over:
+                self._access.opened.end()
+
+    @property
+    def _is_over(self) -> bool:
+        """Whether it is closed: a call of `close` that was cancelled may go on."""
+        coordinator = self._access.coordinator
+        return coordinator is None or coordinator.is_over
 
     def _replies(self, key: str) -> None:
         """A service is about to answer that a saga is started: its record says so first."""
@@ -285,8 +293,8 @@ class Store(RetryCalls):
         new = await self._starter.start(saga, key, input, labels, deadline, trace)
         return Run(self, key, new)
 
-    def _check_input(self, saga: Saga, input: Any, text: str) -> None:
-        if wrong := self._shelf.fit(saga, input, text).wrong:
+    def _check_input(self, saga: Saga, text: str) -> None:
+        if wrong := self._shelf.fit(saga, text).wrong:
             raise wrong
 
     async def _start_scheduled(self, one: Schedule, key: str) -> None:

@@ -90,7 +90,8 @@ class SyncStore(Facade[Store]):
             try:
                 self._loop.do(self._inner.close(shutdown_timeout))
             finally:
-                self._loop.end()
+                if self._inner._is_over:  # else it is still to be closed
+                    self._loop.end()
 
     def serve(self) -> None:
         """Wait for SIGTERM or SIGINT, in the main thread. See `Store.serve`.

@@ -131,15 +131,14 @@ class Slots:
             return
         inside, queue = limit
         inside.discard(attempt)
-        if not inside and not queue:
-            del self._limits[at]
-            return
         while queue:
             following = queue.popleft()
             if following.state is SUSPENDED and following.reason is Suspension.STEP_LIMIT:
                 inside.add(following)
                 self.come(following)
                 return
+        if not inside:
+            del self._limits[at]
 
     def is_waiting(self, attempt: Attempt) -> bool:
         """Whether it waits for a slot."""

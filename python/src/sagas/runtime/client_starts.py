@@ -151,7 +151,7 @@ class Starts:
             return
         value = payloads.decode(text)
         try:
-            kind, shape, wrong = self._definitions.fit(declared, None, value)
+            kind, shape, wrong = self._definitions.fit(declared, value)
         except Exception as error:  # of the user's code: its text may have the input
             kind, shape = None, None
             wrong = InvalidInput(f"saga {saga!r}: {type(error).__name__} for this input")

@@ -3,6 +3,7 @@
 from __future__ import annotations
 
 import asyncio
+import functools
 import time
 from collections.abc import Callable, Coroutine
 from concurrent.futures import ThreadPoolExecutor
@@ -250,25 +251,27 @@ class Coordinator:
 
     async def close(self, shutdown_timeout: float | None) -> None:
         """Take nothing new. Functions that run end and are kept, or are cancelled after so many
-        seconds. The context is left last.
+        seconds. The context is left last. See `Lifespan.end`.
         """
-        if not self.closed:
-            try:
-                await self._close(shutdown_timeout)
-            finally:
-                await self._lifespan.leave()
-
-    async def _close(self, shutdown_timeout: float | None) -> None:
-        self.closed = closed = Closed(
+        self.closed = self.closed or Closed(
             f"{self.store.path}: the store is closed. Open sagas go on when it is opened again"
         )
+        work = functools.partial(self._close, self.closed, shutdown_timeout)
+        await self._lifespan.end(work, shutdown_timeout)
+
+    @property
+    def is_over(self) -> bool:
+        """Whether all of it is closed, as far as it can be."""
+        return self._lifespan.is_over
+
+    async def _close(self, closed: SagasError, shutdown_timeout: float | None) -> None:
         self.executor.closing = True
         self.executor.calls.close()
         self.external.close()
         self.slots.clear()
         self.shards.begin_close(closed)
         await self.executor.calls.settled()
-        late = await self.executor.calls.end(shutdown_timeout)
+        late = await self._late(shutdown_timeout)
         for job in late:
             job.cancel()
         await self.shards.drained()
@@ -279,10 +282,21 @@ class Coordinator:
             job.cancel()
         if self._jobs:
             await asyncio.wait(list(self._jobs))
+        self.sagas.close(closed)
         for saga in list(self.sagas.by_key.values()):
             self.shards.refuse(saga, closed)
-        self.sagas.wake()
         await self.store.close()
         self._threads.shutdown(wait=not late, cancel_futures=True)
         if engines:
             await asyncio.wait([engine.buried for engine in engines], timeout=QUIET)
+
+    async def _late(self, shutdown_timeout: float | None) -> set[asyncio.Task[None]]:
+        """Wait for the functions that run; return the tasks of those that are not over in time."""
+        calls = self.executor.calls
+        ending = asyncio.create_task(calls.end(shutdown_timeout))
+        either: list[asyncio.Future[Any]] = [ending, self._lifespan.hurry]
+        await asyncio.wait(either, return_when=asyncio.FIRST_COMPLETED)
+        if ending.done():
+            return ending.result()
+        ending.cancel()
+        return {job for job in calls.running.values() if job}

@@ -11,6 +11,9 @@ from sagas.base.events import Teller
 from sagas.core.model import SagaInstance
 from sagas.runtime.instances import Instances
 
+MOST = 1000
+"""So many deadlines are kept before those of sagas that are over are dropped."""
+
 
 class Deadlines:
     """The deadlines of the open sagas of this program, the next one first.
@@ -25,11 +28,22 @@ class Deadlines:
         self._sagas, self._abort, self._teller, self._clock = sagas, abort, teller, clock
         self._heap: list[tuple[float, int, SagaInstance]] = []
         self._order = itertools.count()
+        self._most = MOST
 
     def add(self, saga: SagaInstance) -> None:
         """It is driven here from now on."""
         if saga.options.deadline is not None:
+            if len(self._heap) >= self._most:
+                self._drop()
             heapq.heappush(self._heap, (saga.options.deadline, next(self._order), saga))
+
+    def _drop(self) -> None:
+        """Keep one of each saga that is driven here: most are over long before their deadlines."""
+        by_key = self._sagas.by_key
+        kept = {one[2]: one for one in self._heap if by_key.get(one[2].key) is one[2]}
+        self._heap = [*kept.values()]
+        heapq.heapify(self._heap)
+        self._most = max(MOST, 2 * len(self._heap))
 
     def look(self) -> None:
         """Abort those whose time has come. Where another node has one, that does it."""

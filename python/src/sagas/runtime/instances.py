@@ -34,6 +34,7 @@ class Instances:
         self._aborts: dict[Abort, asyncio.Future[bool]] = {}
         self._has_told = False
         self._empty = asyncio.Event()
+        self._left: SagasError | None = None  # why sagas are left that nobody drives any more
 
     def add(self, key: str, text: str, kind: Kind, options: StartOptions) -> SagaInstance:
         """Make one that has a key from now on. Its definition has a place once it has a shard."""
@@ -116,11 +117,15 @@ class Instances:
         return told
 
     async def emptied(self) -> None:
-        """Wait until the last one is gone, or `wake` is called; at once if there is none."""
+        """Wait until the last one is gone; at once if there is none. Raises what `close` says."""
         if self.by_key:
             self._empty.clear()
             await self._empty.wait()
+            if self._left:
+                raise self._left
 
-    def wake(self) -> None:
-        """Let those go on that wait in `emptied`."""
-        self._empty.set()
+    def close(self, error: SagasError) -> None:
+        """None is driven any more. If there are any, those who wait in `emptied` hear why."""
+        if self.by_key:
+            self._left = error
+            self._empty.set()

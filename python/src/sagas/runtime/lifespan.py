@@ -5,6 +5,7 @@ from __future__ import annotations
 import asyncio
 import contextlib
 import sys
+from collections.abc import Callable, Coroutine
 from typing import Any
 
 from sagas.base.logger import logger
@@ -17,12 +18,17 @@ class Lifespan:
 
     One task enters and leaves the context manager, since task groups and time limits inside it
     ask for that; a store may be closed by another task than it was opened by.
+
+    Attributes:
+        hurry: Done where a further call asks to close the store sooner.
     """
 
     def __init__(self, given: Any, shared: Context) -> None:
         self._given, self._shared = given, shared
         self._job: asyncio.Task[None] | None = None
         self._is_over = asyncio.Event()
+        self._closing: asyncio.Task[None] | None = None
+        self.hurry: asyncio.Future[None] = asyncio.get_running_loop().create_future()
 
     async def enter(self) -> None:
         """Enter it. Raises what the factory, or its context manager, raises."""
@@ -41,6 +47,31 @@ class Lifespan:
             self._job = job
         else:
             job.result()
+
+    @property
+    def is_over(self) -> bool:
+        """Whether the store is closed, and the context left."""
+        return self._closing is not None and self._closing.done()
+
+    async def end(self, close: Callable[[], Coroutine[Any, Any, None]], left: float | None) -> None:
+        """Close the store, and leave the context. Where a caller is cancelled, that goes on; each
+        further call waits for it, and after so many seconds it is to hurry.
+        """
+        if self._closing is None:
+            self._closing = asyncio.create_task(self._end(close))
+        elif self._closing.done():  # whoever waited for it heard how it went
+            return
+        elif left is not None:
+            await asyncio.wait([self._closing], timeout=left)
+            if not self.hurry.done():
+                self.hurry.set_result(None)
+        await asyncio.shield(self._closing)
+
+    async def _end(self, close: Callable[[], Coroutine[Any, Any, None]]) -> None:
+        try:
+            await close()
+        finally:
+            await self.leave()
 
     async def leave(self) -> None:
         """Leave it. Raises what its context manager raises."""

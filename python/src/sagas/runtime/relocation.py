@@ -155,6 +155,7 @@ class Relocation:
             self._executor.kept.tell(attempt, error)
         for saga in driver.sagas.values():
             for attempt in saga.busy.values():
+                self._executor.kept.tell(attempt, error)  # it was to be called again
                 self._executor.changes.tell(attempt)
 
     async def _move(self, saga: SagaInstance) -> None:

@@ -6,7 +6,7 @@ import asyncio
 from collections.abc import Awaitable, Callable
 from typing import TYPE_CHECKING
 
-from sagas.base.errors import Closed, SagasError, TemporaryError
+from sagas.base.errors import Closed, InvalidSchedule, SagasError, TemporaryError
 from sagas.base.logger import logger
 from sagas.definition import timing
 from sagas.storage import schedules
@@ -36,6 +36,7 @@ class Scheduler:
     def __init__(self, owner: Coordinator, start: StartSaga, advance: Advance) -> None:
         self._owner, self._start, self._advance = owner, start, advance
         self._news = asyncio.Event()
+        self._left: dict[str, str] = {}  # schedules that are left to other nodes, and why
 
     def look(self) -> None:
         """Something may have changed."""
@@ -76,7 +77,12 @@ class Scheduler:
         """Start what is due of a schedule as it was read, as long as it is that one; return in how
         many seconds its next time comes.
         """
-        times, next_at = one.timing.due(one.next_at, now, MOST)
+        try:
+            times, next_at = one.timing.due(one.next_at, now, MOST)
+        except InvalidSchedule as fault:  # a node whose system has its time zone starts them
+            self._leave(one, str(fault))
+            return MOST_PAUSE
+        self._left.pop(one.name, None)
         last = error = None
         for at in times:
             if not await self._is_still(one):  # the next turn sees what it is now
@@ -89,6 +95,13 @@ class Scheduler:
             self._owner.teller.tell("schedule_missed", saga=one.saga, detail=one.name)
         await self._advance(one, next_at, last, error)
         return next_at - self._owner.clock()
+
+    def _leave(self, one: Schedule, why: str) -> None:
+        """Leave a schedule to other nodes, which is told once."""
+        if self._left.get(one.name) != why:
+            self._left[one.name] = why
+            detail = f"{one.name}: {why}"
+            self._owner.teller.tell("schedule_failed", saga=one.saga, detail=detail)
 
     async def _is_still(self, one: Schedule) -> bool:
         """Whether nobody has paused, removed or changed it, and no node has advanced it."""

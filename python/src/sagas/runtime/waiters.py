@@ -7,6 +7,8 @@ from collections.abc import Callable
 from typing import Generic, TypeVar
 
 K = TypeVar("K")
+MANY = 64
+"""Whenever one event has so many more callers, those that gave up are dropped."""
 
 
 class Waiters(Generic[K]):
@@ -28,7 +30,10 @@ class Waiters(Generic[K]):
     def wait(self, key: K) -> asyncio.Future[None]:
         """Return a future that is done once it is so."""
         future = self._loop.create_future()
-        self.futures.setdefault(key, []).append(future)
+        waiting = self.futures.setdefault(key, [])
+        waiting.append(future)
+        if len(waiting) % MANY == 0:
+            waiting[:] = [one for one in waiting if not one.done()]
         return future
 
     def tell(self, key: K, error: Exception | None = None) -> bool:

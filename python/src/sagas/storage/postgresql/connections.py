@@ -5,7 +5,7 @@ from __future__ import annotations
 import asyncio
 import contextlib
 import re
-from collections.abc import Awaitable, Callable, Iterator, Mapping, Sequence
+from collections.abc import Awaitable, Callable, Coroutine, Iterator, Mapping, Sequence
 from typing import Any, Protocol, TypeVar
 
 import psycopg
@@ -55,6 +55,10 @@ indexes.
 """
 
 LIMITED = f"SET statement_timeout = '{int(PATIENCE)}s'"
+ABANDONED = f"SET idle_in_transaction_session_timeout = '{int(PATIENCE)}s'"
+"""A machine that is gone in the middle of a transaction keeps nobody from what it has locked: the
+server may hear of that only hours later.
+"""
 REPEATED = f"SET plan_cache_mode = force_generic_plan; {SETTINGS}"
 """For statements whose plan has nothing to do with their words: else some are planned anew each
 time.
@@ -239,7 +243,7 @@ def connect_now(url: str) -> psycopg.Connection[Row]:
 
 
 async def _configure(link: Link) -> None:
-    await link.execute(f"{SETTINGS}; {LIMITED}", prepare=False)
+    await link.execute(f"{SETTINGS}; {LIMITED}; {ABANDONED}", prepare=False)
 
 
 def pool(url: str, most: int) -> AsyncConnectionPool:
@@ -280,7 +284,7 @@ class Asker:
         self.where, self._url, self._most = where, url, most
         self.pool = pool(url, most)
         self._attached: list[Attached] = []
-        self._under_way: set[asyncio.Task[list[Row]]] = set()
+        self._under_way: set[asyncio.Task[Any]] = set()
 
     async def open(self) -> None:
         """Connects. Raises `StoreUnavailable`."""
@@ -321,12 +325,18 @@ class Asker:
         return await self._asked(text, words)
 
     async def _asked(self, text: str, words: Mapping[str, Any] | Sequence[Any]) -> list[Row]:
-        work = asyncio.get_running_loop().create_task(self._ask(text, words))
-        self._under_way.add(work)
-        work.add_done_callback(self._done)
-        return await asyncio.shield(work)
+        return await self.whole(self._ask(text, words))
 
-    def _done(self, work: asyncio.Task[list[Row]]) -> None:
+    async def whole(self, work: Coroutine[Any, Any, T]) -> T:
+        """What comes of something that takes a connection of the pool. Who is cancelled leaves it
+        to its end: the pool loses the connection that comes to a caller who is gone.
+        """
+        job = asyncio.get_running_loop().create_task(work)
+        self._under_way.add(job)
+        job.add_done_callback(self._done)
+        return await asyncio.shield(job)
+
+    def _done(self, work: asyncio.Task[Any]) -> None:
         self._under_way.discard(work)
         if not work.cancelled():
             work.exception()  # whoever asked, and was not cancelled, has it

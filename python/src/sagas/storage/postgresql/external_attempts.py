@@ -151,9 +151,10 @@ SELECT task, count(*) FILTER (WHERE until IS NULL OR until <= now),
 FROM external_attempts, clock WHERE {OPEN} AND task > '' GROUP BY task ORDER BY task
 """
 WITHDRAW = (
-    f"UPDATE external_attempts SET outcome = 'withdrawn' WHERE attempt = %(attempt)s AND {OPEN} "
-    "AND lease IS NULL RETURNING 1"
+    "UPDATE external_attempts SET outcome = 'withdrawn' WHERE attempt = %(attempt)s "
+    f"AND lease IS NULL AND ({OPEN} OR outcome = 'withdrawn') RETURNING 1"
 )
+"""Also of what is withdrawn already: the first answer may have been lost."""
 ADVANCE = """
 INSERT INTO progress SELECT id, step, action, number, %(fraction)s, %(detail)s, %(at)s
 FROM external_attempts WHERE attempt = %(attempt)s

@@ -54,8 +54,10 @@ class KeyFinder:
 
     async def find(self, key: str) -> SagaRow | None:
         """The saga with this key; with an id below 0 one that a client started and no log has
-        yet.
+        yet. No saga has a key that is not a text.
         """
+        if not isinstance(key, str):
+            return None
         loop = asyncio.get_running_loop()
         future: asyncio.Future[SagaRow | None] = loop.create_future()
         self._wanted.setdefault(key, []).append(future)

@@ -74,8 +74,9 @@ FROM external_attempts WHERE attempt = ?
 """
 WITHDRAW = f"""
 UPDATE external_attempts SET outcome = 'withdrawn'
-WHERE attempt = ? AND {OPEN} AND lease IS NULL RETURNING 1
+WHERE attempt = ? AND lease IS NULL AND ({OPEN} OR outcome = 'withdrawn') RETURNING 1
 """
+"""Also of what is withdrawn already: the first answer may have been lost."""
 
 
 def _answers(db: sqlite3.Connection, some: Sequence[Asked], now: float) -> list[Any]:
