@@ -34,8 +34,9 @@ class Event:
         attempt: The attempt's number, from 1, or None.
         seconds: How long the function took; None if it was not called here.
         detail: What was raised or planned. Of `saga_ended`: the phase. Of `step_suspended`:
-            `approval`, `wait` (for its time), `unknown` (for its backoff, or a person) or
-            `cannot_decode` (for a program that can read what is stored).
+            `approval`, `wait` (for its time), `child` (for the end of its child saga), `retry`
+            (for its next attempt beyond `tries`), `exhausted` (for a person), `unknown` (for its
+            backoff, or a person) or `cannot_decode` (for a program that can read what is stored).
     """
 
     name: str

@@ -16,7 +16,7 @@ from sagas.core import outcomes
 from sagas.core.dispatch import Begun, Order, Settled
 from sagas.core.outcomes import Outcome
 from sagas.core.states import OutcomeKind
-from sagas.definition import awaitables, decoders, tokens, tracing
+from sagas.definition import awaitables, children, decoders, tokens, tracing
 from sagas.definition.task_data import Told
 from sagas.definition.compiled import Kind
 from sagas.definition.place import Place
@@ -55,11 +55,7 @@ class Work:
     @functools.cached_property
     def decoders(self) -> dict[str, decoders.Decoder]:
         """How to read the results, by step."""
-        told = {
-            step.name: decoders.hints(step.run.function)[1]
-            for step in self.step.saga.steps
-            if step.run.function
-        }
+        told = {step.name: children.hints(step)[1] for step in self.step.saga.steps}
         return {name: decoder for name, decoder in told.items() if decoder}
 
     def perform(self, told: dict[str, Any]) -> None:

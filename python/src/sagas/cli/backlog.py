@@ -12,6 +12,7 @@ from sagas.base.wording import number
 from sagas.cli.formatting import GOOD, moment, short, show_json, table
 from sagas.cli.snapshot import Snapshot
 from sagas.core.attention import Attention, AttentionReason
+from sagas.core.states import WAITS_FOR
 from sagas.inspection import lists
 from sagas.inspection.lists import COUNTED
 from sagas.inspection.views import Waits
@@ -83,7 +84,7 @@ def waits_for(one: Json) -> str:
         return f"a worker: the lease of {one['worker']} ended"
     if why == "node":
         return f"a node with {one['saga']} version {one['version']}"
-    return "an approval" if why == "approval" else "its time"
+    return WAITS_FOR.get(why, why)
 
 
 def stats(path: str, words: argparse.Namespace) -> int:
@@ -172,7 +173,7 @@ def _meant(one: Attention) -> str:
 
 
 def pending(path: str, words: argparse.Namespace) -> int:
-    """List what waits: for a person, a worker that has it, a time or a node.
+    """List what waits: for a person, a worker that has it, a time, a child saga or a node.
 
     Failed attempts that repeat, and tasks that no worker has claimed, are not listed.
     """

@@ -4,11 +4,11 @@ from __future__ import annotations
 
 import inspect
 import json
-from collections.abc import Callable
+from collections.abc import Awaitable, Callable
 from typing import Any, Generic, TypeVar
 
 from sagas.base.errors import NotSerializable
-from sagas.definition import serialization
+from sagas.definition import awaitables, serialization
 
 R = TypeVar("R")
 
@@ -91,7 +91,16 @@ def answering(function: Callable[[Any], Any]) -> Callable[[Any], Any]:
             return _answer(await function(task))
 
         return act
-    return lambda task: _answer(function(task))
+
+    def answer(task: Any) -> Any:
+        value = function(task)
+        return _awaited(value) if inspect.isawaitable(value) else _answer(value)
+
+    return answer
+
+
+async def _awaited(value: Awaitable[Any]) -> Any:
+    return _answer(await awaitables.whole(value))
 
 
 def _answer(value: Any) -> Any:

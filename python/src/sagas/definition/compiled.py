@@ -2,7 +2,6 @@
 
 from __future__ import annotations
 
-import dataclasses
 import hashlib
 import json
 import re
@@ -33,7 +32,6 @@ from sagas.definition.step import Function, Step
 
 Word = tuple[int, str]
 """A step's number, and `run` or `undo`."""
-PLAIN = (dict, list, tuple, str, int, float, bool, type(None))
 VERSION = re.compile(r"# version (\d+)\n")
 NAME = re.compile(r'^name = "(.*)"$', re.M)
 
@@ -252,14 +250,9 @@ class Kind:
                 found[number] = type_checks.check(hint)
         return found
 
-    def misfit(self, given: Any, text: str) -> InvalidInput | None:
-        """Why the first steps cannot read an input, where they cannot. Of what is of a type
-        already, a dataclass is looked at: its fields take anything."""
-        if not self.firsts:
-            return None
-        is_plain = type(given) in PLAIN
-        if not is_plain and not dataclasses.is_dataclass(given):
-            return None
+    def misfit(self, text: str) -> InvalidInput | None:
+        """Why the first steps cannot read an input, where they cannot. What is of a type already
+        is looked at, too: it may be another one, or be read otherwise than it is written."""
         for number, check in self.firsts.items():
             step, decoder = self.steps[number], self.inputs[number]
             assert decoder and step
@@ -267,8 +260,7 @@ class Kind:
                 value = serialization.read(text)
                 if check:
                     check(value)
-                if is_plain:
-                    decoder(value)
+                decoder(value)
             except (
                 NameError
             ):  # its hints name what is there for the checker alone: that is no fault of the input

@@ -2,10 +2,13 @@
 
 from __future__ import annotations
 
+import collections.abc
+import contextlib
 import dataclasses
 import datetime
 import decimal
 import enum
+import functools
 import inspect
 import types
 import typing
@@ -13,10 +16,18 @@ import uuid
 from collections.abc import Callable, Iterable
 from typing import Any
 
-from sagas.definition import mismatches
+from sagas.base.errors import NotSerializable
+from sagas.definition import mismatches, type_checks
 from sagas.definition.mismatches import Misfit
 
 Decoder = Callable[[Any], Any]
+_MADE: dict[Any, type] = {
+    collections.abc.Sequence: list, collections.abc.MutableSequence: list,
+    collections.abc.Collection: list, collections.abc.Iterable: list,
+    collections.abc.Set: set, collections.abc.MutableSet: set,
+    collections.abc.Mapping: dict, collections.abc.MutableMapping: dict,
+}  # fmt: skip
+"""What is made for a hint that names no class of its own."""
 
 
 def _decimal(value: Any) -> decimal.Decimal:
@@ -45,7 +56,7 @@ def hints(function: Callable[..., Any]) -> tuple[Decoder | None, Decoder | None]
     returns.
     """
     try:
-        told = typing.get_type_hints(inspect.unwrap(function))
+        told = typing.get_type_hints(_written(function))
     except Exception:  # a name that is only there for the checker: then values are read as they are
         return None, None
     return decoder(input_hint(function)), decoder(told.get("return", Any))
@@ -53,19 +64,35 @@ def hints(function: Callable[..., Any]) -> tuple[Decoder | None, Decoder | None]
 
 def input_hint(function: Callable[..., Any]) -> Any:
     """The type of its input, of its parameter's hint `Task[Order]`; None where it says none."""
-    try:
-        told = typing.get_type_hints(inspect.unwrap(function))
-    except Exception:  # as in `hints`
-        return None
-    given = [hint for name, hint in told.items() if name != "return"]
-    words = typing.get_args(given[0]) if given else ()
+    words = task_hints(function)
     return words[0] if words else None
+
+
+def task_hints(function: Callable[..., Any]) -> tuple[Any, ...]:
+    """What the hint of a function's task says: of `ItemTask[Order, Parcel]` both types."""
+    try:
+        told = typing.get_type_hints(_written(function))
+        names = [name for name in told if name != "return"]
+        if isinstance(function, functools.partial):  # the others have their values
+            names = [*inspect.signature(function).parameters]
+    except Exception:  # as in `hints`
+        return ()
+    return typing.get_args(told.get(names[0])) if names else ()
+
+
+def _written(function: Any) -> Any:
+    """The function that has the hints: of a partial one, of an object that can be called."""
+    function = inspect.unwrap(function)
+    if isinstance(function, functools.partial):
+        return _written(function.func)
+    is_object = callable(function) and not isinstance(function, type)
+    return type(function).__call__ if is_object and not inspect.isroutine(function) else function
 
 
 def unread(function: Callable[..., Any]) -> str | None:
     """Why the hints of a function cannot be read, where they cannot."""
     try:
-        typing.get_type_hints(inspect.unwrap(function))
+        typing.get_type_hints(_written(function))
     except NameError as error:
         return str(error)
     except Exception:  # it is no function, say
@@ -75,9 +102,11 @@ def unread(function: Callable[..., Any]) -> str | None:
 
 def decoder(hint: Any) -> Decoder | None:
     """How to make a value of this type from JSON; None where the JSON is it already."""
+    hint = type_checks.bare(hint)
     if isinstance(hint, type) and not isinstance(hint, types.GenericAlias):
         return _of_class(hint)
     origin, words = typing.get_origin(hint), typing.get_args(hint)
+    origin = _MADE.get(origin, origin)
     if origin in (typing.Union, types.UnionType):
         return _of_union(words)
     if origin in (list, set, frozenset) or (
@@ -88,6 +117,8 @@ def decoder(hint: Any) -> Decoder | None:
         return _of_tuple([decoder(word) or _same for word in words])
     if origin is dict:
         return _of_dict(_key(words[0]), decoder(words[1]))
+    if dataclasses.is_dataclass(origin):
+        return _of_dataclass(origin, hint)
     return None
 
 
@@ -101,9 +132,9 @@ def _of_class(hint: type) -> Decoder | None:
     if is_old_model(hint):
         return _leaf(typing.cast(Decoder, getattr(hint, "parse_obj")))
     if dataclasses.is_dataclass(hint):
-        return _of_dataclass(hint)
+        return _of_dataclass(hint, hint)
     if issubclass(hint, enum.Enum):
-        return _named_leaf(hint, f": not a value of {hint.__name__}")
+        return _named_leaf(_of_enum(hint), f": not a value of {hint.__name__}")
     if hint in (tuple, set, frozenset):
         return _of_items(hint, None)
     if issubclass(hint, tuple) and hasattr(hint, "_fields"):
@@ -137,14 +168,31 @@ def _named_leaf(make: Decoder, why: str) -> Decoder:
     return read
 
 
-def _of_dataclass(hint: type) -> Decoder:
+def _of_enum(hint: type[enum.Enum]) -> Decoder:
+    def make(value: Any) -> Any:
+        try:
+            return hint(value)
+        except ValueError:  # of a member whose value JSON has otherwise: a tuple, a date
+            from sagas.definition import serialization
+
+            text = serialization.write(value)
+            for member in hint:
+                with contextlib.suppress(NotSerializable):
+                    if serialization.write(member.value) == text:
+                        return member
+            raise
+
+    return make
+
+
+def _of_dataclass(hint: Any, whole: Any) -> Decoder:
     parts: dict[str, Decoder | None] = {}
 
     def make(value: Any) -> Any:
         if not isinstance(value, dict):
             raise Misfit(f": {hint.__name__} requires an object")
         if not parts:  # at the first value, since a class may name itself
-            told = typing.get_type_hints(hint)
+            told = type_checks.field_hints(whole)
             parts.update(
                 {
                     field.name: decoder(told[field.name])
@@ -226,6 +274,8 @@ def _each(value: Iterable[Any], parts: Iterable[Decoder]) -> list[Any]:
 
 def _key(hint: Any) -> Decoder | None:
     """How to make a key of a dict, which JSON has as a text."""
+    if isinstance(hint, typing.NewType):
+        return _key(hint.__supertype__)
     if hint in (int, float):
         return typing.cast(Decoder, hint)
     if hint is bool:

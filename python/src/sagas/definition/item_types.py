@@ -5,7 +5,6 @@ from __future__ import annotations
 import collections.abc
 import inspect
 import typing
-from collections.abc import Callable
 from typing import TYPE_CHECKING, Any
 
 from sagas.definition import decoders
@@ -43,7 +42,7 @@ def _item_hint(part: Part) -> Any:
     from sagas.definition.step import Step
 
     if isinstance(part, Step) and part.run.function:
-        told = _task_hints(part.run.function)
+        told = decoders.task_hints(part.run.function)
         if len(told) > 1:
             return told[1]
     of = part.for_each
@@ -56,12 +55,6 @@ def _hints(function: Any) -> dict[str, Any]:
         return typing.get_type_hints(inspect.unwrap(function))
     except Exception:  # a name that is only there for the checker, or it is no function
         return {}
-
-
-def _task_hints(function: Callable[..., Any]) -> tuple[Any, ...]:
-    """Of `ItemTask[Order, Parcel]` both types."""
-    told = [hint for name, hint in _hints(function).items() if name != "return"]
-    return typing.get_args(told[0]) if told else ()
 
 
 def _returned(function: Any) -> Any:

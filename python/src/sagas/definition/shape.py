@@ -258,6 +258,8 @@ class Shape:
 
     def _steps(self, level: Level) -> Iterator[ShapedStep]:
         for part in level.saga.parts:
+            if not level.entries[part.name]:  # found in this order, a long chain is not deep
+                self._needed(level, part, None)
             for index, entry in level.entries[part.name].items():
                 if entry.inside is not None:
                     yield from self._steps(entry.inside)

@@ -133,13 +133,12 @@ class Shelf:
         """The webhooks that are told of sagas of a name."""
         return self._hooks(name)
 
-    def fit(self, saga: Saga, input: Any, text: str) -> Fitted:
+    def fit(self, saga: Saga, text: str) -> Fitted:
         """Return the definition of a saga with an input.
 
         Args:
             saga: The saga.
-            input: The input.
-            text: The same as JSON.
+            text: The input as JSON.
 
         Raises:
             DefinitionError: The store was not opened with this very saga.
@@ -148,7 +147,7 @@ class Shelf:
             validation.check_given(saga)
         fitted = self._fitted.get(saga)
         if fitted is not None and (kind := fitted.kind) is not None:
-            wrong = kind.misfit(input, text)
+            wrong = kind.misfit(text)
             return fitted if wrong is None else Fitted(kind, None, wrong)
         if self.sagas.get((saga.name, saga.version)) is not saga:
             raise DefinitionError(
@@ -159,7 +158,7 @@ class Shelf:
             kind, shape = self._shaped.of(saga, text)
         except SagasError as error:
             return Fitted(None, None, error)
-        return Fitted(kind, shape, kind.misfit(input, text))
+        return Fitted(kind, shape, kind.misfit(text))
 
     def announce(self, hooks: Callable[[str], Hooks]) -> None:
         """Let webhooks be told of sagas: `hooks` gives them by the name of the saga."""

@@ -51,15 +51,24 @@ class Timing:
         """Return the first time behind another one, in seconds since 1970.
 
         Raises:
-            InvalidSchedule: There is none.
+            InvalidSchedule: There is none, or this system does not have the time zone.
         """
         if self.every:
             return (self._passed(at) + 1) * self.every
         start = datetime.datetime.fromtimestamp(at, UTC)
-        found = Cron.parse(self.cron).next_after(start, ZoneInfo(self.timezone))
+        found = Cron.parse(self.cron).next_after(start, self._zone())
         if found is None:
             raise InvalidSchedule(f"cron={self.cron!r}: this day never comes")
         return found.timestamp()
+
+    def _zone(self) -> ZoneInfo:
+        try:
+            return ZoneInfo(self.timezone)
+        except (ZoneInfoNotFoundError, ValueError, OSError) as error:
+            raise InvalidSchedule(
+                f"timezone={shown(self.timezone)}: this system does not have the time zone. "
+                "Install tzdata"
+            ) from error
 
     def due(self, next_at: float, now: float, most: int) -> tuple[list[float], float]:
         """Return which times are to be started now, and the next one behind them.

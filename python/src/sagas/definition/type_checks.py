@@ -10,6 +10,7 @@ number. Here that is a fault.
 from __future__ import annotations
 
 import dataclasses
+import inspect
 import types
 import typing
 from collections.abc import Callable, Sequence
@@ -29,7 +30,7 @@ LISTS = (list, tuple, set, frozenset)
 
 def check(hint: Any) -> Check | None:
     """What looks at a value of this type; None where there is nothing to look at."""
-    hint = _bare(hint)
+    hint = bare(hint)
     origin, words = typing.get_origin(hint), typing.get_args(hint)
     if hint in NAMES:
         return _plain(hint)
@@ -41,13 +42,13 @@ def check(hint: Any) -> Check | None:
         return _items(origin, words)
     if origin is dict:
         return _entries(check(words[1]))
-    if isinstance(hint, type) and dataclasses.is_dataclass(hint):
-        return _fields(hint)
+    if dataclasses.is_dataclass(origin or hint):
+        return _fields(origin or hint, hint)
     return None  # an enum or a time: what makes one refuses what is none
 
 
-def _bare(hint: Any) -> Any:
-    """A type without what else is said of it."""
+def bare(hint: Any) -> Any:
+    """A type without what else is said of it; of `List` the class, `list`."""
     while True:
         if typing.get_origin(hint) is typing.Annotated:
             hint = typing.get_args(hint)[0]
@@ -55,8 +56,16 @@ def _bare(hint: Any) -> Any:
             hint = hint.__supertype__
         elif hint is None:
             return type(None)
+        elif _is_alias(hint):
+            return typing.get_origin(hint)
         else:
             return hint
+
+
+def _is_alias(hint: Any) -> bool:
+    """Whether it is a name of `typing` for a class: `List`, and not `List[int]`."""
+    is_whole = typing.get_args(hint) or isinstance(hint, (type, types.GenericAlias))
+    return typing.get_origin(hint) is not None and not is_whole and hint != typing.Tuple[()]
 
 
 def _plain(hint: Any) -> Check:
@@ -132,14 +141,14 @@ def _entries(part: Check | None) -> Check:
     return look
 
 
-def _fields(hint: Any) -> Check:
+def _fields(hint: Any, whole: Any) -> Check:
     parts: dict[str, Check | None] = {}
 
     def look(value: Any) -> None:
         if not isinstance(value, dict):
             raise Misfit(f": {hint.__name__} requires an object")
         if not parts:  # at the first value, since a class may name itself
-            told = typing.get_type_hints(hint)
+            told = field_hints(whole)
             fields = [field for field in dataclasses.fields(hint) if field.init]
             parts.update({field.name: _field(told[field.name], field.default) for field in fields})
         for word, part in parts.items():
@@ -156,3 +165,42 @@ def _field(hint: Any, default: Any) -> Check | None:
         return part
     known = part
     return lambda value: None if value is None else known(value)
+
+
+def field_hints(whole: Any) -> dict[str, Any]:
+    """The hints of a dataclass's fields. `whole` may be one of a generic class, `Box[Order]`: each
+    variable is what it stands for in the class that declares the field.
+    """
+    kind = typing.get_origin(whole) or whole
+    given: dict[type, dict[Any, Any]] = {}
+    _set_variables(whole, given)
+    return {
+        name: _filled(
+            hint, next((given.get(one, {}) for one in kind.__mro__ if _has(one, name)), {})
+        )
+        for name, hint in typing.get_type_hints(kind).items()
+    }
+
+
+def _has(kind: type, name: str) -> bool:
+    return name in inspect.get_annotations(kind)
+
+
+def _set_variables(whole: Any, given: dict[type, dict[Any, Any]]) -> None:
+    """What the variables of a class stand for, and those of the classes that it inherits from."""
+    kind = typing.get_origin(whole) or whole
+    if kind in given:
+        return
+    given[kind] = dict(zip(getattr(kind, "__parameters__", ()), typing.get_args(whole)))
+    for base in kind.__dict__.get("__orig_bases__", kind.__bases__):
+        if typing.get_origin(base) not in (typing.Generic, typing.Protocol):
+            _set_variables(_filled(base, given[kind]), given)
+
+
+def _filled(hint: Any, given: dict[Any, Any]) -> Any:
+    if isinstance(hint, typing.TypeVar):
+        return given.get(hint, Any)
+    names = getattr(hint, "__parameters__", ()) if typing.get_origin(hint) else ()
+    if not all(isinstance(name, typing.TypeVar) for name in names):
+        return Any  # one stands for many types
+    return hint[tuple(given.get(name, Any) for name in names)] if names and given else hint

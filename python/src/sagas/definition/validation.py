@@ -234,6 +234,8 @@ def _option_faults(manner: Manner, what: str) -> Iterator[str]:
         elif manner.on_exhausted == "retry":
             rule = "has no effect with on_exhausted='retry'; remove it"
             yield f"max_attempts={most_attempts!r} of its {what}: {rule}"
+    if manner.queue is not None and not hasattr(manner.queue, "declare"):
+        yield f"queue={manner.queue!r} of its {what}: must be a sagas.celery.Queue"
     if not isinstance(manner.transaction, bool):
         yield f"transaction={manner.transaction!r} of its {what}: must be True or False"
     yield from _cancel_faults(manner, what)

@@ -20,8 +20,8 @@ Json = dict[str, Any]
 @dataclasses.dataclass(frozen=True, slots=True)
 class Waits:
     """An attempt that is held. `why`: `unknown`, `retry`, `exhausted`, `cannot_decode`,
-    `approval`, `wait`, or `external` (a worker has it); a service adds what its memory has
-    (`sagas.ActiveAttempt`).
+    `approval`, `wait`, `child`, or `external` (a worker has it); a service adds what its memory
+    has (`sagas.ActiveAttempt`).
 
     `until`: when that is over, in seconds of wall time, or None; `said`: what was raised last,
     or the worker's name; `count`: how often nobody knew, or it failed, since a person retried it.

@@ -174,8 +174,10 @@ def _rule(saga: Saga, word: str, name: str, attempts: Any) -> Rule:
         validation.is_count(attempts) or isinstance(attempts, Iterable)
     ):
         raise TypeError(f"{said}: must be {FORMS}")
-    chosen = range(1, attempts + 1) if isinstance(attempts, int) else [*attempts]
-    if not all(validation.is_count(attempt) and attempt > 0 for attempt in chosen):
+    is_number = isinstance(attempts, int)
+    chosen = range(1, attempts + 1) if is_number else [*attempts]
+    looked_at = [attempts + 1] if is_number else chosen  # a number may be a very large one
+    if not all(validation.is_count(attempt) and attempt > 0 for attempt in looked_at):
         raise ValueError(f"{said}: attempts are numbered from 1. It must be {FORMS}")
     told = RuntimeError(TOLD)
     return lambda attempt: told if attempt in chosen else None
