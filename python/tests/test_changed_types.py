@@ -6,6 +6,7 @@ from __future__ import annotations
 import asyncio
 import dataclasses
 import datetime
+import decimal
 import enum
 import logging
 from collections.abc import Callable
@@ -291,6 +292,29 @@ def test_a_worker_of_celery_that_cannot_read_its_order() -> None:
     outcome = worker._call(reads, Manner(reads), sagas.Task(about))
     said = "saga 'shop', step 'ship': input: missing 'address', which Wants requires"
     assert (outcome.kind, outcome.value) == ("unknown", said)
+
+
+def test_a_worker_of_celery_that_reads_the_result_of_a_child() -> None:
+    """What the function of a child step says of its result is the child's input."""
+    worker = pytest.importorskip("sagas.celery.worker")
+    app = pytest.importorskip("celery").Celery("app")
+    queue = pytest.importorskip("sagas.celery").Queue(app, "q", store="nowhere.db")
+    child, parent = sagas.Saga("child"), sagas.Saga("parent")
+    child.step(name="room", undo=0)(lambda task: None)
+
+    @parent.child(child)
+    def stay(task: sagas.Task[Wants]) -> Wants:
+        return task.input
+
+    @parent.step
+    def price(task: sagas.Task[Wants]) -> decimal.Decimal:
+        return decimal.Decimal(1)
+
+    @parent.step(needs=[stay, price], queue=queue)
+    def tour(task: sagas.Task[Wants]) -> Any: ...
+
+    work = worker.Work(queue, tour, "run", tour.run)
+    assert [*work.decoders] == ["price"]
 
 
 def steps(*names: str, calls: list[str], version: int = 1) -> sagas.Saga:

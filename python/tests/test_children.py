@@ -179,13 +179,15 @@ class Slow:
         return found
 
 
-def test_an_abort_goes_down(place: str) -> None:
+def test_an_abort_goes_down(place: str, capsys: pytest.CaptureFixture[str]) -> None:
     """The child is aborted, and undoes what its own child did, before the parent ends."""
-    world = Slow()
+    world, shell = Slow(), Shell(place, capsys)
 
     async def main() -> None:
         async with sagas.open(place, world.all, concurrency=1) as store:
             top = await world.started(store, labels={"customer": "7"}, deadline=3600)
+            waits = {line.split()[0]: line for line in (await asyncio.to_thread(shell, "pending")).splitlines()}
+            assert "the end of its child saga" in waits["t"] and "an approval" in waits["t/stay"]
             below = await store.list(labels={"customer": "7"})
             assert {one.key for one in below} == {"t", "t/stay", "t/stay/below"}
             assert len({one.deadline for one in below}) == 1

@@ -12,7 +12,7 @@ from typing import Any
 import psycopg
 import pytest
 import records
-from cases import Task, hears, in_child, run, until
+from cases import Task, hears, in_child, run, simple, until
 from kills import children
 from psycopg.rows import dict_row
 from server import Server
@@ -160,6 +160,36 @@ def test_a_start_waits_for_a_node(url: str, capsys: pytest.CaptureFixture[str]) 
                     assert (await started.wait()).ok
 
     run(main())
+
+
+def test_a_start_whose_caller_is_cancelled_takes_no_connection_away(url: str) -> None:
+    """It waits for the client's only connection, and its caller has no time: those that come later have the connection, and it may be a start itself."""
+    kind = simple(lambda task: 1)
+
+    async def main() -> None:
+        async with sagas.open(url, [kind]):
+            pass
+        async with sagas.Client(url, connections=1) as client:
+            with psycopg.connect(url) as stranger:
+                stranger.execute("LOCK TABLE sagas.pending_starts IN EXCLUSIVE MODE")
+                first = asyncio.create_task(client.start(kind, "first"))
+                await until(lambda: waits_for_a_lock(url))
+                second = asyncio.create_task(client.start(kind, "second"))
+                await until(lambda: client._asker.pool.get_stats().get("requests_waiting"))
+                second.cancel()
+                with pytest.raises(asyncio.CancelledError):
+                    await second
+            assert (await first).new
+            assert (await client.start(kind, "third")).new
+            await client.start(kind, "second")
+
+    run(main())
+
+
+def waits_for_a_lock(url: str) -> list[Any]:
+    """The server's processes that wait for a lock in this database."""
+    with psycopg.connect(url) as link:
+        return link.execute("SELECT 1 FROM pg_stat_activity WHERE datname = current_database() AND wait_event_type = 'Lock'").fetchall()
 
 
 def test_a_start_that_no_node_has_taken_is_withdrawn(url: str, capsys: pytest.CaptureFixture[str]) -> None:

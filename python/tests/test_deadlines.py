@@ -4,6 +4,7 @@ from __future__ import annotations
 
 import asyncio
 import datetime
+import gc
 import os
 import pathlib
 import signal
@@ -12,9 +13,12 @@ from typing import Any
 import pytest
 from cases import Task, run, until
 from test_command import Shell
+from test_schedules import Clock
 
 import sagas
 import sagas.testing
+from sagas.core.model import SagaInstance
+from sagas.runtime import deadlines
 
 SOON = datetime.timedelta(seconds=0.3)
 UTC = datetime.timezone.utc
@@ -44,6 +48,34 @@ def at(place: str, kind: sagas.Saga, events: list[str]) -> Any:
     return sagas.open(
         place, [kind], node="one", lease=2, on_event=lambda one: events.append(one.name)
     )
+
+
+def test_a_saga_that_is_over_is_not_kept_for_its_deadline(
+    tmp_path: pathlib.Path, monkeypatch: pytest.MonkeyPatch
+) -> None:
+    """A deadline is days away, and sagas end at once: the program keeps few of them. Those that are open are aborted in time."""
+    monkeypatch.setattr(deadlines, "MOST", 4, raising=False)
+    kind, clock = slow(deadline=datetime.timedelta(days=1)), Clock()
+
+    def count() -> int:
+        gc.collect()
+        return len([one for one in gc.get_objects() if isinstance(one, SagaInstance)])
+
+    async def main() -> None:
+        before = count()  # of other tests
+        async with sagas.open(tmp_path / "store.db", [kind], clock=clock) as store:
+            for number in range(20):
+                run = await store.start(kind, f"k{number}")
+                if number % 4:
+                    await until(lambda: [a for a in store.active_attempts(run.key) if a.waits])
+                    await run.complete("sign")
+                    assert (await run.wait()).ok
+            assert count() - before < 15
+            clock.now += 2 * 86400
+            for number in range(0, 20, 4):
+                assert (await store.wait(f"k{number}", 60)).aborted
+
+    run(main())
 
 
 @pytest.mark.parametrize("way", ["timedelta", "datetime", "definition"])

@@ -287,11 +287,17 @@ def one_exception_by_itself(saga: sagas.Saga) -> None:
     def a(task: Task) -> None: ...
 
 
+def a_queue_by_its_name(saga: sagas.Saga) -> None:
+    @saga.step(queue="slow")  # type: ignore[call-overload, misc]
+    def a(task: Task) -> None: ...
+
+
 def no_name(saga: sagas.Saga) -> None:
     saga.step(external=True)  # type: ignore[call-overload]
 
 
 FAULTY: list[tuple[Callable[[sagas.Saga], None], str]] = [
+    (a_queue_by_its_name, "queue='slow' of its function: must be a sagas.celery.Queue"),
     (two_of_a_name, "another step"),
     (no_argument, "one argument"),
     (a_generator, "a generator, which would not run. Return the result"),

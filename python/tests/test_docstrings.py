@@ -8,6 +8,7 @@ import builtins
 import doctest
 import inspect
 import operator
+import pathlib
 import re
 from collections.abc import Iterator
 from typing import Any
@@ -15,6 +16,10 @@ from typing import Any
 import pytest
 
 import sagas
+from sagas.base import events
+from sagas.core import attempts
+
+REFERENCE = pathlib.Path(__file__).resolve().parents[2] / "docs" / "reference"
 
 
 def names() -> Iterator[tuple[str, Any]]:
@@ -67,6 +72,23 @@ def test_says_what_it_takes_and_raises(name: str, thing: Any) -> None:
     assert {word for word in wanted if word[0] != "_"} <= described(thing)
     for error in section(inspect.cleandoc(doc), "Raises"):
         assert issubclass(getattr(sagas, error, None) or getattr(builtins, error), Exception)
+
+
+def row(word: str, page: str) -> bool:
+    """Whether a page of the reference has a row of a table for a name."""
+    return bool(re.search(rf"^\|[^|]*`{word}`.*\|$", (REFERENCE / page).read_text(), re.M))
+
+
+def test_the_reference_has_each_exception_and_event() -> None:
+    found = [getattr(sagas, name) for name in sagas.__all__]
+    errors = [it for it in found if inspect.isclass(it) and issubclass(it, sagas.SagasError)]
+    kinds = {sagas.SagasError, sagas.TemporaryError, sagas.ConflictError, sagas.InvalidError}
+    names = {it.__name__ for it in errors if it not in kinds}
+    assert {name for name in names if not row(name, "exceptions.md")} == set()
+    words = {*events.LEVELS, *declared(sagas.Event)}
+    assert {word for word in words if not row(word, "events.md")} == set()
+    doc = inspect.getdoc(sagas.Event) or ""
+    assert {word for word in attempts.WAITS if f"`{word}`" not in doc} == set()
 
 
 def test_examples_run(tmp_path: Any, monkeypatch: pytest.MonkeyPatch) -> None:

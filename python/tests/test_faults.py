@@ -24,7 +24,7 @@ from typing import Any
 
 import pytest
 import records
-from cases import PLACES, QUICK, Task, ended, in_child, pairs, run, simple, surely_ended, until
+from cases import PLACES, QUICK, Task, asked_of, ended, in_child, pairs, run, simple, surely_ended, until
 from driving import program
 from kills import children
 from world import started
@@ -34,7 +34,7 @@ from sagas.cli import store_command
 from sagas.core import protocol
 from sagas.runtime import coordinator, shard_runner
 from sagas.storage import admin
-from sagas.storage.sqlite import store_file
+from sagas.storage.sqlite import store_file, writer
 
 HERE = pathlib.Path(__file__).resolve().parent
 
@@ -1217,6 +1217,96 @@ def test_closing_says_what_it_waits_for(tmp_path: pathlib.Path, caplog: pytest.L
             assert (await store.wait(going.key)).ok
 
     run(main())
+
+
+@pytest.mark.parametrize("seconds", [None, 0])
+def test_closing_goes_on_where_its_caller_is_cancelled(place: str, seconds: int | None) -> None:
+    """A further call waits for that, or cancels what runs; then the store is free for others. Who waits until no saga is open hears that it is closed."""
+    begun, gate, calls = asyncio.Event(), asyncio.Event(), list[str]()
+
+    async def slow(task: Task) -> int:
+        calls.append(task.key)
+        begun.set()
+        await gate.wait()
+        return 1
+
+    async def main() -> None:
+        kind = simple(slow)
+        kind.step(name="b", external=True, needs=[kind.parts[0]])
+        async with sagas.open(place, [kind]) as store:
+            await store.start(kind, "k")
+            await begun.wait()
+            idle, closing = asyncio.create_task(store.wait_idle()), asyncio.create_task(store.close())
+            await asyncio.sleep(0)
+            await asyncio.sleep(0)
+            with pytest.raises(sagas.Closed):
+                await store.get("k")
+            closing.cancel()
+            with pytest.raises(asyncio.CancelledError):
+                await closing
+            again = asyncio.create_task(store.close(seconds))
+            if seconds is None:
+                gate.set()
+            await again
+            with pytest.raises(sagas.Closed):
+                await idle
+        gate.set()
+        async with sagas.open(place, [kind]) as store:
+            await until(lambda: [one for one in store.active_attempts("k") if one.step == "b"])
+        assert calls == (["k"] if seconds is None else ["k", "k"])
+
+    run(main())
+
+
+def test_a_retry_that_cannot_be_stored_hears_that_the_store_is_closed(
+    tmp_path: pathlib.Path, monkeypatch: pytest.MonkeyPatch
+) -> None:
+    """Another program holds the file: nothing is written until the store is closed, and who asked is not left alone."""
+    monkeypatch.setattr(writer, "BUSY", 20)
+    failed = asyncio.Event()
+
+    def hears(event: sagas.Event) -> None:
+        if event.name == "commit_failed":
+            failed.set()
+
+    async def unknown(task: Task) -> None:
+        raise sagas.Unknown("nobody knows")
+
+    async def main() -> None:
+        kind = simple(unknown, max_unknown=0)
+        async with sagas.open(tmp_path / "store.db", [kind], on_event=hears) as store:
+            await store.start(kind, "k")
+            await until(lambda: asked_of(store))
+            with contextlib.closing(sqlite3.connect(tmp_path / "store.db", isolation_level=None)) as other:
+                other.execute("BEGIN IMMEDIATE")
+                asked = asyncio.create_task(store.retry("k", "a"))
+                await failed.wait()
+                await store.close()
+            async with asyncio.timeout(60):
+                with pytest.raises(sagas.Closed):
+                    await asked
+
+    run(main())
+
+
+def test_a_closing_that_is_refused_closes_nothing(tmp_path: pathlib.Path) -> None:
+    """Without async: with a time that is none, or in the store's own thread, which would wait for itself."""
+    said: list[str] = []
+
+    async def closes(task: Task) -> int:
+        with pytest.raises(RuntimeError, match="would wait for its own event loop"):
+            store.close()
+        said.append(task.key)
+        return 1
+
+    kind = simple(closes)
+    with sagas.open_sync(tmp_path / "store.db", [kind]) as store:
+        with pytest.raises(TypeError, match="shutdown_timeout='x'"):
+            store.close("x")  # type: ignore[arg-type]
+        assert store.start(kind, "k").wait(60).ok
+    with sagas.open_sync(tmp_path / "store.db", [kind]) as store:
+        assert store.start(kind, "k").wait(60).ok
+    assert said == ["k"]
 
 
 def test_closing_cancels_after_its_grace(place: str) -> None:

@@ -3,13 +3,14 @@ has. No value is in any text."""
 
 from __future__ import annotations
 
+import collections
 import dataclasses
 import datetime
 import decimal
 import enum
 import logging
 import uuid
-from typing import Any, Literal, Optional, Union
+from typing import Any, Literal, NamedTuple, Optional, Union
 
 import pytest
 from cases import Task, run, simple
@@ -121,6 +122,48 @@ def test_the_types_of_fields(place: str, caplog: pytest.LogCaptureFixture) -> No
     with caplog.at_level(logging.DEBUG):
         run(main())
     assert SECRET not in caplog.text.replace(repr(WELL[0]["more"]), "")
+
+
+@dataclasses.dataclass
+class Other:
+    """It looks as an order, and an order cannot be made of it."""
+
+    amount: int
+    color: str
+
+
+class Pair(NamedTuple):
+    """No object, in JSON."""
+
+    amount: int
+
+
+@pytest.mark.parametrize(
+    "given",
+    [
+        Color.RED,
+        datetime.date(2026, 1, 2),
+        {1},
+        Pair(1),
+        collections.OrderedDict(weight=1),
+        Other(1, "blue"),
+        Order(1, color="blue"),  # type: ignore[arg-type]
+    ],
+    ids=lambda given: type(given).__name__,
+)
+def test_an_input_of_another_type(place: str, given: Any) -> None:
+    """Whatever it is in Python: what the first step would not read is refused, and not begun."""
+    saga = reads(Order)
+
+    async def main() -> None:
+        async with sagas.open(place, [saga]) as store:
+            with pytest.raises(sagas.InvalidInput, match="saga 'simple', step 'a': input"):
+                await store.start(saga, "k", given)
+            assert await store.get("k") is None
+
+    run(main())
+    with pytest.raises(sagas.InvalidInput, match="saga 'simple', step 'a': input"):
+        sagas.testing.run(saga, given)
 
 
 @dataclasses.dataclass

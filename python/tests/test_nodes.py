@@ -946,6 +946,60 @@ def test_who_looks_for_a_key_hears_that_the_store_is_closed(
     run(main())
 
 
+def test_the_answer_to_a_withdrawal_is_lost(postgresql: Server, url: str) -> None:
+    """What no worker has is withdrawn as its saga is aborted. The connection breaks before the answer: it is asked again, and the saga ends."""
+    kind = sagas.Saga("outside")
+    kind.step(name="a", external=True)
+
+    async def main() -> None:
+        with relaying(postgresql.port) as relay:
+            store = sagas.open(postgresql.url(url.rpartition("/")[2], port=relay.port), [kind])
+            store.leased = True
+            async with store:
+                running = await store.start(kind, "k")
+                with psycopg.connect(url, autocommit=True) as link:
+                    await until(lambda: link.execute("SELECT 1 FROM sagas.external_attempts").fetchall())
+                relay.mark = b"SET outcome = 'withdrawn'"
+                assert await running.abort()
+                assert (await running.wait(60)).aborted
+                assert relay.cuts["marked"] == 1
+
+    run(main())
+
+
+def test_a_node_is_gone_in_the_middle_of_a_claim(
+    postgresql: Server, url: str, monkeypatch: pytest.MonkeyPatch
+) -> None:
+    """The server does not know it, as where a machine loses its power: others wait no longer for what that node has locked than a statement may take."""
+    kind, words = sagas.Saga("outside"), [("outside", "a", "run")]
+    kind.step(name="a", external=True, concurrency=1)
+
+    async def claimed(store: sagas.Store) -> bool:
+        with contextlib.suppress(sagas.StoreUnavailable):
+            return bool(await store.workers.claim(words))
+        return False
+
+    async def main() -> None:
+        with relaying(postgresql.port) as relay:
+            gone = sagas.open(postgresql.url(url.rpartition("/")[2], port=relay.port), [kind], node="gone")
+            store = sagas.open(url, [kind], node="here")
+            gone.leased = store.leased = True
+            async with store:
+                monkeypatch.setattr(connections, "ABANDONED", connections.ABANDONED.replace("20s", "3s"))
+                async with gone:
+                    await store.start(kind, "k")
+                    with psycopg.connect(url, autocommit=True) as link:
+                        await until(lambda: link.execute("SELECT 1 FROM sagas.external_attempts").fetchall())
+                    relay.still = b"found AS MATERIALIZED"  # behind the lock
+                    claiming = asyncio.create_task(claimed(gone))
+                    await until(relay.stands.is_set)
+                    await until(lambda: claimed(store), 15)
+                    relay.go_on()
+                    assert not await claiming
+
+    run(main())
+
+
 def test_sessions_are_ended_by_the_server(url: str) -> None:
     """Each session of the node is ended, again and again: all sagas end."""
     kind = pair()

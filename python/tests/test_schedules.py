@@ -251,6 +251,41 @@ def test_nothing_is_started_behind_the_answer(place: str, what: str) -> None:
     run(main())
 
 
+def test_a_time_zone_that_this_system_does_not_have(place: str, monkeypatch: pytest.MonkeyPatch) -> None:
+    """Its schedule is left to other nodes, which is told; all others go on, and so does it once its zone is there."""
+    monkeypatch.setattr(scheduler, "MOST_PAUSE", 0.1)
+    clock, kind, said = Clock(), nightly(), list[str | None]()
+
+    def zone(name: str) -> None:
+        with contextlib.closing(admin.connect(place, "rw")) as link:
+            link.changed("UPDATE schedules SET timezone = ? WHERE name = 'far'", name)
+            link.tell("requests")
+
+    def hears(event: sagas.Event) -> None:
+        if event.name == "schedule_failed":
+            said.append(event.detail)
+
+    async def main() -> None:
+        async with sagas.open(place, [kind], clock=clock, on_event=hears) as store:
+            await store.schedule("far", kind, cron="0 * * * *")
+            await store.schedule("near", kind, every=EVERY)
+            zone("Mars/Utopia")
+            for hours in (6, 12):
+                clock.now = START + hours * 3600
+                await until(lambda: len([key for key in keys(place) if key.startswith("near@")]) == hours // 6)
+            (told,) = said
+            assert told and told.startswith("far: timezone='Mars/Utopia': this system does not have")
+            with pytest.raises(sagas.InvalidSchedule, match="this system does not have"):
+                await store.pause_schedule("far")
+                await store.resume_schedule("far")
+            with contextlib.closing(admin.connect(place, "rw")) as link:
+                link.changed("UPDATE schedules SET paused = 0")
+            zone("UTC")
+            await until(lambda: [key for key in keys(place) if key.startswith("far@")])
+
+    run(main())
+
+
 def test_other_times_are_not_those_that_were_read(place: str) -> None:
     """A node that read the schedule before a change does not say when its next time is."""
     with sagas.open_sync(place, [nightly()]):

@@ -9,6 +9,7 @@ import os
 import pathlib
 import re
 import shlex
+import shutil
 import signal
 import subprocess
 import sys
@@ -110,6 +111,46 @@ def test_metrics_are_described(tmp_path: pathlib.Path) -> None:
     counted = {name.removesuffix("_total") for name in told}
     assert names and names <= counted, names - counted
     assert told == set(re.findall(r"`(sagas_\w+[a-z])[{`]", (REFERENCE / "metrics.md").read_text()))
+
+
+def test_each_wait_is_described() -> None:
+    """The reference has each reason for which an attempt waits, and the page on troubles what the command says of it."""
+    from sagas.cli.backlog import NEEDS, waits_for
+    from sagas.core.states import WAITS_FOR, Suspension
+
+    table = PAGE.partition("| `why` |")[2].partition("\n\n")[0]
+    inner = {Suspension.STEP_LIMIT, Suspension.FLEET_LIMIT}  # what the store calls them
+    assert set(WAITS_FOR) - inner == set(re.findall(r"`(\w+)`", re.sub(r"(?m)^(\|[^|]*)\|.*", r"\1", table)))
+    page = (TOP / "docs" / "guides" / "troubleshooting.md").read_text()
+    assert {word for word in NEEDS.values() if word != "stuck" and f"`{word}`" not in page} == set()
+    rows = [re.sub("NAME|N", ".+", row) for row in re.findall(r"^\| ([^|]*) \|", page, re.M)]
+    one = {"until": None, "count": 1, "worker": "w", "saga": "trip", "version": 1}
+    kinds = ["unknown", "exhausted", "retry", "cannot_decode", "node", "approval", "wait", "child"]
+    said = [waits_for(one | {"why": why}) for why in kinds]
+    said += [waits_for(one | {"why": "external", "until": 4e9}), waits_for(one | {"why": "unknown", "until": 4e9})]
+    assert [text for text in said if not any(re.match(row, text) for row in rows)] == []
+
+
+@pytest.mark.parametrize("engine", ["podman", "docker"])
+def test_the_containers_have_one_image_and_its_tokens_can_be_read(tmp_path: pathlib.Path, engine: str) -> None:
+    """With docker, root owns the files that a container writes: those of tokens are for others, too."""
+    deploy = shutil.copytree(TOP / "examples" / "deploy", tmp_path / "deploy")
+    places = (TOP / "docs" / "guides" / "service.md", deploy / "Containerfile")
+    (image,) = {name for path in places for name in re.findall(r"podman build .* -t (\S+) \.", path.read_text())}
+    (tmp_path / "bin").mkdir()
+    text = '#!/bin/bash\nwhile [ "$1" != --volume ]; do shift; done; folder=${2%:*}; image=$5; script=${7//\\/made/$folder}\n'
+    text += f'(umask 022; bash -ec "$script") && stat -c "%a $image" "$folder"/* >>{tmp_path}/made\n'
+    (tmp_path / "bin" / engine).write_text(text)
+    (tmp_path / "bin" / "sagas").write_text(f'#!/bin/sh\nexec {shlex.quote(sys.executable)} -m sagas "$@"\n')
+    for path in (tmp_path / "bin").iterdir():
+        path.chmod(0o755)
+    for name in ("bash", "sh", "dirname", "mktemp", "rm", "stat", "od", "tr", "cat", "cp", "chmod"):
+        (tmp_path / "bin" / name).symlink_to(str(shutil.which(name)))
+    told = subprocess.run([deploy / "setup"], env=environment() | {"PATH": str(tmp_path / "bin")}, capture_output=True, text=True, check=True)
+    assert re.fullmatch(r"caller:   sagas_\S+\noperator: sagas_\S+\n", told.stdout)
+    assert "SAGAS_WORKER_TOKEN=sagas_" in (deploy / ".env").read_text() and (deploy / ".env").stat().st_mode & 0o077 == 0
+    assert set((tmp_path / "made").read_text().splitlines()) == {f"644 {image}"}
+    assert f"SAGAS_IMAGE:-{image}}}" in (deploy / "compose.yaml").read_text() and image.startswith("localhost/")
 
 
 def test_the_unit_starts_a_service(tmp_path: pathlib.Path) -> None:

@@ -597,6 +597,7 @@ def test_the_examples_go_on(tmp_path: pathlib.Path) -> None:
             service.start()
             for key in keys:
                 end = client.get(f"/v1/sagas/{key}/wait?seconds=60").json()
-                assert end["phase"] == "completed" and end["results"]["tour"] == "booked" and end["results"]["hotel"]["room"] == 4, end
+                assert end["phase"] == "completed" and end["results"]["hotel"]["room"] == 4, end
+                assert end["results"]["tour"].startswith("booked under ") and end["results"]["tour"].endswith("-tour-run"), end
         finally:
             workers.end()

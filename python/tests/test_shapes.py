@@ -337,6 +337,17 @@ def test_an_inclusion_of_nothing_is_passed_through() -> None:
     assert there == {"before": [], "hire-take": ["before"], "behind": ["hire-take"]}
 
 
+def test_a_long_chain_of_steps_that_are_left_out() -> None:
+    """What needs the last of them needs what the first one needs."""
+    chain = sagas.Saga("chain")
+    last = chain.step(name="first")(lambda task: None)
+    for number in range(700):
+        words = {"when": lambda input: False} if number % 2 else {"for_each": lambda input: []}
+        last = chain.step(name=f"s{number}", needs=[last], **words)(lambda task: None)
+    chain.step(name="last", needs=[last])(lambda task: None)
+    assert names(chain, None) == {"first": [], "last": ["first"]}
+
+
 def test_the_versions_of_included_sagas_are_in_the_definition() -> None:
     text = trip.toml(Trip(Package(Hotel("Rome", []))))
     assert "# includes p/hotel booking 1 given\n" in text and "# of p/hotel/confirm\n" in text
@@ -563,7 +574,7 @@ def test_definitions_that_differ_in_costs_share_the_rest() -> None:
         for last in (0, 1)
     ]
     shelf, again = Shelf([saga]), Shelf([saga])
-    kinds = [shelf.fit(saga, given, serialization.write(given)).kind for given in inputs]
+    kinds = [shelf.fit(saga, serialization.write(given)).kind for given in inputs]
     shared: dict[int, list[str]] = {}
     for given, kind in zip(inputs, kinds):
         assert kind is not None

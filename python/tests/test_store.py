@@ -1350,3 +1350,46 @@ def test_nothing_is_kept_of_a_wait_behind_its_sagas_end(place: str, reopened: bo
 
     run(main())
     assert held(place) == []
+
+
+def test_callers_that_gave_up_are_not_kept(tmp_path: pathlib.Path) -> None:
+    """A saga that waits for a person is asked about again and again, each time for a moment: few of those callers are kept, and who waits hears of its end."""
+    kind = sagas.Saga("outside")
+    kind.step(name="a", external=True)
+
+    async def main() -> None:
+        async with sagas.open(tmp_path / "store.db", [kind]) as store:
+            running = await store.start(kind, "k")
+            waits = asyncio.create_task(running.wait())
+            for _ in range(300):
+                with pytest.raises(TimeoutError):
+                    await running.wait(0)
+            (callers,) = store._inside.sagas.ends.futures.values()
+            assert len(callers) < 100
+            await running.complete("a")
+            assert (await waits).ok
+
+    run(main())
+
+
+def test_keys_that_are_no_texts(place: str) -> None:
+    """No saga has one; and who asks for another key in the same moment, or later, hears of that."""
+    kind, wrong = simple(lambda task: 1), [42, None, b"k", 1.5]
+
+    async def main() -> None:
+        async with sagas.open(place, [kind]) as store:
+            assert (await ended(store, kind)).ok
+            async with asyncio.timeout(60):
+                found = await asyncio.gather(*(store.get(key) for key in [*wrong, "k", "other"]))  # type: ignore[arg-type]
+                assert [one is not None for one in found] == [False] * 4 + [True, False]
+                for call in (store.wait, store.abort, store.log):
+                    with pytest.raises(sagas.NoSuchSaga, match="no saga has the key 42"):
+                        await call(42)  # type: ignore[arg-type]
+                assert (await store.wait("k")).ok
+        if place.startswith("postgresql"):
+            async with sagas.Client(place) as client:
+                assert await client.get(42) is None  # type: ignore[arg-type]
+                with pytest.raises(sagas.NoSuchSaga, match="no saga has the key 42"):
+                    await client.wait(42)  # type: ignore[arg-type]
+
+    run(main())

@@ -5,6 +5,7 @@ from __future__ import annotations
 import asyncio
 import dataclasses
 import datetime
+import sys
 import time
 from collections.abc import Callable
 from typing import Any
@@ -205,6 +206,7 @@ FORMS = r"must be a number of attempts \(1\), a list of attempts"
         ({"fail": {"hotel": 1.5}}, TypeError, FORMS),
         ({"fail": {"hotel": True}}, TypeError, FORMS),
         ({"fail": {"hotel": [0]}}, ValueError, "numbered from 1"),
+        ({"fail": {"hotel": -1}}, ValueError, "numbered from 1"),
         ({"fail": ["hotel"]}, TypeError, rf"fail=\['hotel'\]: must be a dict of attempts by step: fail="),
         ({"unknown": "hotel"}, TypeError, "unknown='hotel': must be a dict"),
         ({"fail_undo": {"flight": 1}}, ValueError, "fail_undo: step 'flight' has no compensation, so it is never undone. Declare one with @flight.compensation"),
@@ -216,6 +218,11 @@ def test_a_script_that_is_none(words: dict[str, Any], kind: type[Exception], tex
     """A script that means nothing is a fault of the test, by its word."""
     with pytest.raises(kind, match=text):
         run(trip(), "LH400", **words)
+
+
+def test_all_attempts_by_a_number() -> None:
+    """However large it is, it is not counted up."""
+    assert run(trip(), "LH400", fail={"hotel": sys.maxsize}).states["hotel"] == "failed"
 
 
 def test_what_fails_to_be_undone_by_doing_nothing() -> None:

@@ -2,14 +2,17 @@
 
 from __future__ import annotations
 
+import collections.abc
 import dataclasses
 import datetime
 import decimal
 import enum
+import functools
 import json
 import math
+import typing
 import uuid
-from typing import Any, NamedTuple, Optional, Union
+from typing import Any, Generic, Mapping, NamedTuple, NewType, Optional, Sequence, TypeVar, Union
 
 import pytest
 from cases import run, simple
@@ -17,7 +20,7 @@ from hypothesis import given
 from hypothesis import strategies as st
 
 import sagas
-from sagas.definition import decoders, serialization
+from sagas.definition import decoders, serialization, type_checks
 from sagas.definition.mismatches import Misfit
 
 JSON = st.recursive(
@@ -89,6 +92,50 @@ class Pair(NamedTuple):
     row: int
 
 
+class Route(enum.Enum):
+    """Values that JSON has otherwise."""
+
+    SHORT = (1, (2, 3))
+    LONG = datetime.date(2026, 1, 2)
+
+
+T = TypeVar("T")
+K = TypeVar("K")
+Ts = typing.TypeVarTuple("Ts")
+
+
+@dataclasses.dataclass
+class Box(Generic[T]):
+    inside: T
+    more: list[T] = dataclasses.field(default_factory=list)
+    spare: Optional[T] = None
+
+
+@dataclasses.dataclass
+class Boxes(Box[list[T]], Generic[K, T]):
+    """The same variable is another type in the class that it inherits from."""
+
+    last: Optional[T] = None
+    names: dict[K, Box[T]] = dataclasses.field(default_factory=dict)
+
+
+@dataclasses.dataclass
+class SeatBox(Box[Seat]):
+    number: int = 0
+
+
+@dataclasses.dataclass
+class Columns(Generic[typing.Unpack[Ts]]):
+    """Its variable stands for several types."""
+
+    rows: list[tuple[typing.Unpack[Ts]]]
+
+
+Row = NewType("Row", int)
+Day = NewType("Day", datetime.date)
+SEAT, DAY = Seat(1, Colour.RED), datetime.date(2026, 1, 2)
+
+
 def there_and_back(value: Any, hint: Any) -> Any:
     return serialization.read(serialization.write(value), decoders.decoder(hint))
 
@@ -153,10 +200,36 @@ def test_dataclasses() -> None:
         ({1.5: [Colour.RED]}, dict[float, list[Colour]]),
         ({True: 1, False: 0}, dict[bool, int]),
         ({Size.LARGE: 1}, dict[Size, int]),
+        ([SEAT], Sequence[Seat]),
+        ([SEAT], collections.abc.Iterable[Seat]),
+        ({"a": [SEAT]}, Mapping[str, collections.abc.Collection[Seat]]),
+        ({Colour.RED}, collections.abc.Set[Colour]),
+        (DAY, Day),
+        ([DAY], Optional[list[Day]]),
+        ({7: 1}, dict[Row, int]),
+        (Route.SHORT, Route),
+        ({"a": Route.LONG}, dict[str, Route]),
+        (Box(SEAT, [SEAT], SEAT), Box[Seat]),
+        (Box([Box(DAY)]), Box[list[Box[datetime.date]]]),
+        (Boxes([DAY], [[DAY]], None, DAY, {7: Box(DAY)}), Boxes[int, datetime.date]),
+        (SeatBox(SEAT, [SEAT], None, 4), SeatBox),
+        (Box(3), Box),
+        (Columns([[1, "a"]]), Columns[int, str]),
+        (Columns([[1, "a"]]), Columns),
+        ([1], typing.List),
+        ({"a": 1}, typing.Dict),
+        ((1, 2), typing.Tuple),
+        ((), typing.Tuple[()]),
+        ({1, 2}, Optional[typing.Set]),
+        ({"a": [1]}, Mapping[str, Sequence]),
+        ([1], Sequence),
     ],
 )
 def test_types(value: Any, hint: Any) -> None:
+    """The check at a start takes the value, too."""
     assert there_and_back(value, hint) == value
+    if check := type_checks.check(hint):
+        check(serialization.read(serialization.write(value)))
 
 
 def test_a_decimal_is_the_number_that_is_written() -> None:
@@ -259,3 +332,19 @@ def test_hints_of_functions() -> None:
     given, returned = decoders.hints(function)
     assert given and returned and given({"row": 1, "colour": "red"}) == Seat(1, Colour.RED) and returned("red") is Colour.RED
     assert decoders.hints(plain) == (None, None) == decoders.hints(nowhere)
+
+
+def test_hints_of_what_is_no_plain_function() -> None:
+    """Of a partial function with values before and behind its task, and of an object."""
+
+    def function(row: list[int], task: sagas.Task[Seat], *, size: Size) -> Colour: ...  # type: ignore[empty-body]
+
+    class Charge:
+        def __call__(self, task: sagas.Task[Seat]) -> Colour: ...  # type: ignore[empty-body]
+
+        def method(self, task: sagas.Task[Seat]) -> Colour: ...  # type: ignore[empty-body]
+
+    part = functools.partial(function, [1], size=Size.LARGE)
+    for one in (part, functools.partial(part), Charge(), Charge().method, functools.partial(Charge())):
+        given, returned = decoders.hints(one)
+        assert given and returned and given({"row": 1, "colour": "red"}) == SEAT and returned("red") is Colour.RED

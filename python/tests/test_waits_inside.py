@@ -248,7 +248,12 @@ async def small_async(task: Task) -> Any:
     return small(task)
 
 
-@pytest.mark.parametrize("function", [small, small_async])
+def small_later(task: Task) -> Any:
+    """A plain function whose result is to be awaited: a decorator that is not async, say."""
+    return small_async(task)
+
+
+@pytest.mark.parametrize("function", [small, small_async, small_later])
 def test_an_approval_that_says_so_itself(place: str, function: Callable[[Task], Any]) -> None:
     """It is over at once, done or failed for good; else somebody is asked, as before."""
     saga = asking(function)

@@ -91,6 +91,15 @@ def test_who_is_over_its_steps_limit_keeps_nobody_back() -> None:
     assert store.called == [first, other, third]
 
 
+def test_a_limit_that_nobody_needs_is_not_kept() -> None:
+    """Also if who waited was given up meanwhile: limits of keys come and go."""
+    store = Store(3)
+    first, second = (store.enter("narrow") for _ in range(2))
+    second.forget()
+    store.slots.leave(first)
+    assert not store.slots._limits
+
+
 def test_slots_are_taken_for_many_at_once() -> None:
     store = Store(5)
     assert store.slots.take(3) == 3 and store.slots.take(9) == 2 and store.slots.take() == 0
