@@ -4,7 +4,7 @@
     PYTHONPATH=python/src python3 examples/python/order.py
 
 Two orders are made. The first goes well. Of the second the parcel cannot be sent: the money is given back, and then the stock,
-since the charge needs the reservation. Whatever a service does it does once for a token, so that a step may run again after a kill.
+since the charge needs the reservation. A service does each thing once for an idempotency key, so that a step may run again after a kill.
 """
 
 from __future__ import annotations
@@ -26,15 +26,15 @@ class Order:
 
 
 class Service:
-    """Stands for a service outside: it does each thing once for a token, and says it again when it is asked again."""
+    """A service outside: it does each thing once for an idempotency key, and answers the same when it is asked again."""
 
     def __init__(self) -> None:
         self.done: dict[str, str] = {}
 
-    def do(self, token: str, what: str) -> str:
-        """Does something, unless it was done under this token."""
-        if token not in self.done:
-            self.done[token] = what
+    def do(self, key: str, what: str) -> str:
+        """Does something, unless it was done under this idempotency key."""
+        if key not in self.done:
+            self.done[key] = what
             print(f"  {what}")
         return what
 

@@ -1,5 +1,5 @@
 #!/usr/bin/env python3
-"""A trip with prices: when the hotel is full, what costs least is undone, and no more.
+"""A trip with costs: when the hotel is full, what costs least is undone, and no more.
 
     PYTHONPATH=python/src python3 examples/python/trip.py
 

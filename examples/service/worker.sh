@@ -16,21 +16,22 @@ post() { # PATH BODY: until it is answered, since the service may be about to st
   done
   echo "$answer"
 }
-first() { # the first task's token, lease and input
+first() { # the first task's attempt id, lease, idempotency key and input
   python3 -c '
 import json, sys
-task = (json.load(sys.stdin)["tasks"] or [{"attempt_id": "none", "lease": "none", "input": None}])[0]
-print(task["attempt_id"], task["lease"], json.dumps(task["input"]))'
+none = dict.fromkeys(("attempt_id", "lease", "idempotency_key"), "none") | {"input": None}
+task = (json.load(sys.stdin)["tasks"] or [none])[0]
+print(task["attempt_id"], task["lease"], task["idempotency_key"], json.dumps(task["input"]))'
 }
 
 while true; do
   took=$(post /v1/tasks/claim '{"steps":["trip/tour"],"worker":"shell","wait":20,"lease":30}') || exit 1
-  read -r task lease input < <(first <<<"$took")
-  case $task:$input in # what is done here, with $task as its key
+  read -r task lease key input < <(first <<<"$took")
+  case $task:$input in # what is done here: hand $key to other services
     none:*) continue ;;
     *'"sold-out"'*) word=fail told='"error":"the tour is sold out"' ;;
     *'"hazy"'*) word=unknown told='"error":"the line went dead"' ;;
-    *) word=complete told='"result":"booked"' ;;
+    *) word=complete told="\"result\":\"booked under $key\"" ;;
   esac
   post "/v1/tasks/$task/$word" "{\"lease\":\"$lease\",$told}" >/dev/null
 done

@@ -79,7 +79,7 @@ ask() {
 ready() {
   local number
   for number in $(seq 60); do
-    ! curl -sf -m 2 http://127.0.0.1:8080/ready >/dev/null || return 0
+    ! curl -sf -m 2 http://127.0.0.1:8080/health/ready >/dev/null || return 0
     [ "$number" = 60 ] || sleep 1
   done
   echo "containers: the service is not ready" >&2
@@ -87,13 +87,13 @@ ready() {
 }
 
 ready
-ask -f -d '{"definition":"licence","key":"licence-1","input":{}}' http://127.0.0.1:8080/sagas >/dev/null
+ask -f -d '{"definition":"licence","key":"licence-1","input":{}}' http://127.0.0.1:8080/v1/sagas >/dev/null
 for name in service database; do
   podman kill "sagas-trial_${name}_1" >/dev/null
   compose up -d >"$room/log" 2>&1
   ready
 done
-found=$(ask "http://127.0.0.1:8080/sagas/licence-1/wait?seconds=10" |
+found=$(ask "http://127.0.0.1:8080/v1/sagas/licence-1/wait?seconds=10" |
   python3 -c 'import json, sys; saga = json.load(sys.stdin); print(saga["phase"], *saga["states"].values())')
 echo "the saga behind two kills: $found"
-[ "$found" = "ended committed committed" ]
+[ "$found" = "completed committed committed" ]
