@@ -81,7 +81,7 @@ class Server:
 
     def promote(self) -> None:
         """A standby takes writes from now on."""
-        self.run("pg_ctl", "-D", str(self.folder / "data"), "-w", "-t", "60", "promote")
+        self.run("pg_ctl", "-D", str(self.folder / "data"), "-w", "-t", "180", "promote")
 
     def _as_other(self, name: str, *words: str) -> list[str]:
         first = ["setpriv", f"--reuid={OTHER}", f"--regid={OTHER}", "--clear-groups"] if os.geteuid() == 0 else []
@@ -111,13 +111,13 @@ class Server:
         words = {"listen_addresses": "127.0.0.1", "port": str(self.port), "unix_socket_directories": str(self.folder)} | self._settings
         told = " ".join(f"-c {name}={value}" for name, value in words.items())
         places = ["-D", str(self.folder / "data"), "-l", str(self.folder / "output")]
-        self.run("pg_ctl", *places, "-o", told, "-w", "-t", "60", "start")
+        self.run("pg_ctl", *places, "-o", told, "-w", "-t", "180", "start")
 
     def stop(self, mode: str = "immediate") -> None:
         """Stops it: `fast`, or `immediate` as if its machine had failed."""
         if (self.folder / "data" / "postmaster.pid").exists():
             place = str(self.folder / "data")
-            self.run("pg_ctl", "-D", place, "-m", mode, "-w", "-t", "60", "stop")
+            self.run("pg_ctl", "-D", place, "-m", mode, "-w", "-t", "180", "stop")
 
     def url(self, database: str, user: str = "owner", port: int | None = None) -> str:
         """The address of a database."""
