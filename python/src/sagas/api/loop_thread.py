@@ -48,7 +48,7 @@ class Loop:
         self._thread.start()
 
     def end(self) -> None:
-        """Ends it. Threads that still wait for something hear that it is closed."""
+        """Ends it. Calls of other threads that still wait raise `Closed`."""
         with self._guard:
             loop, self._loop = self._loop, None
         if loop is None:  # another thread has ended it

@@ -97,7 +97,7 @@ class Schedules(Batches):
     async def pause_schedule(self, name: str) -> None:
         """Start no more sagas of a schedule, until it is resumed.
 
-        A start that is on its way as the call is made goes on: one saga at each node, at most.
+        A start that has begun before the call is finished: at most one saga at each node.
 
         Args:
             name: The schedule's name.
