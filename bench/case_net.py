@@ -1,5 +1,5 @@
 #!/usr/bin/env python3
-"""Prints a random case as crates/saga_trials reads it, or with `--net` its network in DIMACS form.
+"""Prints a random case as bench/saga_timing reads it, or with `--net` its network in DIMACS form.
 
 Each step needs some of the steps before it: any of them, or with `near` some of those just before it. The saga ran in
 order until near its end: the first three quarters of the steps are committed, and of the others some failed, and those

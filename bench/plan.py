@@ -3,7 +3,7 @@
 the network, finding the flow, and writing the answer.
 
 Reading is measured as the time of runs that end after it: a case that is no JSON ends after the definition, an answer that is
-no JSON after the case. Planning and its flow are timed by crates/saga_trials on the same case and its network; what planning
+no JSON after the case. Planning and its flow are timed by bench/saga_timing on the same case and its network; what planning
 takes more than the flow is the network and the answer, and the rest is writing. The cases are random, from `case_net.py`.
 Prints one line for each size: the whole time, and each part as a share of it.
 """
@@ -37,7 +37,7 @@ def case(drawn):
 
 
 def least(program, what, file, turns):
-    """What saga_trials prints, and the seconds of its best run."""
+    """What saga_timing prints, and the seconds of its best run."""
     said, found = "", []
     for _ in range(turns):
         done = subprocess.run([*program, what, file], capture_output=True, text=True, check=True)

@@ -1,7 +1,6 @@
 """What the scripts of timing share: the programs that are timed, and how they take turns.
 
-The program is crates/saga_trials, whose word `time` times a thing, and which ./build proves and builds on its first use; the peer is LEMON's preflow (Debian:
-liblemon-dev), built by g++. Each prints one line, and on standard error the seconds of each of 101 runs.
+The program is bench/saga_timing, which ./build proves and builds on its first use; the peer is LEMON's preflow (Debian: liblemon-dev), built by g++. Each prints one line, and on standard error the seconds of each of 101 runs.
 """
 import argparse
 import os
@@ -11,7 +10,7 @@ import subprocess
 import tempfile
 
 HERE = pathlib.Path(__file__).resolve().parent
-CRATE = HERE.parent / "crates" / "saga_trials"
+CRATE = HERE / "saga_timing"
 
 # Tells the allocator of the C library to keep the memory that a run gives back, and not to take it anew, page by page.
 KEPT = {"MALLOC_MMAP_THRESHOLD_": str(2**30), "MALLOC_TRIM_THRESHOLD_": str(2**32)}
@@ -22,15 +21,15 @@ def options(summary):
     parser = argparse.ArgumentParser(description=summary.strip().splitlines()[0])
     parser.add_argument("--seeds", type=int, default=5, help="how many inputs of each kind")
     parser.add_argument("--turns", type=int, default=5, help="how often the programs take turns")
-    parser.add_argument("--program", type=pathlib.Path, help="a built program, in place of crates/saga_trials's")
+    parser.add_argument("--program", type=pathlib.Path, help="a built program, in place of bench/saga_timing's")
     return parser.parse_args()
 
 
 def built(words):
-    """The program and its word `time`, built where its sources changed."""
+    """The program and its name, built where its sources changed."""
     if not words.program:
-        subprocess.run([HERE.parent / "build", "saga_trials"], check=True)
-    return [words.program or CRATE / "out" / "saga_trials", "time"]
+        subprocess.run([HERE.parent / "build", "saga_timing"], check=True)
+    return [words.program or CRATE / "out" / "saga_timing"]
 
 
 def built_peer(folder):

@@ -10,10 +10,7 @@ set -uo pipefail
 cd "$(dirname "$0")/.." || exit 1
 program=crates/saga_tool/out/saga_tool
 command -v rt >/dev/null || exit 77
-for it in gcc,gcc aarch64-linux-gnu-gcc,gcc-aarch64-linux-gnu wasm2c,wabt; do
-  tests/need "${it%,*}" "${it#*,}" || exit 1
-done
-tests/need aarch64-libc libc6-dev-arm64-cross || exit 1
+tests/need --for built || exit 77
 [ -x "$program" ] || { echo "built: no program was built here"; exit 77; }
 [ -z "$(./sources --newer "$program" saga_tool)" ] || { echo "built: the program that was built here is older than its sources"; exit 77; }
 status=0

@@ -2,11 +2,7 @@
 # The clients of clients/: their layout, types, packages and own tests, and the suite that each of them passes at a real service.
 set -uo pipefail
 cd "$(dirname "$0")/.." || exit 1
-for it in node,nodejs npm,npm tsc,node-typescript go,golang-go initdb,postgresql python:pytest,python3-pytest python:xdist,python3-pytest-xdist \
-  python:httpx,python3-httpx python:jsonschema,python3-jsonschema python:psycopg,python3-psycopg python:psycopg_pool,python3-psycopg-pool \
-  python:starlette,python3-starlette python:uvicorn,python3-uvicorn python:jinja2,python3-jinja2 python:prometheus_client,python3-prometheus-client; do
-  tests/need "${it%,*}" "${it#*,}" || exit 77
-done
+tests/need --for clients || exit 77
 export SAGAS_PROGRAM PYTHONDONTWRITEBYTECODE=1
 SAGAS_PROGRAM=${SAGAS:-$(tests/program)} || exit 1
 room=$(mktemp -d)

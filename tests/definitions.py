@@ -113,7 +113,7 @@ def other_examples():
 def main():
     listed = set(entries())
     known = {(crate, word) for crate, _, word in listed}
-    crates = [crate for crate in sorted((ROOT / "crates").iterdir()) if crate.name not in SILENT]
+    crates = [crate for crate in sorted((ROOT / "crates").iterdir()) if crate.is_dir() and crate.name not in SILENT]
     promising = {crate.name for crate in crates} - {"saga_tests"}
     words = {found for crate in crates for found in cited(crate)}
     # What is a type or a constant of the code is read there.

@@ -148,14 +148,14 @@ def wrong_in_code() -> Iterator[str]:
 
 def wrong_in_mutants() -> Iterator[str]:
     """Mutants without an entry in the pages of mutants, and entries without a mutant."""
-    files = [*TOP.glob("crates/*/must-fail/*.edit"), *TOP.glob("python/tests/wrong*/[!_]*.py")]
+    files = [*TOP.glob("crates/*/mutants/*.edit"), *TOP.glob("python/tests/wrong*/[!_]*.py")]
     mutants = {path.relative_to(TOP).with_suffix("").as_posix() for path in files}
     entries = set()
     for page in MUTANTS:
         for section in re.split(r"^##+ ", (TOP / page).read_text(encoding="utf-8"), flags=re.M):
             crate = re.match(r"saga_\w+", section)
             tests = re.search(r"`(python/tests/\w+)`", section)
-            folder = f"crates/{crate[0]}/must-fail" if crate else tests[1] if tests else None
+            folder = f"crates/{crate[0]}/mutants" if crate else tests[1] if tests else None
             names = re.findall(r"^- `(\w+)`:", section, re.M) if folder else []
             entries |= {f"{folder}/{name}" for name in names}
     yield from (f"no page has the mutant {name}" for name in mutants - entries)

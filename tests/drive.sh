@@ -8,7 +8,7 @@ cd "$(dirname "$0")/.."
 work=$(mktemp -d)
 trap 'rm -rf "$work"' EXIT
 
-tests/need gcc gcc || exit 1
+tests/need --for drive || exit 77
 for library in unwritten power refusing; do
   gcc -O2 -shared -fPIC -o "$work/$library.so" tests/$library.c || { echo "the library $library is not built"; exit 1; }
 done

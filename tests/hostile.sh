@@ -2,7 +2,7 @@
 # Hostile texts through the program (tests/hostile.py).
 set -uo pipefail
 tests=$(dirname "$0")
-"$tests/need" gcc gcc || exit 1
+"$tests/need" --for hostile || exit 77
 SAGAS=${SAGAS:-$("$tests/program" --dynamic)} || exit
 export SAGAS
 exec python3 "$tests/hostile.py"

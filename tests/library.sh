@@ -48,9 +48,7 @@ drives() {
   ! "$@" examples/trip.case.json <examples/trip.requests >"$work/driven" 2>&1 || fail "$what, no definition"
 }
 
-for it in cc,gcc c++,g++ pkg-config,pkg-config cargo,cargo node,nodejs xz,xz-utils go,golang-go; do
-  tests/need "${it%,*}" "${it#*,}" || exit 1
-done
+tests/need --for library || exit 77
 c=(-std=c99 -Wall -Wextra -Werror -pedantic -O1 -g -Idist)
 
 runs 'C, the archive' cc "${c[@]}" -o "$work/static" tests/library/calls.c dist/libsagas.a -lpthread

@@ -3,7 +3,7 @@
 # commands, where the trials of the calls cannot be built.
 set -uo pipefail
 tests=$(dirname "$0")
-"$tests/need" gcc gcc || exit 1
+"$tests/need" --for memory || exit 77
 SAGAS=${SAGAS:-$("$tests/program" --dynamic)} || exit
 export SAGAS
 [ "${1:-}" != commands ] || exec python3 "$tests/memory.py" commands

@@ -2,9 +2,7 @@
 # The page of dist/ in real browsers, whose pictures go to out/page, and its module in Node. Takes no kit.
 set -uo pipefail
 cd "$(dirname "$0")/.." || exit 1
-for it in chromium,chromium chromedriver,chromium-driver firefox-esr,firefox-esr WebKitWebDriver,webkit2gtk-driver Xvfb,xvfb node,nodejs python:selenium,python3-selenium python:pytest,python3-pytest; do
-  tests/need "${it%,*}" "${it#*,}" || exit 1
-done
+tests/need --for page || exit 77
 export SAGAS_PROGRAM PYTHONDONTWRITEBYTECODE=1
 SAGAS_PROGRAM=$(tests/program) || exit 1
 timeout --kill-after=10 1800 /usr/bin/python3 -m pytest -q -s -p no:cacheprovider --rootdir=tests/page tests/page

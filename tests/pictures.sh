@@ -3,5 +3,5 @@
 # bench/plots.py makes of the results.
 set -uo pipefail
 cd "$(dirname "$0")/.."
-tests/need dot graphviz || exit 1
+tests/need --for pictures || exit 77
 docs/pictures/make.sh --check && PYTHONDONTWRITEBYTECODE=1 python3 bench/plots.py --check && echo "pictures: $(ls docs/pictures/*.svg | wc -l), none of them another"

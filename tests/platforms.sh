@@ -31,9 +31,7 @@ expect() {
   [ "$2" = "$3" ] || fail "$1: found '$3', wanted '$2'"
 }
 
-for it in gcc,gcc aarch64-linux-gnu-gcc,gcc-aarch64-linux-gnu qemu-aarch64-static,qemu-user-static aarch64-libc,libc6-dev-arm64-cross; do
-  tests/need "${it%,*}" "${it#*,}" || exit 1
-done
+tests/need --for platforms || exit 77
 # Each program as this machine runs it: by itself, or by qemu.
 qemu=$(command -v qemu-aarch64-static)
 declare -A programs=([x86_64]="$top/dist/sagas" [aarch64]="$work/aarch64")

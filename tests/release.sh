@@ -115,7 +115,7 @@ check() {
   (cd "$1" && PATH=$bare ./release --check 2>&1; echo "$?")
 }
 
-tests/need objdump binutils || exit 1
+tests/need --for release || exit 77
 said=$(./release --check 2>&1)
 expect 'the release in dist/' '' "$said"
 [ -x dist/sagas ] || { echo "release: $looked looks, $wrong wrong"; exit 1; }

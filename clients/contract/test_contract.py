@@ -79,7 +79,7 @@ def command() -> Iterator[Made]:
 def service(request: pytest.FixtureRequest, tokens: dict[str, str], tmp_path_factory: pytest.TempPathFactory) -> Iterator[Served]:
     folder = tmp_path_factory.mktemp("service")
     for name, (role, steps) in TOKENS.items():
-        limits = auth.limits_of([role], None, steps, None)
+        limits = auth.limits_of([role], {} if steps is None else {"steps": list(steps)})
         tokens[name] = auth.make(folder / "tokens.toml", name, [role], limits)
     with contextlib.ExitStack() as stack:
         url = None

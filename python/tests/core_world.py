@@ -319,8 +319,6 @@ class World:
                 return
             found = driver.replies(*self.engine.ask(found), self.now)
         driver.writes(found)
-        for saga in found.rare.draining:
-            self._drain(saga)
         self._put(found)
 
     def _put(self, effects: Effects) -> None:
@@ -417,6 +415,8 @@ class World:
     def _done(self, effects: Effects) -> None:
         for attempt in effects.rare.suspended:
             self._do(attempt, self.machine.stored(attempt))
+        for saga in effects.rare.draining:
+            self._drain(saga)
         for abort in effects.rare.aborted:
             if abort.done:
                 self._drain(abort.saga)

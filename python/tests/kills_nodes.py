@@ -11,6 +11,7 @@ Both nodes start the same sagas, and each is started again until it has seen the
 - `relay` delays, cuts, and cuts between a statement, a commit too, and its answer;
 - `sessions` has the server end the nodes' sessions; `lock` locks tables for a while.
 
+Each node has a worker, who gets tasks of the sagas of both; some sagas are aborted as an outcome of theirs is unknown.
 Each node records what it hears and acknowledges; the records are judged with what the database has, and by that alone.
 """
 

@@ -2,7 +2,7 @@
 
     python3 python/tests/package_map.py
 
-It writes the pages docs/dev/architecture/modules.md and modules-above.md; `test_architecture.py`
+It writes the pages docs/dev/architecture/modules*.md; `test_architecture.py`
 compares them with the modules.
 """
 
@@ -15,13 +15,14 @@ import textwrap
 TOP = pathlib.Path(__file__).resolve().parents[2]
 SRC = TOP / "python/src/sagas"
 PAGES = {
-    "modules.md": (
-        "Modules below the runtime",
-        ("base", "definition", "core", "engine", "storage", "inspection"),
+    "modules.md": ("Modules of the core", ("base", "definition", "core", "engine")),
+    "modules-store.md": (
+        "Modules of storage and runtime",
+        ("storage", "inspection", "runtime", "api"),
     ),
     "modules-above.md": (
-        "Modules of the runtime and above",
-        ("runtime", "api", "testing", "cli", "server", "celery", ""),
+        "Modules of commands and services",
+        ("testing", "cli", "server", "celery", ""),
     ),
 }
 HEAD = """# {}

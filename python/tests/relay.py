@@ -22,6 +22,10 @@ class Relay:
         self.still: bytes | None = None
         """Once this is said, in either direction, it stands still: that and all else is held, and connections stay open, until `go_on`."""
         self.stands = threading.Event()
+        self.unanswered: bytes | None = None
+        """The next statement that holds this is done, and what its connection's server says is held until `answer`; then it is None."""
+        self.owes = threading.Event()
+        """Such a statement was passed on."""
         self.cuts: Counter[str] = Counter()
         self._draw = random.Random(seed)
         self._ready = threading.Event()
@@ -30,6 +34,7 @@ class Relay:
         self._links: set[asyncio.StreamWriter] = set()
         self._passes = asyncio.Event()
         self._passes.set()
+        self._answers = asyncio.Event()
 
     def start(self) -> None:
         """Listens."""
@@ -49,6 +54,14 @@ class Relay:
         """Passes what was held."""
         self.still = None
         self._loop.call_soon_threadsafe(self._passes.set)
+
+    def hold(self) -> None:
+        """Holds all, until `go_on`."""
+        self._loop.call_soon_threadsafe(self._passes.clear)
+
+    def answer(self) -> None:
+        """Passes answers that were held."""
+        self._loop.call_soon_threadsafe(self._answers.set)
 
     def _cut_all(self) -> None:
         self.cuts["all"] += 1
@@ -74,8 +87,11 @@ class Relay:
         with contextlib.suppress(OSError):
             back, forth = await asyncio.open_connection(self.host, self.target)
             self._links |= {writer, forth}
-            marked = asyncio.Event()
-            both = [asyncio.create_task(self._pass(reader, forth, "before", marked)), asyncio.create_task(self._pass(back, writer, "after", marked))]
+            marked, owes = asyncio.Event(), asyncio.Event()
+            both = [
+                asyncio.create_task(self._pass(reader, forth, "before", marked, owes)),
+                asyncio.create_task(self._pass(back, writer, "after", marked, owes)),
+            ]
             await asyncio.wait(both, return_when=asyncio.FIRST_COMPLETED)
             if both[0].done() and not self._passes.is_set():  # the client said all that it says, and what is held still comes to it
                 forth.write_eof()
@@ -86,7 +102,7 @@ class Relay:
             writer.close()
             forth.close()
 
-    async def _pass(self, reader: asyncio.StreamReader, writer: asyncio.StreamWriter, way: str, marked: asyncio.Event) -> None:
+    async def _pass(self, reader: asyncio.StreamReader, writer: asyncio.StreamWriter, way: str, marked: asyncio.Event, owes: asyncio.Event) -> None:
         with contextlib.suppress(OSError):
             while data := await reader.read(1 << 16):
                 if way == "before" and self.mark and self.mark in data:
@@ -99,6 +115,12 @@ class Relay:
                     self._passes.clear()
                     self.stands.set()
                 await self._passes.wait()
+                if way == "before" and self.unanswered and self.unanswered in data:
+                    self.unanswered = None
+                    owes.set()
+                    self.owes.set()
+                elif way == "after" and owes.is_set():
+                    await self._answers.wait()
                 if self._draw.random() < self.delay:
                     await asyncio.sleep(self._draw.uniform(0.0, 0.05))
                 if self._draw.random() < getattr(self, way):

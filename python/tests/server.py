@@ -145,6 +145,36 @@ class Server:
             link.execute(f"DROP DATABASE IF EXISTS {name} WITH (FORCE)")
 
 
+    def back_up(self, url: str) -> pathlib.Path:
+        """A backup of a database that may be in use."""
+        backup = self.folder / f"{uuid.uuid4().hex}.backup"
+        self.run("pg_dump", "-Fc", "-f", str(backup), url)
+        return backup
+
+    def snapshot(self, url: str) -> pathlib.Path:
+        """A copy of all its files, as of a machine that is off."""
+        self.stop()
+        snapshot = self.folder / f"{uuid.uuid4().hex}.snapshot"
+        subprocess.run(["cp", "-a", str(self.folder / "data"), str(snapshot)], check=True)
+        self.start()
+        return snapshot
+
+    def go_back(self, url: str, snapshot: pathlib.Path) -> None:
+        """A copy takes the place of its files."""
+        self.stop()
+        shutil.rmtree(self.folder / "data")
+        snapshot.rename(self.folder / "data")
+        self.start()
+
+    def restore(self, url: str, backup: pathlib.Path) -> None:
+        """A backup takes the place of a database, whoever is in it."""
+        name, restored = url.rpartition("/")[2], self.create()
+        self.run("pg_restore", "-d", restored, str(backup))
+        self.drop(url)
+        with psycopg.connect(self.url("postgres"), autocommit=True) as link:
+            link.execute(f"ALTER DATABASE {restored.rpartition('/')[2]} RENAME TO {name}")
+
+
 @contextlib.contextmanager
 def serving(settings: dict[str, str] | None = None, inside: pathlib.Path | None = None) -> Iterator[Server]:
     """A server in a folder of its own, `inside` another where it says so, until the block ends."""

@@ -3,7 +3,7 @@
     python3 tests/service_kills.py [--rounds N] [--store sqlite|postgresql] [--sagas N] [--workers N|mixed] [--callers N] [--strikes N] [--seed S]
 
 A round is one store. Callers start sagas, wait for their ends and approve; workers do the steps. Meanwhile the service is killed with -9 or asked to
-end, workers are killed, or stand still past their leases and go on; reports are sent twice. Over PostgreSQL there are two services, and callers and workers
+end, workers are killed, or stand still past their leases and go on; reports are sent twice. Some sagas are aborted as a step of theirs is unknown. Over PostgreSQL there are two services, and callers and workers
 are half at one and half at the other; one of them may stand still past its lease, too. With `--workers mixed` one third of ten workers is in Python, one in Node,
 one in Go. Every process that is signalled here was started here.
 """
@@ -110,13 +110,22 @@ class Callers:
             self.faults.append(f"{key}: {answer.status_code} {answer.text}")
             return
         note(what="started", key=key, there=self.eye.phase(key)[0])
-        if number % 17 == 0 and self._ask(clients, lambda client: client.post(f"/v1/sagas/{key}/abort", json={"note": "for a try"})).json()["aborted"]:
+        is_late = number % 5 == 3 and self._is_unknown(clients, key)
+        if (number % 17 == 0 or is_late) and self._ask(clients, lambda client: client.post(f"/v1/sagas/{key}/abort", json={"note": "for a try"})).json()["aborted"]:
             note(what="aborted", key=key, there=self.eye.aborts(key))
         end: dict[str, Any] = {"over": False}
         while not end["over"]:
             end = self._ask(clients, lambda client: client.get(f"/v1/sagas/{key}/wait?seconds=5")).json()
         told = {"phase": end["phase"], "states": end["states"], "results": end["results"], "cost": (end["plan"] or {}).get("cost"), "aborted": end["aborted"]}
         note(what="over", key=key, there=self.eye.phase(key)[1], **told)
+
+    def _is_unknown(self, clients: list[httpx.Client], key: str) -> bool:
+        """Waits until an outcome is unknown, and whether one is before the saga's end: a worker may have had its task from the service that does not drive it."""
+        while True:
+            saga = self._ask(clients, lambda client: client.get(f"/v1/sagas/{key}/wait?seconds=0")).json()
+            if saga["over"] or any(wait["why"] == "unknown" for wait in saga["waits"]):
+                return not saga["over"]
+            time.sleep(0.05)
 
     def _approve(self) -> None:
         with self._clients() as clients:

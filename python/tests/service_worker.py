@@ -37,18 +37,18 @@ undo = "never"
 RATES: dict[tuple[str, str, str], tuple[float, float]] = {
     ("chain", "reserve", "run"): (0.05, 0.0),
     ("chain", "reserve", "undo"): (0.3, 0.0),
-    ("chain", "charge", "run"): (0.3, 0.1),
+    ("chain", "charge", "run"): (0.3, 0.3),
     ("chain", "charge", "undo"): (0.05, 0.1),
     ("chain", "ship", "run"): (0.4, 0.0),
     ("trip", "flight", "run"): (0.1, 0.0),
-    ("trip", "hotel", "run"): (0.2, 0.1),
+    ("trip", "hotel", "run"): (0.2, 0.3),
     ("trip", "hotel", "undo"): (0.0, 0.0),
     ("trip", "car", "run"): (0.2, 0.0),
     ("trip", "car", "undo"): (0.1, 0.0),
     ("trip", "tour", "run"): (0.3, 0.0),
     ("must", "machine", "run"): (0.4, 0.0),
     ("must", "licence", "run"): (0.1, 0.0),
-    ("late", "order", "run"): (0.05, 0.1),
+    ("late", "order", "run"): (0.05, 0.3),
     ("late", "order", "undo"): (0.2, 0.0),
     ("late", "go", "run"): (0.3, 0.0),
 }
@@ -89,8 +89,9 @@ def texts() -> dict[str, str]:
     found["late.toml"] = LATE
     for name in ("chain", "trip", "must", "late"):
         steps = [step for saga, step, kind in RATES if saga == name and kind == "run"]
-        manner = 'backoff = { initial = 0.01, maximum = 0.05 }\nundo_on_exhausted = "fail"\n'
-        found[f"{name}.service.toml"] = "".join(f"[step.{step}]\n{manner}" for step in steps)
+        pauses = {step: 0.5 if RATES.get((name, step, "run"), (0, 0))[1] else 0.02 for step in steps}
+        manner = 'backoff = {{ initial = {0}, maximum = {0} }}\nundo_on_exhausted = "fail"\n'
+        found[f"{name}.service.toml"] = "".join(f"[step.{step}]\n{manner.format(pauses[step])}" for step in steps)
     found["late.service.toml"] += '[step.approve]\nkind = "approval"\n'
     return found
 

@@ -2,9 +2,47 @@
 
 from __future__ import annotations
 
+import ast
+import re
+
 import package_map
 
 FOLDER = package_map.TOP / "docs/dev/architecture"
+CHANGES = re.compile(r"\b(INSERT INTO|UPDATE (?!SET\b|OF\b)|DELETE FROM|pg_notify\()")
+"""Part of a statement that changes rows, or says that they changed."""
+
+
+def statements(body: list[ast.stmt], owner: str) -> list[str]:
+    """The names of a module that have such a statement."""
+    found: list[str] = []
+    for node in body:
+        if isinstance(node, ast.ClassDef):
+            found += statements(node.body, f"{owner}.{node.name}")
+            continue
+        if isinstance(node, (ast.FunctionDef, ast.AsyncFunctionDef)):
+            names = [node.name]
+        elif isinstance(node, (ast.Assign, ast.AnnAssign)):
+            targets = node.targets if isinstance(node, ast.Assign) else [node.target]
+            names = [target.id for target in targets if isinstance(target, ast.Name)]
+        else:
+            continue
+        within = [*ast.walk(node)]
+        prose = {id(one.value) for one in within if isinstance(one, ast.Expr)}
+        texts = [one.value for one in within if isinstance(one, ast.Constant) and id(one) not in prose]
+        if any(isinstance(text, str) and CHANGES.search(text) for text in texts):
+            found += [f"{owner}.{name}" for name in names]
+    return found
+
+
+def test_each_statement_that_changes_rows_has_its_fence() -> None:
+    """The page names each statement on PostgreSQL, and none that is gone."""
+    page = (FOLDER / "statements.md").read_text(encoding="utf-8")
+    found: set[str] = set()
+    for path in package_map.SRC.rglob("*.py"):
+        if "sqlite" not in path.parts:
+            found |= {*statements(ast.parse(path.read_text(encoding="utf-8")).body, path.stem)}
+    rows = "\n".join(line for line in page.splitlines() if line.startswith("| `"))
+    assert found == {name for name in re.findall(r"`([\w.]+)`", rows) if "." in name}
 
 
 def test_the_map_is_the_tree() -> None:

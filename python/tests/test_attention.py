@@ -97,7 +97,7 @@ def test_what_needs_a_person(
             try:
                 assert told(looks.ask(lists.attention())) == WANTED
                 assert looks.ask(lists.asked()) == {
-                    "stuck": 1, "undo_failed": 1, "unknown": 1, "exhausted": 0, "cannot_decode": 0,
+                    "stuck": 1, "undo_failed": 1, "unknown": 1, "exhausted": 0, "cannot_decode": 0, "damaged": 0,
                     "approval": 0,
                 }
             finally:

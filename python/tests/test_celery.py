@@ -21,6 +21,7 @@ import sagas.celery
 import sagas.testing
 from sagas.core.outcomes import SUCCEEDED, Outcome, failure, unknown
 from sagas.core.dispatch import Order
+from sagas.core.states import AttemptState
 from sagas.runtime.remote_steps import MOST_CARRIED
 from sagas.storage.worker_session import desk_of
 
@@ -529,3 +530,38 @@ def test_steps_of_items(either: Shop, tmp_path: pathlib.Path) -> None:
     assert [call["index"] for call in either.calls("keyed") if "index" in call] == ["a b"]
     declared = {call["declared"] for call in either.calls("fair") if "declared" in call}
     assert declared == {"stall/ship"} and {call["step"] for call in either.calls("list")} == {"ship-0", "ship-1"}
+
+
+def test_a_database_slower_than_a_back_off(url: str) -> None:
+    """An attempt is unknown, and its back-off is over, while a commit is on its way: what suspends it and what sends it again are two commits, and nothing is refused."""
+    app = celery.Celery("slow", broker="memory://")
+    app.conf.sagas_store = url
+    kind, side, events = sagas.Saga("kind"), sagas.Saga("side"), list[str]()
+    queue = sagas.celery.Queue(app, "nobody", timeout=1.0)
+    kind.step(name="a", queue=queue, undo=sagas.NEVER, backoff=sagas.Backoff(initial=0.05))(lambda task: None)
+    side.step(name="a", undo=sagas.NEVER)(lambda task: None)
+    leases = "SELECT coalesce(max(lease), 0) FROM sagas.external_attempts"
+
+    async def main() -> None:
+        async with sagas.open(url, [kind, side], on_event=lambda event: events.append(event.name), shutdown_timeout=0.1) as store:
+            await store.start(kind, "k")
+            (attempt,) = await until(lambda: [one for saga in store._inside.sagas.by_key.values() for one in saga.busy.values()])
+            async with await psycopg.AsyncConnection.connect(url) as link:
+                ((before,),) = await (await link.execute(leases)).fetchall()
+                await link.execute("SELECT * FROM sagas.shards FOR UPDATE")
+                starting = asyncio.create_task(store.start(side, "side"))  # its commit waits
+                await until(lambda: "step_unknown" in events and attempt.state is AttemptState.RUNNING)
+                await asyncio.sleep(0.1)  # time for what the node does of it
+                await link.rollback()
+                await starting
+                await until(lambda: _greater(link, leases, before))
+            assert "commit_failed" not in events
+            await store.abort("k")
+
+    run(main())
+
+
+async def _greater(link: psycopg.AsyncConnection[Any], leases: str, before: int) -> bool:
+    ((lease,),) = await (await link.execute(leases)).fetchall()
+    await link.rollback()
+    return bool(lease > before)

@@ -20,9 +20,10 @@ import sagas.celery
 import sagas.testing
 from sagas.cli.snapshot import Snapshot
 from sagas.definition.start_options import StartOptions
-from sagas.inspection import families
+from sagas.inspection import families, lists
 from sagas.runtime import retention
 from sagas.server import json_views
+from sagas.storage.filters import Filter, Scope
 
 
 class Trip:
@@ -86,6 +87,9 @@ class Backwards:
         return data[::-1]
 
 
+CODEC, APP = Backwards(), ("--app", "test_children:CODEC")
+
+
 def test_a_child_completes(place: str) -> None:
     """Its results are the step's result."""
     world = Trip()
@@ -94,12 +98,12 @@ def test_a_child_completes(place: str) -> None:
         async with world.open(place) as store:
             end = await (await store.start(world.trip, "t", {"days": 4})).wait(60)
             assert end.ok
-            told = {"key": "t/stay", "phase": "completed", "results": {"room": {"nights": 3}, "breakfast": 3}}
+            told = {"key": "t/:stay", "phase": "completed", "results": {"room": {"nights": 3}, "breakfast": 3}}
             assert end.results == {"flight": 4, "stay": told, "tour": told}
-            assert (await store.wait("t/stay", 60)).ok
+            assert (await store.wait("t/:stay", 60)).ok
 
     run(main())
-    assert world.done == ["room t/stay"]
+    assert world.done == ["room t/:stay"]
 
 
 def test_a_completed_child_is_undone(place: str, capsys: pytest.CaptureFixture[str]) -> None:
@@ -110,19 +114,24 @@ def test_a_completed_child_is_undone(place: str, capsys: pytest.CaptureFixture[s
         async with world.open(place, codec=Backwards()) as store:
             end = await (await store.start(world.trip, "t", {"days": 6})).wait(60)
             assert end.states == {"flight": "undone", "stay": "undone", "tour": "failed"}
-            assert (await store.wait("t/stay:undo", 60)).ok
+            assert (await store.wait("t/:stay:undo", 60)).ok
 
     run(main())
-    assert world.done == ["room t/stay", "fast 5", "cancel t/stay 5", "back"]
-    assert "\nchild    t/stay (completed)\nchild    t/stay:undo (completed)\n" in shell("show", "t")
-    assert "\nparent   t\n" in shell("show", "t/stay:undo") and shell.json("show", "t/stay")["parent"] == "t"
+    assert world.done == ["room t/:stay", "fast 5", "cancel t/:stay 5", "back"]
+    assert "\nchild    t/:stay (completed)\nchild    t/:stay:undo (completed)\n" in shell("show", "t", *APP)
+    assert "\nparent   t\n" in shell("show", "t/:stay:undo", *APP) and shell.json("show", "t/:stay", *APP)["parent"] == "t"
     with Snapshot(place) as store:
-        views = [store.saga(key) for key in ("t", "t/stay")]
+        for keys, count in ({"t"}, 3), ({"t*"}, 3), ({"t/*"}, 0), ({"T*", "s"}, 0), ({"x", "t"}, 3):
+            scope = Scope(keys=frozenset(keys))
+            assert store.ask(lists.count(Filter(scope=scope))) == count
+            held = [key for key in ("t", "t/:stay", "t/:stay:undo") if scope.has_key(key)]
+            assert len(held) == count
+        views = [store.saga(key) for key in ("t", "t/:stay")]
     told = [json_views.saga(view) for view in views]
     assert [(one["step"], one["definition"]) for one in told[0]["children"]] == [("stay", "hotel"), ("stay:undo", "hotel-undo")]
     assert told[0]["parent"] is None and told[1]["parent"]["key"] == "t" and told[1]["children"] == []
     seen = families.seen_by(views[0], lambda name: name == "hotel")
-    assert [one.key for one in seen.children] == ["t/stay"] and families.seen_by(views[1], lambda name: False).parent is None
+    assert [one.key for one in seen.children] == ["t/:stay"] and families.seen_by(views[1], lambda name: False).parent is None
 
 
 def test_a_child_fails(place: str) -> None:
@@ -133,10 +142,10 @@ def test_a_child_fails(place: str) -> None:
         async with world.open(place) as store:
             end = await (await store.start(world.trip, "t", {"days": 10})).wait(60)
             assert end.states == {"flight": "undone", "stay": "failed", "tour": "waiting"}
-            assert "'t/stay' has not completed: recovered" in end.errors["stay"]
+            assert "'t/:stay' has not completed: recovered" in end.errors["stay"]
 
     run(main())
-    assert world.done == ["room t/stay", "cancel t/stay 9", "back"]
+    assert world.done == ["room t/:stay", "cancel t/:stay 9", "back"]
 
 
 class Slow:
@@ -152,7 +161,7 @@ class Slow:
 
         @deep.compensation
         def undeep(task: Task) -> None:
-            assert task.result == [task.key, task.input] == ["t/stay/below", "x"]
+            assert task.result == [task.key, task.input] == ["t/:stay/:below", "x"]
             self.done.append(f"undeep {task.key}")
 
         @self.child.child(self.sub)
@@ -172,7 +181,7 @@ class Slow:
         found = await store.start(self.top, "t", **words)
 
         async def asks() -> bool:
-            return bool([one for one in store.active_attempts("t/stay") if one.waits == "approval"])
+            return bool([one for one in store.active_attempts("t/:stay") if one.waits == "approval"])
 
         await until(asks)
         assert await store.waits_for("t") == ["stay waits for the end of its child saga", "beside waits for an external worker"]
@@ -187,19 +196,19 @@ def test_an_abort_goes_down(place: str, capsys: pytest.CaptureFixture[str]) -> N
         async with sagas.open(place, world.all, concurrency=1) as store:
             top = await world.started(store, labels={"customer": "7"}, deadline=3600)
             waits = {line.split()[0]: line for line in (await asyncio.to_thread(shell, "pending")).splitlines()}
-            assert "the end of its child saga" in waits["t"] and "an approval" in waits["t/stay"]
+            assert "the end of its child saga" in waits["t"] and "an approval" in waits["t/:stay"]
             below = await store.list(labels={"customer": "7"})
-            assert {one.key for one in below} == {"t", "t/stay", "t/stay/below"}
+            assert {one.key for one in below} == {"t", "t/:stay", "t/:stay/:below"}
             assert len({one.deadline for one in below}) == 1
             await store.abort("t")
             await store.fail("t", "beside", "not needed")
             end = await top.wait(60)
             assert end.aborted and end.states == {"stay": "failed", "beside": "failed"}
-            child = await store.wait("t/stay", 60)
+            child = await store.wait("t/:stay", 60)
             assert child.aborted and child.states == {"below": "undone", "sign": "waiting"}
 
     run(main())
-    assert world.done == ["undeep t/stay/below"]
+    assert world.done == ["undeep t/:stay/:below"]
 
 
 @pytest.mark.parametrize("stays", [True, False])
@@ -212,10 +221,10 @@ def test_a_plan_that_drops_the_child(place: str, stays: bool) -> None:
             top = await world.started(store)
             await store.fail("t", "beside", "sold out")
             if stays:
-                await store.complete("t/stay", "sign")
+                await store.complete("t/:stay", "sign")
             end = await top.wait(60)
             assert end.states == {"stay": "committed" if stays else "failed", "beside": "failed"}
-            assert (await store.wait("t/stay", 60)).aborted != stays
+            assert (await store.wait("t/:stay", 60)).aborted != stays
 
     run(main())
     assert len(world.done) != stays
@@ -237,16 +246,16 @@ def test_another_child_behind_one_that_failed(place: str) -> None:
     async def main() -> None:
         async with sagas.open(place, [top, failing]) as store:
             found = await store.start(top, "t")
-            for key in ("t/failing", "t/failing/2"):
+            for key in ("t/:failing", "t/:failing/2"):
                 assert (await until(lambda: store.get(key))) and (await store.wait(key, 60)).phase == "stuck"
                 await store.resolve(key, "seen to", by="ann")
                 await until(lambda: [one for one in store.active_attempts("t") if one.waits == "exhausted"])
                 await store.retry("t", "failing")
             end = await found.wait(60)
-            assert end.ok and end.results["failing"]["key"] == "t/failing/3"
+            assert end.ok and end.results["failing"]["key"] == "t/:failing/3"
 
     run(main())
-    assert calls == ["t/failing", "t/failing/2", "t/failing/3"]
+    assert calls == ["t/:failing", "t/:failing/2", "t/:failing/3"]
 
 
 def test_definitions_that_cannot_be() -> None:
@@ -285,12 +294,17 @@ def test_keys_and_inputs_that_cannot_be(place: str) -> None:
 
     async def main() -> None:
         async with world.open(place) as store:
-            with pytest.raises(sagas.InvalidKey, match="must have at most 502 characters"):
-                await store.start(world.trip, "x" * 503, {"days": 3})
-            other = await store.start(world.hotel, "t/stay", {"nights": 1})
+            with pytest.raises(sagas.InvalidKey, match="must have at most 501 characters"):
+                await store.start(world.trip, "x" * 502, {"days": 3})
+            for taken in ("t/:stay", "/:", "t/:stay:undo", "t/:whatever"):
+                with pytest.raises(sagas.InvalidKey, match="only keys of child sagas have '/:'"):
+                    await store.start(world.hotel, taken, {"nights": 1})
+            await store._starter.start_child(world.hotel, "t/:stay", {"nights": 1}, StartOptions())
+            other = await store.get("t/:stay")
+            assert other
             ends = [await (await store.start(world.trip, key, {"days": days})).wait(60) for key, days in (("t", 3), ("u", 2), ("v", 4))]
             assert (await other.wait(60)).ok
-        assert "key 't/stay' belongs to saga" in ends[0].errors["stay"]
+        assert "key 't/:stay' belongs to saga" in ends[0].errors["stay"]
         assert [end.errors["bad"].partition(":")[0] for end in ends[1:]] == ["NotSerializable", "KeyError"]
 
     run(main())
@@ -300,17 +314,17 @@ def test_in_a_simulation() -> None:
     """Children are run as well; what happens to their steps is said by the path."""
     world = Trip()
     ok = sagas.testing.run(world.trip, {"days": 4})
-    assert ok.ok and ok.results["tour"] == {"key": "test/stay", "phase": "completed", "results": {"room": {"nights": 3}, "breakfast": 3}}
+    assert ok.ok and ok.results["tour"] == {"key": "test/:stay", "phase": "completed", "results": {"room": {"nights": 3}, "breakfast": 3}}
     undone = sagas.testing.run(world.trip, {"days": 6})
     assert undone.states == {"flight": "undone", "stay": "undone", "tour": "failed"}
-    assert [(key, end.phase) for key, end in undone.children.items()] == [("test/stay", "completed"), ("test/stay:undo", "completed")]
-    room = undone.children["test/stay"].calls[0].attempt_id
-    assert undone.children["test/stay:undo"].calls[-1].attempt_id != room.replace("run", "undo")
+    assert [(key, end.phase) for key, end in undone.children.items()] == [("test/:stay", "completed"), ("test/:stay:undo", "completed")]
+    room = undone.children["test/:stay"].calls[0].attempt_id
+    assert undone.children["test/:stay:undo"].calls[-1].attempt_id != room.replace("run", "undo")
     failed = sagas.testing.run(world.trip, {"days": 4}, fail={"stay/breakfast": 1})
     assert failed.states["stay"] == "failed" and "the test says so" in failed.errors["stay"]
     (room_step, breakfast) = world.hotel.steps
     left = sagas.testing.run(world.trip, {"days": 6}, fail_undo={breakfast: sagas.Fail("no")}, answers={breakfast: RuntimeError("left")})
-    assert left.states["stay"] == "undo_failed" and left.children["test/stay:undo"].states == {"breakfast": "failed", "room": "waiting"}
+    assert left.states["stay"] == "undo_failed" and left.children["test/:stay:undo"].states == {"breakfast": "failed", "room": "waiting"}
     with pytest.raises(KeyError, match="no child step 'stya'; did you mean 'stay'"):
         sagas.testing.run(world.trip, {"days": 4}, fail={"stya/room": 1})
     with pytest.raises(KeyError, match="saga 'hotel' has no step 'rom'"):
@@ -319,7 +333,7 @@ def test_in_a_simulation() -> None:
     trial = sagas.testing.run(slow.top, key="t", answers={"stay/sign": "by Ann", "beside": None})
     assert trial.ok and trial.results["stay"]["results"]["sign"] == "by Ann"
     trial = sagas.testing.run(slow.top, key="t", answers={"stay/sign": "by Ann"}, fail={"beside": sagas.Fail("no")})
-    assert trial.states == {"stay": "undone", "beside": "failed"} and slow.done == ["undeep t/stay/below"]
+    assert trial.states == {"stay": "undone", "beside": "failed"} and slow.done == ["undeep t/:stay/:below"]
 
 
 def until_survived(open_store: Callable[[Callable[[sagas.Event], None]], sagas.Store], work: Callable[[sagas.Store], Coroutine[Any, Any, None]]) -> int:
@@ -374,7 +388,7 @@ def test_kills_at_any_event(place: str, tmp_path: pathlib.Path, way: str) -> Non
 
     async def aborted(store: sagas.Store) -> None:
         found = await store.start(slow.top, "t")
-        asks = asyncio.ensure_future(until(lambda: [one for one in store.active_attempts("t/stay") if one.waits == "approval"]))
+        asks = asyncio.ensure_future(until(lambda: [one for one in store.active_attempts("t/:stay") if one.waits == "approval"]))
         await asyncio.wait([asks, ending := asyncio.ensure_future(found.wait(60))], return_when=asyncio.FIRST_COMPLETED)
         asks.cancel()
         if not ending.done():
@@ -391,7 +405,7 @@ def test_kills_at_any_event(place: str, tmp_path: pathlib.Path, way: str) -> Non
         async with open_store(lambda event: None) as store:
             assert await store.count(phase="open") == 0
             keys = [one.key for one in await store.list()]
-            below = ["t/stay", "t/stay:undo"] if way == "undone" else ["t/stay", "t/stay/below", "t/stay/below:undo"]
+            below = ["t/:stay", "t/:stay:undo"] if way == "undone" else ["t/:stay", "t/:stay/:below", "t/:stay/:below:undo"]
             assert sorted(keys) == ["t", *below]
 
     run(look())
@@ -413,14 +427,14 @@ def test_a_child_of_another_node(url: str) -> None:
         async with sagas.open(url, [top, child], node="one") as one, sagas.open(url, [top, child], node="two") as two:
             started = await one.start(top, "t")
             (listed,) = await one.list()
-            assert await two._starter.start_child(child, "t/child", "x", StartOptions(parent=listed.id))
+            assert await two._starter.start_child(child, "t/:child", "x", StartOptions(parent=listed.id))
             gate.set()
             await until(lambda: [a for a in one.active_attempts("t") if a.waits == "child"])
-            await until(lambda: [a for a in two.active_attempts("t/child") if a.waits == "approval"])
+            await until(lambda: [a for a in two.active_attempts("t/:child") if a.waits == "approval"])
             await one.abort("t")
             end = await started.wait(60)
             assert end.aborted and end.states["child"] == "failed"
-            assert (await one.wait("t/child", 60)).aborted and await one.count() == 2
+            assert (await one.wait("t/:child", 60)).aborted and await one.count() == 2
 
     run(main())
 
@@ -441,8 +455,8 @@ def test_children_stay_with_their_parents(place: str, monkeypatch: pytest.Monkey
     async def main() -> None:
         async with sagas.open(place, world.all) as store:
             await world.started(store)
-            await store.complete("t/stay", "sign")
-            await store.wait("t/stay", 60)
+            await store.complete("t/:stay", "sign")
+            await store.wait("t/:stay", 60)
             await closed(store, 2)
         assert retention.prune(place, -3600.0).sagas == 0
         async with sagas.open(place, world.all) as store:

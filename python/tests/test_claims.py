@@ -17,9 +17,11 @@ from serving import served, start, take
 
 import sagas
 from sagas.base.errors import Closed, StoreUnavailable
-from sagas.server.middleware import GONE, SERVICE
+from sagas.server.middleware import FOLLOWED, GONE, SERVICE
+from sagas.server.places import Places
 from sagas.server.problems import Problem
 from sagas.server.routes import task_claims
+from sagas.server.settings import PlaceSettings
 from sagas.server.waiting_claims import WaitingClaims
 from sagas.storage.lots import Lots
 
@@ -316,6 +318,7 @@ class Claims:
         self.store = types.SimpleNamespace(workers=self, now=lambda: 0.0)
         self.claims = WaitingClaims()
         self.tokens, self.stopping = None, asyncio.get_running_loop().create_future()
+        self.places = Places(PlaceSettings())
         self.gone: asyncio.Future[None] = asyncio.get_running_loop().create_future()
 
     def saw(self, *_: object) -> None:
@@ -353,8 +356,10 @@ def test_what_was_claimed_and_is_not_answered(
 
     async def main() -> None:
         service = Claims(["t1"], second)
-        request: Any = types.SimpleNamespace(scope={GONE: service.gone, SERVICE: service})
-        who: Any = types.SimpleNamespace(name="w")
+        followed = asyncio.get_running_loop().create_future()
+        scope = {GONE: service.gone, FOLLOWED: followed, SERVICE: service}
+        request: Any = types.SimpleNamespace(scope=scope)
+        who: Any = types.SimpleNamespace(name="w", digest="w")
         call: Any = types.SimpleNamespace(service=service, who=who, request=request)
         body = {"steps": ["far/a"], "limit": 3, "wait": 0.0, "lease": 9.0, "worker": ""}
         told: Any = None

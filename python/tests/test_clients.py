@@ -512,6 +512,46 @@ def test_a_start_in_the_callers_transaction(url: str, commits: bool) -> None:
     run(main())
 
 
+@pytest.mark.parametrize("plain", [False, True], ids=["async", "plain"])
+@pytest.mark.parametrize("how", ["begun", "idle", "autocommit"])
+def test_a_start_that_fails_in_the_callers_transaction(url: str, how: str, plain: bool) -> None:
+    """Its row is written, and the look for the key fails: nothing of it is left, and what the
+    caller wrote in the transaction stays, before the start and after it."""
+    kind = shop()
+    made(url, kind)
+    late = {"options": "-c lock_timeout=500ms", "autocommit": how == "autocommit"}
+    with psycopg.connect(url, autocommit=True) as link:
+        link.execute("CREATE TABLE orders(number integer)")
+
+    async def main(stranger: psycopg.Connection[Any]) -> None:
+        async with await psycopg.AsyncConnection.connect(url, **late) as link, sagas.Client(url) as client:
+            for number in range(2) if how == "begun" else ():
+                await link.execute("INSERT INTO orders VALUES(%s)", (number,))
+            with pytest.raises(sagas.StoreUnavailable, match="lock timeout"):
+                await client.start(kind, "k", connection=link)
+            await link.execute("INSERT INTO orders VALUES(2)")
+            await asyncio.to_thread(stranger.rollback)
+            assert (await client.start(kind, "later", connection=link)).new
+
+    with psycopg.connect(url) as stranger:
+        stranger.execute("LOCK TABLE sagas.sagas")
+        if plain:
+            with psycopg.connect(url, **late) as link, sagas.SyncClient(url) as client:
+                for number in range(2) if how == "begun" else ():
+                    link.execute("INSERT INTO orders VALUES(%s)", (number,))
+                with pytest.raises(sagas.StoreUnavailable, match="lock timeout"):
+                    client.start(kind, "k", connection=link)
+                link.execute("INSERT INTO orders VALUES(2)")
+                stranger.rollback()
+                assert client.start(kind, "later", connection=link).new
+        else:
+            run(main(stranger))
+    with psycopg.connect(url) as link:
+        assert link.execute("SELECT key FROM sagas.pending_starts").fetchall() == [("later",)]
+        (count,) = link.execute("SELECT count(*) FROM orders").fetchone() or (0,)
+        assert count == (3 if how == "begun" else 1)
+
+
 def test_a_client_without_async(url: str) -> None:
     """`SyncClient`, and a start in the transaction of a plain connection."""
     kind = shop()

@@ -23,7 +23,7 @@ from test_transactions import KILLED, prepare
 import sagas
 from sagas.cli import store_command
 from sagas.runtime import client_starts
-from sagas.storage import admin
+from sagas.storage import admin, codec_note
 
 HERE = pathlib.Path(__file__).resolve().parent
 SECRET = "4111-1111"
@@ -44,6 +44,15 @@ class Encryption:
         return Fernet(self.keys[key.decode()]).decrypt(token)
 
 
+class Identity:
+    """Reads whatever it is given."""
+
+    def encode(self, data: bytes) -> bytes:
+        return data
+
+    decode = encode
+
+
 class Wrong:
     """Fails, with the value in its text."""
 
@@ -57,6 +66,10 @@ class Wrong:
 
     def decode(self, data: bytes) -> bytes:
         raise ValueError(data.decode())
+
+
+KNOWN = Encryption(a=OLD, b=NEW)
+"""What `--app test_codec:KNOWN` is."""
 
 
 @dataclasses.dataclass
@@ -98,7 +111,9 @@ def holds_secret(place: str) -> list[str]:
         return [name for name in found if SECRET in repr(link.ask(f"SELECT * FROM {name}"))]
 
 
-def test_nothing_of_a_value_is_stored(place: str) -> None:
+def test_nothing_of_a_value_is_stored(
+    place: str, capsys: pytest.CaptureFixture[str]
+) -> None:
     """Across restarts; a newer key reads what an older one wrote; callers and steps see values."""
 
     async def main() -> None:
@@ -131,46 +146,65 @@ def test_nothing_of_a_value_is_stored(place: str) -> None:
 
     run(main())
     assert holds_secret(place) == []
-    assert store_command.main([place, "show", "well"]) == 0  # who has no key sees that there is one
+    for word in ("show", "log", "export"):
+        assert store_command.main([place, word, "well"]) == 4
+        assert store_command.main([place, word, "well", "--app", "test_codec:KNOWN"]) == 0
+        assert SECRET in capsys.readouterr().out
+    for words in (["list"], ["plan", "fails"], ["draw", "well"], ["stats"], ["schedules"]):
+        assert store_command.main([place, *words]) == 0  # they show no value
+    assert SECRET not in capsys.readouterr().out
 
 
-def test_a_value_that_looks_encoded_is_refused(place: str) -> None:
-    """Else who may see what is stored could have it decoded. A result is then one that is no JSON,
-    also where a worker's function returned it.
-    """
-    outside = sagas.Saga("outside")
-    outside.step(external=True, name="a")
-    given: list[Any] = [None]
-    kind = simple(lambda task: given[0])
+LOOKALIKES: list[Any] = [
+    {"$codec": "AAAA"},
+    {"$codec": "eyJhIjoxfQ=="},
+    {"$plain": {"$codec": "AAAA"}},
+    {"$blob": "00/1/ab", "bytes": 3, "digest": "0" * 64},
+]
+"""Values from outside that look as what is stored in place of one."""
+
+
+@pytest.mark.parametrize("codec", [None, Encryption(a=OLD)], ids=["plain", "codec"])
+def test_a_value_that_looks_encoded_is_data(
+    place: str, codec: Encryption | None, capsys: pytest.CaptureFixture[str]
+) -> None:
+    """Wherever it comes in; also once the store has another codec, which could read it."""
+    made = sagas.Saga("made")
+    a = made.step(lambda task: task.input, name="a", undo=0)
+    made.step(external=True, name="b", needs=[a], undo=0)
+    early = made.approval(lambda task: None, name="early", needs=["b"])
+    late = made.approval(lambda task: None, name="late", needs=[early])
+    made.step(lambda task: [task.result_of(one) for one in "a b early late".split()], needs=[late],
+              name="all")  # fmt: skip
 
     async def main() -> None:
-        store = sagas.open(place, [kind, outside], codec=Encryption(a=OLD))
+        store = sagas.open(place, [made], codec=codec)
         store.leased = True
+        hour = datetime.timedelta(hours=1)
         async with store:
-            await (await store.start(kind, "k", SECRET)).wait()
-            with contextlib.closing(admin.connect(place)) as link:
-                ((text,),) = link.ask("SELECT input FROM sagas WHERE key = 'k'")
-            for value in (json.loads(text), {"$codec": "AAAA"}):
-                given[0] = value
-                with pytest.raises(sagas.NotSerializable, match="looks as an encoded value"):
-                    await store.start(outside, "s", value)
-                with pytest.raises(sagas.NotSerializable, match="looks as an encoded value"):
-                    hour = datetime.timedelta(hours=1)
-                    await store.schedule("n", outside, value, every=hour)
-                begun = await store.start(kind, key := f"k{len(str(value))}")
-                assert "encoded value" in (await begun.wait()).results["a"]["unstorable"]
-                await store.start(outside, f"o{key}")
-                (task,) = await until(
-                    lambda: store.workers.claim([("outside", "a", "run")], holder="w")
-                )
-                with pytest.raises(sagas.NotSerializable, match="looks as an encoded value"):
-                    await store.workers.report(task.attempt_id, task.lease, value, holder="w")
-                with pytest.raises(sagas.NotSerializable, match="looks as an encoded value"):
-                    await store.complete(f"o{key}", "a", value)
-                await store.workers.report(task.attempt_id, task.lease, {"a": value}, holder="w")
-                assert (await store.wait(f"o{key}")).results == {"a": {"a": value}}
+            for number, value in enumerate(LOOKALIKES):
+                assert (await store.start(made, key := f"k{number}", value)).new
+                assert not (await store.start(made, key, value)).new
+                await store.schedule("n", made, value, every=hour)
+                assert [one.input for one in await store.schedules()] == [value]
+                await store.complete(key, "early", value)
+                (task,) = await until(lambda: store.workers.claim([("made", "b", "run")], holder="w"))
+                assert task.task.input == value and task.task.result_of("a") == value
+                await store.workers.report(task.attempt_id, task.lease, value, holder="w")
+                await until(lambda: asked(place) == number + 1)
+        for value, key in zip(LOOKALIKES, ("k0", "k1")):
+            words = ["--result", json.dumps(value), *(["--app", "test_codec:KNOWN"] if codec else [])]
+            assert store_command.main([place, "complete", key, "late", *words]) == 0
+        async with sagas.open(place, [made], codec=codec or Identity()) as store:
+            for number, value in enumerate(LOOKALIKES):
+                await store.complete(f"k{number}", "late", value)
+                end = await store.wait(f"k{number}")
+                assert end.results["all"] == [value] * 4 and not await store.attention()
+                values = [one.value for one in await store.log(end.key) if one.event == "commit"]
+                assert values[:4] == [value] * 4
 
     run(main())
+    capsys.readouterr()
 
 
 def asked(place: str) -> int:
@@ -192,6 +226,89 @@ def test_a_store_of_before(place: str) -> None:
             assert (await store.wait("k")).results["send"] == [SECRET]
 
     run(main())
+
+
+def forget(place: str) -> None:
+    """Take the note out of a store that its values are encoded."""
+    with contextlib.closing(admin.connect(place, "rw")) as link:
+        assert link.changed("DELETE FROM secrets WHERE name = 'codec'") == 1
+
+
+def test_a_forgotten_codec(place: str, capsys: pytest.CaptureFixture[str]) -> None:
+    """The store is neither opened nor written; of one without the note, an attempt waits."""
+    made = sagas.Saga("made")
+    ok = made.approval(lambda task: None, name="ok")
+    calls = []
+
+    @made.step(needs=[ok], undo=0)
+    def mail(task: Task) -> None:
+        calls.append(task.input)
+
+    async def main() -> None:
+        async with sagas.open(place, [made], codec=KNOWN) as store:
+            for key in ("k", "gone"):
+                await store.start(made, key, SECRET)
+            await until(lambda: asked(place) == 2)
+        with pytest.raises(sagas.MissingCodec, match="are encoded, and this program has no codec"):
+            async with sagas.open(place, [made]):
+                pass
+        assert store_command.main([place, "complete", "k", "ok"]) == 4
+        assert "encoded" in capsys.readouterr().err
+        assert store_command.main([place, "abort", "gone"]) == 0  # it writes no value
+        if place.startswith("postgresql:"):
+            with pytest.raises(sagas.MissingCodec):
+                async with sagas.Client(place):
+                    pass
+        forget(place)
+        async with sagas.open(place, [made]) as store:
+            assert (await store.wait("gone")).phase == "recovered"
+            await store.complete("k", "ok")
+            (one,) = await until(store.attention)
+            assert one.why is sagas.AttentionReason.CANNOT_DECODE and one.step == "mail"
+            with pytest.raises(sagas.CannotDecode, match="no codec"):
+                await store.start(made, "k", SECRET)
+        assert calls == []
+        async with sagas.open(place, [made], codec=KNOWN) as store:
+            assert (await store.wait("k", 60)).ok and calls == [SECRET]
+
+    run(main())
+
+
+def test_nodes_and_clients_agree(url: str, caplog: pytest.LogCaptureFixture) -> None:
+    """No program with a codec comes to nodes without one, and none without one stays."""
+    kind = simple(lambda task: task.input)
+    outside = sagas.Saga("outside")
+    outside.approval(lambda task: None, name="ok")
+    kinds = [kind, outside]
+
+    async def main() -> None:
+        async with sagas.open(url, kinds, node="plain", lease=2.0) as store:
+            for opened in (sagas.open(url, kinds, codec=KNOWN), sagas.Client(url, codec=KNOWN)):
+                with pytest.raises(sagas.StoreLocked, match="node plain .* without a codec"):
+                    async with opened:
+                        pass
+            await store.start(outside, "o")
+        async with sagas.Client(url) as plain:
+            async with sagas.open(url, kinds, codec=KNOWN), sagas.Client(url, codec=KNOWN) as client:
+                for write in (
+                    plain.start(kind, "k", SECRET),
+                    plain.complete("o", "ok", SECRET),
+                    plain.schedule("n", kind, SECRET, every=datetime.timedelta(hours=1)),
+                ):
+                    with pytest.raises(sagas.MissingCodec):
+                        await write
+                assert left(url) == [] and await plain.schedules() == []
+                assert (await (await client.start(kind, "k", SECRET)).wait(60)).ok
+                await client.complete("o", "ok", SECRET)
+        forget(url)
+        async with sagas.open(url, kinds, node="paused", lease=2.0) as store:
+            with contextlib.closing(admin.connect(url, "rw")) as link:  # while it slept, say
+                link.changed(codec_note.NOTE)
+            await until(lambda: "This node does nothing more" in caplog.text)
+            await until(lambda: not store.holds())
+
+    run(main())
+    assert holds_secret(url) == []
 
 
 def test_a_key_that_is_not_there(place: str, caplog: pytest.LogCaptureFixture) -> None:

@@ -97,9 +97,8 @@ def test_it_is_stored_and_used(place: str, capsys: pytest.CaptureFixture[str]) -
     run(main())
 
 
-def test_a_failure_ends_it_and_an_abort_forgets_it(place: str) -> None:
-    """A failure is permanent: no attempt is made again. A saga that is undone takes no report, and
-    what was stored goes with it."""
+def test_a_failure_ends_it(place: str) -> None:
+    """A failure is permanent: no attempt is made again."""
     saga = visit()
 
     async def main() -> None:
@@ -111,15 +110,57 @@ def test_a_failure_ends_it_and_an_abort_forgets_it(place: str) -> None:
             end = await run.wait(60)
             assert end.states["flight"] == "failed" and end.errors["flight"] == "no seat"
             assert end.states["open"] == "undone"
-            gone = await store.start(saga, "gone")
-            await store.complete("gone", "visa")
-            assert await store.abort("gone") and (await gone.wait(60)).aborted
             read = store._access.inside.store.read
             assert await read("SELECT 1 FROM suspensions") == []
-            with pytest.raises(sagas.StepNotWaiting, match="has ended"):
-                await store.complete("gone", "visa")
 
     run(main())
+
+
+def test_one_that_is_not_used_is_known_still(
+    place: str, capsys: pytest.CaptureFixture[str]
+) -> None:
+    """A saga that is undone takes no report of another step. The same one again is no error, and
+    another one conflicts: while it is undone, and once it is over, by Python and by the command."""
+    shell, gate, saga = Shell(place, capsys), asyncio.Event(), sagas.Saga("held")
+
+    @saga.step
+    async def hold(task: Task) -> None:
+        await gate.wait()
+
+    saga.approval(name="visa", needs=[hold])(lambda task: None)
+    saga.approval(name="other", needs=[hold])(lambda task: None)
+
+    async def again(store: sagas.Store) -> None:
+        await store.complete("k", "visa", "same")
+        with pytest.raises(sagas.ConflictingReport, match="a report of it"):
+            await store.complete("k", "visa", "another")
+        with pytest.raises(sagas.ConflictingReport):
+            await store.fail("k", "visa", "same")
+        with pytest.raises(sagas.StepNotWaiting):
+            await store.complete("k", "other", "same")
+
+    async def main() -> None:
+        async with sagas.open(place, [saga]) as store:
+            run = await store.start(saga, "k")
+            await store.complete("k", "visa", "same")
+            assert await store.abort("k")
+            await again(store)
+            gate.set()
+            assert (await run.wait(60)).aborted
+            await again(store)
+            steps = (await asyncio.to_thread(shell.json, "show", "k"))["steps"]
+            assert [step["early"] for step in steps] == [None] * 3
+            if "://" in place:
+                async with sagas.Client(place) as client:
+                    await client.complete("k", "visa", "same")
+                    with pytest.raises(sagas.ConflictingReport):
+                        await client.complete("k", "visa", "another")
+
+    run(main())
+    shell("complete", "k", "visa", "--result", '"same"')
+    shell("complete", "k", "visa", "--result", '"another"', status=1)
+    shell("complete", "k", "other", status=1)
+    shell("complete", "k", "hold")
 
 
 def test_it_outlives_a_kill(place: str, capsys: pytest.CaptureFixture[str]) -> None:

@@ -106,8 +106,8 @@ async def asked(store: sagas.Store) -> list[sagas.Attention]:
 def opened(
     place: str, kind: sagas.Saga, hook: Callable[[sagas.Event], object] | None = None
 ) -> Any:
-    """The next program."""
-    return sagas.open(place, [kind], node="one", lease=2, on_event=hook)
+    """The next program: by its name it has its shards at once, and a case may block its loop."""
+    return sagas.open(place, [kind], node="one", lease=60, on_event=hook)
 
 
 @pytest.mark.parametrize(
@@ -189,6 +189,32 @@ def test_a_step_asks_where_it_says_so(place: str, tmp_path: pathlib.Path) -> Non
             await until(lambda: counted(2))
             assert await store.fail_all("no", saga="alone", step="a") == 2
             assert [(await runs[n].wait()).states["a"] for n in (0, 1)] == ["failed"] * 2
+
+    run(main())
+
+
+def test_a_step_that_asks_is_not_failed_by_another(place: str, tmp_path: pathlib.Path) -> None:
+    """A person was asked, and may do it by hand: what was done is undone. A step that is attempted
+    again by itself has failed."""
+    notes, undone, kind = Notes(tmp_path), list[str](), sagas.Saga("three")
+    asks = kind.step(notes.called, name="asks", tries=2, keep=9, on_exhausted="ask", backoff=QUICK)
+    asks.compensation(lambda task: undone.append(task.result))
+    repeats = {"on_exhausted": "retry", "backoff": HOUR, "undo": sagas.NEVER}
+    kind.step(notes.called, name="repeats", **repeats)  # type: ignore[call-overload]
+    kind.step(name="other", external=True, undo=sagas.NEVER)
+
+    async def main() -> None:
+        async with opened(place, kind) as store:
+            await store.start(kind, "k")
+            await until(lambda: asked(store))
+            await until(lambda: len(notes.lines) == 3)
+            await store.fail("k", "other", "full")
+        async with opened(place, kind) as store:
+            assert [entry.step for entry in await until(lambda: asked(store))] == ["asks"]
+            await store.complete("k", "asks", "by hand")
+            end = await store.wait("k", 60)
+            assert end.states == {"asks": "undone", "repeats": "failed", "other": "failed"}
+            assert undone == ["by hand"]
 
     run(main())
 

@@ -295,6 +295,29 @@ def test_a_file_that_is_deleted_under_the_program(tmp_path: pathlib.Path, name: 
     assert [record.levelname for record in caplog.records].count("CRITICAL") == 1
 
 
+@pytest.mark.parametrize("large", [False, True])
+def test_a_file_that_is_replaced_under_the_program(tmp_path: pathlib.Path, monkeypatch: pytest.MonkeyPatch, large: bool) -> None:
+    """The next commit is refused, in the loop and in the writer's thread: nobody had the time to look for the file."""
+    monkeypatch.setattr("sagas.storage.sqlite.storage.LOOK", 3600)
+    if large:
+        monkeypatch.setattr("sagas.storage.sqlite.writer.AT_ONCE", 0.0)
+    saga, path = simple(lambda task: 1), tmp_path / "store.db"
+
+    async def main() -> None:
+        async with sagas.open(path, [saga]) as store:
+            assert (await ended(store, saga, "before")).ok
+            with contextlib.closing(sqlite3.connect(path)) as link, contextlib.closing(sqlite3.connect(tmp_path / "copy.db")) as copy:
+                link.backup(copy)
+            (tmp_path / "copy.db").replace(path)
+            for _ in range(2):
+                with pytest.raises(sagas.StoreUnavailable, match="store.db was deleted or replaced"):
+                    await ended(store, saga, "behind")
+
+    run(main())
+    (tmp_path / "store.db-wal").unlink(missing_ok=True)
+    assert {*records.read(path).sagas} == {"before"}
+
+
 def test_the_lock_is_deleted(tmp_path: pathlib.Path, caplog: pytest.LogCaptureFixture) -> None:
     """It is made again, and the store goes on; where another program was faster, nothing is written any more."""
     saga, lock = simple(lambda task: 1), tmp_path / "store.db.lock"
@@ -1054,6 +1077,21 @@ def test_the_disk_is_full(tmp_path: pathlib.Path) -> None:
     run(main())
 
 
+@pytest.mark.parametrize("words", [("list",), ("abort", "k")])
+def test_the_command_on_a_full_disk(tmp_path: pathlib.Path, capsys: pytest.CaptureFixture[str], words: tuple[str, ...]) -> None:
+    """It says what the disk says, and not that the file is no store."""
+    saga, place = simple(lambda task: 1), tmp_path / "store.db"
+
+    async def main() -> None:
+        async with sagas.open(place, [saga]) as store:
+            assert (await ended(store, saga, "k")).ok
+
+    run(main())
+    with full(0):
+        assert store_command.main([str(place), *words]) == 4
+    assert capsys.readouterr().err == f"sagas store: {place}: disk I/O error. Make room if the disk is full, and check it otherwise\n"
+
+
 @pytest.mark.parametrize("size", [None, 1 << 20])
 def test_the_wal_is_as_long_as_it_becomes(tmp_path: pathlib.Path, size: int | None) -> None:
     """From the opening on, so that no commit has to lengthen it; where there is no room for that, it grows with what is written. A store that is opened
@@ -1360,29 +1398,6 @@ def test_a_compensation_fails_for_good(place: str, must: bool) -> None:
                 assert (await store.wait("k")).note == "undone by hand"
             else:
                 assert end.phase == "recovered" and end.cost == 5 and await store.stuck() == []
-
-    run(main())
-
-
-def test_a_store_that_contradicts_itself_is_told_of(tmp_path: pathlib.Path) -> None:
-    """A saga whose row says that it is over, while its log says that it goes on: the opening says so, and does not wait for ever."""
-    gate = asyncio.Event()
-
-    async def main() -> None:
-        waits = sagas.Saga("waits")
-
-        @waits.step
-        async def one(task: Task) -> None:
-            await gate.wait()
-
-        async with sagas.open(tmp_path / "s.db", [waits], shutdown_timeout=0.0) as store:
-            await store.start(waits, "k")
-            await store.start(waits, "other")
-        with contextlib.closing(sqlite3.connect(tmp_path / "s.db")) as db, db:
-            db.execute("UPDATE sagas SET phase = 'ended', outcome = '{}' WHERE key = 'k'")
-        with pytest.raises(sagas.EngineError, match="not understood"):
-            async with asyncio.timeout(20), sagas.open(tmp_path / "s.db", [waits], shutdown_timeout=0.0):
-                pass
 
     run(main())
 

@@ -284,6 +284,8 @@ def test_a_retry_is_said_again_of_where_the_shard_is(url: str) -> None:
         async with sagas.open(url, [saga], lease=2) as store:
             await store.start(saga, "k")
             await until(lambda: has_waited(store))
+            while not await store.attention():  # so that only the retry is on its way then
+                await asyncio.sleep(0.01)
             with held(url, lost=True) as reached:
                 says = asyncio.create_task(store.retry("k", "call"))
                 await reached()

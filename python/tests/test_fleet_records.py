@@ -6,6 +6,7 @@ import asyncio
 import datetime
 import json
 import pathlib
+import re
 from collections.abc import Callable
 from typing import Any
 
@@ -119,6 +120,27 @@ def test_a_database_that_differs(
     assert not one["good"] and one["answer"].startswith("no line ")
 
 
+@pytest.mark.parametrize(
+    ("text", "gap"),
+    [
+        ("DELETE FROM event_log WHERE first_seq = 0", "a commit follows event .*, and the one before ends at 0"),
+        ("DELETE FROM event_log WHERE first_seq = (SELECT min(first_seq) FROM event_log WHERE first_seq > 0)", "a commit follows event .*"),
+        ("UPDATE event_log SET first_seq = first_seq - 1 WHERE first_seq > 0", "a commit follows event .*"),
+    ],
+)
+def test_a_log_with_a_gap(
+    store: str, judge: Callable[..., list[Json]], capsys: pytest.CaptureFixture[str], text: str, gap: str
+) -> None:
+    """Without files, too: each commit says how many events are before it."""
+    assert judge()[0]["gaps"] == []
+    change(store, text)
+    (one,) = judge(status=1)
+    assert not one["good"] and re.fullmatch(gap, one["gaps"][0]) and one["answer"].startswith("yes ")
+    assert store_command.main([store, "record"]) == 1
+    shown = capsys.readouterr().out
+    assert "  NO    yes sessions " in shown and f"shard 0: gap: {one['gaps'][0]}" in shown
+
+
 def test_an_end_that_was_told_and_is_not_there(
     store: str,
     judge: Callable[..., list[Json]],
@@ -144,6 +166,7 @@ def test_an_end_that_was_told_and_is_not_there(
 def test_what_a_service_acknowledges(url: str, tmp_path: pathlib.Path, receiver: Receiver) -> None:
     """Starts by its replies, ends by its webhooks, and to those who wait."""
     words = [
+        "--local-webhooks",
         "--webhooks",
         written(tmp_path, table(receiver.url)),
         "--record",

@@ -6,7 +6,7 @@ import pytest
 from kills_nodes import KINDS, play
 from server import Server
 
-SAGAS = 18
+SAGAS = 21
 """Of each kind of saga three; two are aborted."""
 ROUNDS = 1
 """Databases a kind; each meets up to twelve strikes."""

@@ -57,7 +57,7 @@ ADVERBS = set(
     " under_way unread unreadable waiting".split()
 )
 """Names that no module has: it is named for the noun that it holds."""
-MOST_LINES, MOST_COLUMNS, MOST_ATTRIBUTES, MOST_OF_FUNCTION = 400, 100, 20, 60
+MOST_LINES, MOST_COLUMNS, MOST_ATTRIBUTES, MOST_OF_FUNCTION = 800, 100, 24, 60
 
 
 def name_of(path: pathlib.Path) -> str:

@@ -15,7 +15,7 @@ from sagas.inspection import pages
 from sagas.inspection.question import StoreReader
 from sagas.server.routes import filters
 from sagas.storage import admin
-from sagas.storage.filters import Filter
+from sagas.storage.filters import NOTHING, Filter, Scope
 from sagas.storage.postgresql.reader import Reader as DatabaseReader
 from sagas.storage.sqlite.store_file import Reader as FileReader
 
@@ -31,8 +31,8 @@ FILTERS: dict[str, dict[str, Any]] = {
     "since": {"started_after": 1_000_050.0}, "until": {"started_before": 1_000_050.0},
     "between": {"started_after": 1_000_020.0, "started_before": 1_000_060.0},
     "none between": {"started_after": 1_000_060.0, "started_before": 1_000_020.0},
-    "error": {"error": "sold"}, "rare error": {"error": "sold 17"}, "none": {"sagas": ()},
-    "some": {"sagas": ("often", "rare")}, "recovered since": {"phase": "recovered",
+    "error": {"error": "sold"}, "rare error": {"error": "sold 17"}, "none": {"scope": NOTHING},
+    "some": {"scope": Scope(frozenset({"often", "rare"}))}, "keyed": {"scope": Scope(keys=frozenset({"k1*", "k77"}))}, "recovered since": {"phase": "recovered",
     "started_after": 1_000_040.0}, "open label": {"phase": "open", "labels": {"half": "0"}},
     "label until": {"labels": {"half": "0"}, "started_before": 1_000_070.0},
 }  # fmt: skip

@@ -13,9 +13,10 @@ from cases import Task, run, until
 
 import sagas
 from sagas.base.errors import StoreUnavailable
-from sagas.core.batch import Loaded
+from sagas.core.batch import Batch, Loaded
 from sagas.storage.postgresql import connections
 from sagas.storage.postgresql.shard_loader import Loads
+from sagas.storage.postgresql.writer import Writer
 
 LOGS, ROOM = 6, 3
 BORN = "another", [(0, "digest", "text")]
@@ -93,6 +94,50 @@ def test_all_that_are_wanted_go_together(url: str, logs: list[int]) -> None:
             assert unborn == Loaded("", 0, 0, [], [], [], 8, line, 1) and there and there.line == line
 
     run(main())
+
+
+@pytest.mark.parametrize("together", [False, True])
+@pytest.mark.parametrize("has_lines", [False, True])
+def test_a_commit_behind_a_chunk_that_is_not_there(url: str, logs: list[int], together: bool, has_lines: bool) -> None:
+    """Nothing is written of a log whose last chunk the database lacks, or has otherwise; of the others all is written, alone and in one commit."""
+    lacks, differs, *_ = logs
+    last = "first_seq = (SELECT max(first_seq) FROM sagas.event_log WHERE shard = e.shard)"
+
+    async def nothing(*_: object) -> None: ...
+
+    def batch(loaded: Loaded, log: int) -> Batch:
+        written = Batch(log, 5.5, loaded.events, loaded.epoch)
+        written.text = "{}\n" if has_lines else ""
+        written.more.asked.append((("key", "abort", str(log), 1.0), "null"))
+        return written
+
+    async def main() -> None:
+        writer = Writer(url, url, "me", nothing, lambda commit: None, lambda: None)
+        async with loading(url) as loads:
+            known = await asyncio.gather(*(loads.load(log, 0, None) for log in logs))
+        batches = [batch(loaded, log) for log, loaded in zip(logs, known) if loaded]
+        for log, loaded in zip(logs, known):
+            assert loaded
+            writer.reached(log, loaded.events, loaded.tail)
+        with psycopg.connect(url, autocommit=True) as link:
+            link.execute(f"DELETE FROM sagas.event_log e WHERE shard = {lacks} AND {last}".encode())
+            link.execute(f"UPDATE sagas.event_log e SET committed_at = 0 WHERE shard = {differs} AND {last}".encode())
+        lost = set[int]()
+        for lot in [batches] if together else [[one] for one in batches]:
+            written = asyncio.get_running_loop().create_future()
+            writer.commit(lot, lambda *told, written=written: written.set_result(told))
+            _, fault, refused = await written
+            assert fault is None
+            lost |= refused
+        await writer.close()
+        assert lost == {lacks, differs}
+
+    run(main())
+    with psycopg.connect(url) as link:
+        written = {str(log) for log in logs} - {str(lacks), str(differs)}
+        assert {value for (value,) in link.execute("SELECT value FROM sagas.operator_commands").fetchall()} == written
+        rows = link.execute("SELECT shard::text FROM sagas.event_log WHERE committed_at = 5.5").fetchall()
+        assert {log for (log,) in rows} == (written if has_lines else set())
 
 
 def test_a_log_whose_commit_is_under_way(url: str, logs: list[int]) -> None:

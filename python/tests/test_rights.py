@@ -3,11 +3,15 @@
 from __future__ import annotations
 
 import contextlib
+import importlib
 import os
 import pathlib
+import pkgutil
+import shutil
 import tempfile
 from collections.abc import Iterator
 
+import driving
 import pytest
 from cases import ended, run, simple
 
@@ -17,6 +21,21 @@ from sagas.cli import store_command
 NOBODY = 65534
 SAGA = simple(lambda task: 1)
 REMEDY = "this user must be able to read and write it, and to write to its folder"
+
+
+@pytest.fixture(autouse=True)
+def reachable(monkeypatch: pytest.MonkeyPatch) -> Iterator[None]:
+    """Lets another user run the program and the package, also if the checkout is in a home folder:
+    the program is copied, and all modules are imported before."""
+    for module in pkgutil.walk_packages(sagas.__path__, "sagas."):
+        if not module.name.endswith("__main__") and ".celery" not in module.name:
+            importlib.import_module(module.name)
+    with tempfile.TemporaryDirectory() as name:
+        folder = pathlib.Path(name)
+        folder.chmod(0o755)
+        program = shutil.copy(driving.program(), str(folder / "sagas"))
+        monkeypatch.setenv("SAGAS_PROGRAM", program)
+        yield
 
 
 @contextlib.contextmanager
@@ -81,6 +100,7 @@ def test_open_says_whose_the_lock_is(store: pathlib.Path) -> None:
         with another(), pytest.raises(sagas.StoreUnavailable, match=match):
             run(used(store))
 
+    store.chmod(0o644)
     refused(r"x\.db\.lock: it belongs to root. Open the store as root, or change the owner")
     os.unlink(f"{store}.lock")
     refused(r"x\.db\.lock: Permission denied. This user must be able to write to its folder")

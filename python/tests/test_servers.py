@@ -8,6 +8,8 @@ import os
 import pathlib
 import secrets
 import shlex
+import shutil
+import socket
 import subprocess
 import tempfile
 from collections import Counter, defaultdict
@@ -17,14 +19,16 @@ from typing import Any, LiteralString
 import fleet
 import psycopg
 import pytest
-from cases import Task, ended, run, simple, until
+from cases import Task, ended, run, simple, surely_ended, until
 from judge import judge
 from moments import Node
-from server import Pair, Server, paired, serving
+from server import Pair, Server, free_port, paired, serving
 from witness import Witness, witness_at
 
 import sagas
 from sagas.base import program
+from sagas.cli import store_command
+from sagas.storage.postgresql import connections, hosts
 
 
 def test_a_synchronous_standby_takes_over(tmp_path: pathlib.Path) -> None:
@@ -79,6 +83,9 @@ def test_an_asynchronous_standby_may_lack_the_last_commits(monkeypatch: pytest.M
     calls: Counter[tuple[str, str]] = Counter()
     whose: dict[str, set[str]] = defaultdict(set)
     late = asyncio.Event()
+    held = HeldAudits(tmp_path) if room == 1 else None
+    if held:  # so that no full shard is closed before the standby takes over
+        monkeypatch.setenv("SAGAS_PROGRAM", str(held.program))
     kind = sagas.Saga("pair")
 
     @kind.step
@@ -101,7 +108,11 @@ def test_an_asynchronous_standby_may_lack_the_last_commits(monkeypatch: pytest.M
             late.set()
             before = await store.wait("there")
             assert before.ok and (await ended(store, kind, "lacking")).ok
+            if held:
+                await until(held.asked.exists)
             await asyncio.to_thread(pair.fail_over)
+            if held:
+                await asyncio.to_thread(held.let_go)
             after = await store.wait("there")
             assert after == before and calls["there", "a"] == 2
             assert (await started_again(store, kind, "another")).ok
@@ -454,6 +465,42 @@ def test_a_step_inside_of_a_saga_that_is_not_there(in_thread: bool, taken_up: bo
         run(main(Lacking(pair, in_thread)))
 
 
+def test_a_standby_that_has_no_tables(caplog: pytest.LogCaptureFixture) -> None:
+    """It was copied before the store was made, and takes over: the node makes its tables there, and executes what is started from then on."""
+    kind = simple(lambda task: "done")
+
+    async def main(url: str) -> None:
+        async with sagas.open(url, [kind], lease=600) as store:
+            assert (await ended(store, kind, "before")).ok
+            await asyncio.to_thread(pair.fail_over)
+            async with asyncio.timeout(120):
+                assert (await surely_ended(store, kind, "after")).ok
+            assert await store.get("before") is None and (await store.get("after")) is not None
+
+    with paired(synchronous=False) as pair:
+        primary = pair.primary.create()
+        pair.hold_back()
+        run(main(pair.url(primary.rpartition("/")[2])))
+    assert "made the tables, which this server did not have" in caplog.text
+
+
+def test_tables_that_are_gone(url: str, caplog: pytest.LogCaptureFixture) -> None:
+    """At the server that had them nothing is made: the node says so, once."""
+    kind = simple(lambda task: "done")
+
+    async def main() -> None:
+        async with sagas.open(url, [kind], lease=600) as store:
+            assert (await ended(store, kind, "k")).ok
+            with psycopg.connect(url, autocommit=True) as link:
+                link.execute("DROP SCHEMA sagas CASCADE")
+                await until(lambda: "the tables of the store are gone" in caplog.text)
+                await asyncio.sleep(2.5)  # further beats
+                assert link.execute("SELECT to_regclass('sagas.sagas')").fetchone() == (None,)
+
+    run(main())
+    assert caplog.text.count("the tables of the store are gone") == 1
+
+
 @pytest.mark.parametrize("is_over", [True, False])
 def test_a_start_that_the_standby_has_as_taken(is_over: bool) -> None:
     """A node has taken a client's start, and its saga has begun, or is over, where the standby does
@@ -583,3 +630,117 @@ def test_the_databases_disk_is_full() -> None:
     with small_disk("160m") as disk, serving(inside=disk) as server:
         run(main(server.create(), disk / "ballast"))
     assert set(calls.values()) == {1} and len(calls) == 20
+
+
+@pytest.mark.parametrize("by", ["node", "client", "late"])
+def test_a_primary_that_was_replaced_and_lives(by: str, monkeypatch: pytest.MonkeyPatch) -> None:
+    """Its standby was promoted, and it still says that it takes writes: its commits wait for that
+    standby. Once one took too long, the server of the highest timeline is taken, and kept. `late`:
+    commits wait before there is such a server, and later statements wait for the first of them."""
+    monkeypatch.setattr(connections, "PATIENCE", 2.0)
+    monkeypatch.setattr(connections, "LIMITED", "SET statement_timeout = '1s'")
+    calls, looks = Counter[str](), list[str]()
+
+    async def step(task: Task) -> str:
+        calls[task.key] += 1
+        return "done"
+
+    kind = simple(step)
+
+    async def main(url: str, other: str) -> None:
+        async with sagas.open(url, [kind], node="n", lease=60) as store, sagas.Client(url) as client:
+            assert (await ended(store, kind, "before")).ok
+            assert (await (await client.start(kind, "too")).wait()).ok
+            if by == "late":
+                monkeypatch.setattr(hosts, "line_of", noted(looks, hosts.line_of))
+                await asyncio.to_thread(pair.hold_back)
+                await until(lambda: looks)
+            await asyncio.to_thread(pair.standby.promote)
+            async with asyncio.timeout(60):
+                if by != "client":
+                    assert (await started_again(store, kind, "after")).ok
+                    assert store._inside.store.line == "00000002"
+                while True:
+                    with contextlib.suppress(sagas.StoreUnavailable):
+                        run = await client.start(kind, "client's")
+                        break
+                assert (await run.wait()).ok
+            assert [row async for row in rows(other, "SELECT key FROM sagas.sagas WHERE key = 'client''s'")]
+            assert pair.ask("SELECT pg_is_in_recovery()") == [(False,)]
+        assert calls["before"] == calls["too"] == 1
+
+    with paired(synchronous=True) as pair:
+        name = pair.primary.create().rpartition("/")[2]
+        run(main(pair.url(name), pair.standby.url(name)))
+
+
+def noted(calls: list[str], function: Callable[..., Any]) -> Callable[..., Any]:
+    """The same function, whose calls are noted."""
+
+    async def called(*words: Any) -> Any:
+        calls.append("called")
+        return await function(*words)
+
+    return called
+
+
+@contextlib.contextmanager
+def pooled(server: Server, mode: str, *more: str) -> Iterator[int]:
+    """PgBouncer before a server, in one of its modes; its port."""
+    port, settings = free_port(), server.folder.parent / "pgbouncer.ini"
+    words = [
+        "[databases]", f"* = host=127.0.0.1 port={server.port} user=owner", "[pgbouncer]",
+        "listen_addr = 127.0.0.1", f"listen_port = {port}", "unix_socket_dir =", "auth_type = any",
+        f"pool_mode = {mode}", *more,
+    ]  # fmt: skip
+    settings.write_text("\n".join(words))
+    settings.chmod(0o644)
+    command = server._as_other("pgbouncer", str(settings))
+    command[-2] = shutil.which("pgbouncer", path=f"{os.environ['PATH']}:/usr/sbin") or "pgbouncer"
+    with subprocess.Popen(command, stdout=subprocess.DEVNULL, stderr=subprocess.DEVNULL) as one:
+        try:
+            reached = False
+            while not reached and one.poll() is None:
+                with contextlib.suppress(OSError):
+                    socket.create_connection(("127.0.0.1", port)).close()
+                    reached = True
+            assert reached, "PgBouncer did not start"
+            yield port
+        finally:
+            one.terminate()
+
+
+POOLERS = {
+    "transaction": ("transaction",),
+    "round robin": ("transaction", "server_round_robin = 1"),
+    "statement": ("statement",),
+    "session": ("session",),
+}
+
+
+@pytest.mark.parametrize("words", POOLERS.values(), ids=POOLERS)
+def test_a_pooler(postgresql: Server, url: str, words: tuple[str, ...]) -> None:
+    """One that pools sessions serves a node and a client. Any other is refused by name, and
+    strangers who have its sessions find no setting of ours in them."""
+    kind = simple(lambda task: "done")
+    with sagas.open_sync(url, [kind]):
+        pass
+    with pooled(postgresql, *words) as port:
+        there = postgresql.url(url.rpartition("/")[2], port=port)
+        if words[0] == "session":
+            with sagas.open_sync(there, [kind]), sagas.SyncClient(there) as client:
+                assert client.start(kind, "k").wait(60).ok
+            return
+        with psycopg.connect(there, autocommit=True) as idle:
+            idle.execute("SELECT 1")  # a session that rests
+        for opens in (sagas.open_sync(there, [kind]), sagas.SyncClient(there)):
+            with pytest.raises(sagas.InvalidStore, match="pools transactions, as PgBouncer does"):
+                with opens:
+                    pass
+        assert store_command.main([there, "stats"]) == 4
+        with pytest.raises(psycopg.OperationalError, match="pools transactions"):
+            sagas.PostgresBlobStore(there).put("a", b"one")
+        with psycopg.connect(there, autocommit=True) as stranger:
+            for name in ("search_path", "enable_seqscan", "statement_timeout"):
+                ((value,),) = stranger.execute(f"SHOW {name}".encode()).fetchall()
+                assert value == {"search_path": '"$user", public', "enable_seqscan": "on"}.get(name, "0")

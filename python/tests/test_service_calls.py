@@ -327,6 +327,25 @@ def test_a_limit_holds_for_leases(service: Served, client: httpx.Client) -> None
         assert get(client, f"/v1/sagas/few-{number}/wait?seconds=60")["states"] == {"a": "undone", "b": "failed"}
 
 
+def test_a_task_that_is_offered_again_has_no_worker(client: httpx.Client) -> None:
+    """After an unknown outcome, until it is claimed again: the dashboard's page shows that nobody
+    has it, and no lease has expired."""
+    start(client, "few", "offered-again")
+    (task,) = [one for one in take(client, "few/a", most=100) if one["key"] == "offered-again"]
+    assert "offered-again" in client.get("/ui/workers").text
+    assert report(client, task, "unknown", error="no answer").status_code == 200
+    deadline, whys = time.monotonic() + 30, {"unknown"}
+    while whys != {"worker"}:
+        assert time.monotonic() < deadline, whys
+        page = client.get("/ui/workers")
+        assert page.status_code == 200 and "offered-again" not in page.text
+        waits = client.get("/v1/sagas/offered-again").json()["waits"]
+        assert not any("expired" in (one["said"] or "") for one in waits), waits
+        whys = {one["why"] for one in waits}
+    (task,) = [one for one in take(client, "few/a", most=100) if one["key"] == "offered-again"]
+    assert report(client, task).status_code == 200
+
+
 def test_unknown_is_said_once_under_a_lease(client: httpx.Client) -> None:
     """Also when the task waits for a worker again; under that lease nothing else counts but that it is done."""
     start(client, "few", "hazy-few")

@@ -42,7 +42,7 @@ def world(
     folder = tmp_path_factory.mktemp("deliveries")
     tokens = {name: token(folder, name, *words) for name, words in TOKENS.items()}
     hooks = written(folder, table(receiver.url))
-    words = "--token-file", str(folder / "tokens.toml"), "--webhooks", hooks
+    words = "--token-file", str(folder / "tokens.toml"), "--local-webhooks", "--webhooks", hooks
     receiver.got.clear()
     receiver.left[:] = [410]
     with served(folder, DEFINITIONS, *words, store=store) as service:

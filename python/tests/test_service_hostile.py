@@ -297,11 +297,16 @@ def test_whoever_does_not_read_is_cut_off() -> None:
     """A connection ends whose client takes nothing of its answer for too long; one that takes it slowly has all of it."""
 
     async def long(scope: Any, receive: Any, send: Any) -> None:
+        if connection := counted.of(scope["client"]):
+            connection.starts(is_whole=True)
         await send({"type": "http.response.start", "status": 200, "headers": [(b"content-length", str(32 * MEGA).encode())]})
         await send({"type": "http.response.body", "body": bytes(32 * MEGA)})
+        if connection:
+            connection.ends()
+
+    counted = Connections(10, LONG, 1.0)
 
     async def main() -> None:
-        counted = Connections(10, LONG, 1.0)
         config = uvicorn.Config(long, http=uvicorn_server.protocol(counted), timeout_keep_alive=int(LONG), log_config=None, log_level="error")
         config.load()
         state = ServerState()

@@ -149,7 +149,7 @@ def test_each_is_within_reach(service: Served) -> None:
         sixty = hidden(question)
         no_json = client.post("/ui/inbox", data={**sixty, "result": "{"})
         assert no_json.status_code == 422 and "not valid JSON" in no_json.text
-        refused = client.post("/ui/inbox", data={**sixty, "result": "NaN"}).text
+        refused = client.post("/ui/inbox", data={**sixty, "result": "[" * 65 + "]" * 65}).text
         assert "0 done, 60 refused" in refused and "the first 50" in refused
         assert refused.count('<li class="line">') == 50
         one = shown.split('name="one" value="')[1].split('"')[0]

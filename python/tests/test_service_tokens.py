@@ -14,6 +14,7 @@ import threading
 import time
 from collections.abc import Iterator
 from typing import Any
+from urllib.parse import quote
 
 import httpx
 import pytest
@@ -43,6 +44,7 @@ TOKENS: dict[str, tuple[str, ...]] = {
     "of-order": ("operator", "--definition", "order"),
     "approves-trip": ("approver", "--definition", "trip"),
     "approves-order": ("approver", "--definition", "order"),
+    "team-a": ("caller", "approver", "--key", "team-a-*", "--key", "shared", "--key", "b/*"),
     "flies": ("worker", "--step", "trip/flight", "--step", "trip/car/undo"),
     "sends": ("worker", "--definition", "order"),
     "both": ("worker", "--definition", "order", "--step", "trip/flight", "--step", "order/send"),
@@ -72,7 +74,7 @@ class World:
     def waits(self, key: str, why: str) -> None:
         deadline = time.monotonic() + LONG
         while why not in [
-            one["why"] for one in self["operator"].get(f"/v1/sagas/{key}").json()["waits"]
+            one["why"] for one in self["operator"].get(f"/v1/sagas/{quote(key, safe='')}").json()["waits"]
         ]:
             assert time.monotonic() < deadline
 
@@ -209,6 +211,47 @@ def test_an_approver_of_a_definition(world: World) -> None:
         == 200
     )
     world["operator"].post("/v1/sagas/to-approve/abort", json={})
+
+
+def test_a_token_of_some_keys(world: World) -> None:
+    """It starts, sees and decides sagas with these keys, and their children, and no others."""
+    client, other = world["team-a"], world["caller"]
+    assert start(client, "order", "team-a-1").status_code == 201
+    for key in ("team-b-1", "team-a", "b", "shared-2"):
+        assert told(start(client, "order", key)) == (
+            403, "Forbidden", f"team-a has no right to the key {key!r}"
+        )  # fmt: skip
+    for name in ("team-a", "caller"):
+        refused = start(world[name], "order", "team-a-1/:sub")
+        assert (refused.status_code, error_of(refused)) == (422, "InvalidKey"), refused.text
+    for key in ("team-b-1", "b", "b/1", "shared", "TEAM-A-2"):
+        assert start(other, "order", key).status_code == 201
+        world.waits(key, "approval")
+    world.waits("team-a-1", "approval")
+    mine = {"team-a-1", "shared", "b/1"}
+    assert {one["key"] for one in client.get("/v1/sagas").json()["sagas"]} == mine
+    entries = client.get("/v1/attention?reason=approval").json()
+    assert "team-b-1" not in str(entries)
+    counts = {one["name"]: one["sagas"] for one in client.get("/v1/definitions").json()["definitions"]}
+    assert (counts["order"]["open"], sum(counts["trip"].values())) == (3, 0)
+    for _, method, path, body in BY_KEY:
+        if "of-trip" != _:
+            continue
+        texts = [
+            client.request(method, path.replace("KEY", key), json=body) for key in ("b", "none-b")
+        ]
+        assert {one.status_code for one in texts} == {404}
+        assert texts[0].text == texts[1].text.replace("none-b", "b")
+    for key, status in (("team-b-1", 404), ("team-a-1", 200)):
+        path = f"/v1/sagas/{key}/steps/review/complete"
+        assert client.post(path, json={"result": 1}).status_code == status
+    with client.stream("GET", "/v1/events") as stream:
+        lines = stream.iter_lines()
+        assert next(lines).startswith("retry")
+        for key in ("team-b-1", "team-a-1"):
+            assert other.post(f"/v1/sagas/{key}/abort", json={}).status_code == 200
+        seen = next(line for line in lines if line.startswith("data:"))
+        assert '"team-a-1"' in seen
 
 
 def listened(world: World, path: str, ready: threading.Barrier, found: list[str]) -> None:
@@ -542,15 +585,28 @@ FAULTS = [
     ("steps = [1]", "steps must be a list of one or more DEFINITION/STEP or DEFINITION/STEP/undo"),
     ("expires = 2027-01-01T00:00:00", "expires must be a time with an offset, for example 2027-01-01T00:00:00Z"),
     ("expires = 2027-01-01", "expires must be a time with an offset, for example 2027-01-01T00:00:00Z"),
+    (
+        "keys = []",
+        "keys must be a list of one or more keys, or beginnings of keys with * at the end, "
+        "without /:",
+    ),
+    (
+        'keys = ["a*b"]',
+        "keys must be a list of one or more keys, or beginnings of keys with * at the end, "
+        "without /:",
+    ),
+    ('keys = ["a*"]', "keys can only restrict a token with the roles caller and approver"),
     ('expires = "tomorrow"', "expires must be a time with an offset, for example 2027-01-01T00:00:00Z"),
     ("expires = 5", "expires must be a time with an offset, for example 2027-01-01T00:00:00Z"),
     (
         'definition = ["trip"]',
-        "unknown key 'definition'; the keys are name, roles, sha256, definitions, steps, expires",
+        "unknown key 'definition'; the keys are name, roles, sha256, definitions, keys, steps, expires, "
+        "open_sagas, open_bytes",
     ),
     (
         'Steps = ["trip/car"]',
-        "unknown key 'Steps'; the keys are name, roles, sha256, definitions, steps, expires",
+        "unknown key 'Steps'; the keys are name, roles, sha256, definitions, keys, steps, expires, "
+        "open_sagas, open_bytes",
     ),
 ]
 

@@ -10,6 +10,7 @@ import hmac
 import http.server
 import json
 import pathlib
+import socket
 import threading
 import time
 from collections.abc import Iterator
@@ -23,9 +24,10 @@ import sagas
 from sagas.cli.snapshot import Snapshot
 from sagas.core.announcements import TYPES
 from sagas.inspection import deliveries
-from sagas.server import webhook_file
+from sagas.server import webhook_file, webhook_post, webhooks
 from sagas.server.webhook_file import Webhook, WebhookFault
 from sagas.server.webhooks import Webhooks
+from sagas.storage.deliveries import Claimed
 
 SECRET = base64.b64encode(b"k" * 32).decode()
 
@@ -92,7 +94,7 @@ def table(url: str, more: str = "") -> str:
 
 def test_what_is_posted(tmp_path: pathlib.Path, receiver: Receiver) -> None:
     """Ends, stuck sagas, and what needs a person; no input, result or error is in it."""
-    words = ("--webhooks", written(tmp_path, table(receiver.url)))
+    words = ("--local-webhooks", "--webhooks", written(tmp_path, table(receiver.url)))
     with served(tmp_path, DEFINITIONS, *words) as service, service.client() as client:
         start(client, "trip", "good", {"secret": "input"})
         all_done(client, "trip/flight", "trip/car", "trip/tour")
@@ -130,7 +132,7 @@ def test_it_is_repeated(tmp_path: pathlib.Path) -> None:
             "one", "two"
         ),
     )
-    words = ("--webhooks", written(tmp_path, *tables))
+    words = ("--local-webhooks", "--webhooks", written(tmp_path, *tables))
     with served(tmp_path, DEFINITIONS, *words) as service, service.client() as client:
         start(client, "trip", "t")
         all_done(client, "trip/flight", "trip/car", "trip/tour")
@@ -165,7 +167,7 @@ def test_it_survives_a_kill(tmp_path: pathlib.Path, store: str | None) -> None:
     """What was not posted when the service was killed is posted by the next one, under its id; what was posted before, is not. Over PostgreSQL two services share the
     posts: each is posted once. A delivery that was given up is posted again where an operator asks for it, and nobody else may."""
     receiver = Receiver(410, *[500] * 3)
-    words = ("--webhooks", written(tmp_path, table(receiver.url, 'definitions = ["order", "trip"]')))
+    words = ("--local-webhooks", "--webhooks", written(tmp_path, table(receiver.url, 'definitions = ["order", "trip"]')))
     tokens = {role: token(tmp_path, role, role) for role in ("caller", "operator")}
     words += ("--token-file", str(tmp_path / "tokens.toml"))
     with served(tmp_path, DEFINITIONS, *words, store=store) as service, service.client(tokens["operator"]) as client:
@@ -206,7 +208,7 @@ def test_it_survives_a_kill(tmp_path: pathlib.Path, store: str | None) -> None:
 
 def test_nothing_is_stored_for_nobody(tmp_path: pathlib.Path) -> None:
     """Of what no webhook is told there is no row."""
-    words = ("--webhooks", written(tmp_path, table("http://127.0.0.1:9/", 'types = ["saga.stuck"]\ndefinitions = ["licence"]')))
+    words = ("--local-webhooks", "--webhooks", written(tmp_path, table("http://127.0.0.1:9/", 'types = ["saga.stuck"]\ndefinitions = ["licence"]')))
     with served(tmp_path, DEFINITIONS, *words) as service, service.client() as client:
         start(client, "order", "asked")
         start(client, "licence", "good")
@@ -270,7 +272,7 @@ def test_whatever_a_post_raises(place: str) -> None:
 
     async def main() -> None:
         store = sagas.open(place, [trip])
-        posts = Webhooks([hook], store.deliveries)
+        posts = Webhooks([hook], store.deliveries, allow_local=True)
         async with store, asyncio.timeout(LONG):
             posts.begin()
             await (await store.start(trip, "k")).wait()
@@ -280,3 +282,95 @@ def test_whatever_a_post_raises(place: str) -> None:
             await posts.end()
 
     asyncio.run(main())
+
+
+async def trickling(back: asyncio.StreamReader, there: asyncio.StreamWriter, first: bytes, part: bytes) -> None:
+    """A receiver of which there is always more to come."""
+    with contextlib.suppress(OSError):
+        await back.readuntil(b"\r\n\r\n")
+        there.write(first)
+        while not there.is_closing():
+            there.write(part)
+            await there.drain()
+            await asyncio.sleep(0.05 if len(part) < 1000 else 0)
+
+
+ANSWERS: list[tuple[bytes, bytes, Any]] = [
+    (b"HTTP/1.1 204 No Content\r\n", b"X: y\r\n", 204),  # its head never ends, and its status is there
+    (b"HTTP/1.1 ", b"2", TimeoutError),
+    (b"", b"", TimeoutError),
+    (b"HTTP/1.1 100 Continue\r\n", b"X: y\r\n", TimeoutError),
+    (b"HTTP/1.1 100 Continue\r\n\r\n", b"HTTP/1.1 200 OK\r\n", 200),
+    (b"HTTP/1.1 100 Continue\r\n", b"X: y\r\n" * 1000, webhook_post.InvalidAnswer),
+    (b"", b"x" * 10_000, webhook_post.InvalidAnswer),
+    (b"SSH-2.0-secret-banner\r\n", b"", webhook_post.InvalidAnswer),
+]
+
+
+@pytest.mark.parametrize("first, part, wanted", ANSWERS, ids=range(len(ANSWERS)))
+def test_a_receiver_that_trickles(first: bytes, part: bytes, wanted: Any) -> None:
+    """The whole exchange has one deadline, and the answer a number of bytes. What a receiver sends
+    that speaks no HTTP is in no error."""
+    claimed = Claimed("msg_1", "saga.completed", "k", "{}", 1, 1)
+
+    async def main() -> None:
+        async def receive(back: asyncio.StreamReader, there: asyncio.StreamWriter) -> None:
+            await trickling(back, there, first, part)
+
+        server = await asyncio.start_server(receive, host(), 0)
+        name, port = server.sockets[0].getsockname()[:2]
+        hook = Webhook("one", f"http://{name}:{port}/", b"k" * 32, frozenset(TYPES), None)
+        seconds = 1.0 if wanted is TimeoutError else LONG
+        if isinstance(wanted, int):
+            assert await webhook_post.post(hook, claimed, seconds, allow_local=True) == wanted
+        else:
+            with pytest.raises(wanted) as found:
+                await webhook_post.post(hook, claimed, seconds, allow_local=True)
+            assert "banner" not in str(found.value)
+        server.close()
+
+    asyncio.run(asyncio.wait_for(main(), LONG))
+
+
+def test_a_stop_does_not_wait_for_a_receiver(tmp_path: pathlib.Path) -> None:
+    """That answers byte by byte, or not at all."""
+    asked = threading.Event()
+    with socket.create_server((host(), 0)) as listening:
+        name, port = listening.getsockname()
+
+        def receive() -> None:
+            with contextlib.suppress(OSError):
+                while True:
+                    link, _ = listening.accept()
+                    held.append(link)
+                    link.recv(10)
+                    asked.set()
+                    link.sendall(b"HTTP/1.1 ")
+
+        held: list[socket.socket] = []
+        threading.Thread(target=receive, daemon=True).start()
+        words = ("--local-webhooks", "--webhooks", written(tmp_path, table(f"http://{name}:{port}/")))
+        with served(tmp_path, DEFINITIONS, *words) as service, service.client() as client:
+            start(client, "order", "asked")
+            assert asked.wait(LONG)
+            began = time.monotonic()
+            assert service.stop() == 0
+            assert time.monotonic() - began < webhooks.PATIENCE * 0.8
+        for link in held:
+            link.close()
+
+
+@pytest.mark.parametrize(
+    "address", ["127.0.0.1", "localhost", "[::1]", "169.254.169.254", "[fe80::1]", "[::ffff:127.0.0.1]", "0.0.0.0"],
+)
+def test_a_local_receiver(tmp_path: pathlib.Path, address: str) -> None:
+    """It is refused unless it is meant, by the file and wherever a name leads."""
+    path = pathlib.Path(written(tmp_path, table(f"http://{address}:9/")))
+    with pytest.raises(WebhookFault, match="webhook 1: url must not be .* --local-webhooks"):
+        webhook_file.read(path)
+    (hook,) = webhook_file.read(path, allow_local=True)
+    claimed = Claimed("msg_1", "saga.completed", "k", "{}", 1, 1)
+    if "fe80" in address:
+        return
+    with pytest.raises(webhook_post.LocalReceiver, match="is local: start the service with"):
+        asyncio.run(webhook_post.post(hook, claimed, LONG, allow_local=False))

@@ -1,4 +1,4 @@
-"""The program that the kill tests kill: five sagas, each of whose calls is told to a witness outside, and over PostgreSQL a sixth whose steps are inside.
+"""The program that the kill tests kill: five sagas, each of whose calls is told to a witness outside, and over PostgreSQL a sixth whose steps are inside, and a seventh whose steps workers do: each node has one, who gets tasks of the sagas of all nodes.
 
     python3 tests/world.py STORE SOCKET COUNT [--concurrency N] [--small] [--wrong NAME] [--eye URL] [--node NAME] [--lease SECONDS]
 
@@ -126,7 +126,7 @@ class World:
 
     def __init__(self, witness: Witness, eye: Eye, inside: bool = False) -> None:
         self.witness, self.eye = witness, eye
-        self.sagas = [self.chain(), self.trip(), self.must(), self.late(), self.order(), *([self.desk()] if inside else [])]
+        self.sagas = [self.chain(), self.trip(), self.must(), self.late(), self.order(), *([self.desk(), self.far()] if inside else [])]
 
     def act(self, task: Any, failing: float, unknown: float = 0.0) -> Any:
         """A call: begins, fails or has its effect, and perhaps does not hear of it."""
@@ -370,6 +370,54 @@ class World:
         return desk
 
 
+    def far(self) -> sagas.Saga:
+        """Two steps side by side that workers do, and one behind them. An unknown outcome waits for a while, in which the saga may be aborted."""
+        far = sagas.Saga("far")
+        pause = sagas.Backoff(initial=0.4, maximum=0.4)
+        pay = far.step(name="pay", external=True, tries=2, backoff=pause, keep=9, undo=1)
+        pay.compensation(external=True, tries=3, backoff=QUICK, on_exhausted="fail")
+        hold = far.step(name="hold", external=True, backoff=QUICK, undo=sagas.NEVER)
+        far.step(name="send", needs=[pay, hold], external=True, backoff=QUICK, undo=sagas.NEVER)
+        return far
+
+
+FAR = {("pay", "run"): (0.1, 0.4), ("pay", "undo"): (0.1, 0.0), ("hold", "run"): (0.3, 0.0), ("send", "run"): (0.2, 0.0)}
+"""How often a worker's call fails, and how often it does not hear of it."""
+LEASE = 1.0
+
+
+async def work(world: World, store: sagas.Store) -> None:
+    """A worker that asks this node for tasks, whichever node drives their sagas."""
+    words = [("far", step, kind) for step, kind in FAR]
+    while True:
+        with contextlib.suppress(sagas.SagasError):  # the store is away, or the lease is lost: another one does it again
+            for leased in await store.workers.claim(words, limit=2, wait=0.2, lease=LEASE):
+                report = await asyncio.to_thread(done, world, leased.task)
+                await store.workers.report(leased.attempt_id, leased.lease, **report)
+        await asyncio.sleep(0.01)
+
+
+def done(world: World, task: Any) -> dict[str, Any]:
+    """What a worker says of a task."""
+    try:
+        return {"result": world.act(task, *FAR[task.step, "undo" if task.is_compensation else "run"])}
+    except ConnectionError as error:
+        return {"unknown": str(error)}
+    except (ValueError, sagas.Fail) as error:
+        return {"error": str(error), "final": isinstance(error, sagas.Fail)}
+
+
+async def abort_unknown(world: World, store: sagas.Store, run: sagas.Run) -> None:
+    """Aborts a saga as soon as one of its outcomes is unknown, if one is."""
+    while True:
+        with contextlib.suppress(sagas.StoreUnavailable):
+            if any(attempt.key == run.key for attempt in await store.unknown()):
+                if await run.abort():
+                    world.witness.note(what="aborted", key=run.key, there=world.eye.aborts(run.key))
+                return
+        await asyncio.sleep(0.02)
+
+
 async def approve_all(world: World, store: sagas.Store) -> None:
     """Somebody who says yes to whatever is asked."""
     while True:
@@ -400,7 +448,12 @@ async def one(world: World, store: sagas.Store, number: int) -> None:
         with contextlib.suppress(sagas.StoreUnavailable):
             if await run.abort():
                 note(what="aborted", key=key, there=eye.aborts(key))
-    end = await run.wait()
+    aborting = asyncio.create_task(abort_unknown(world, store, run)) if number % 2 and number % len(world.sagas) == 6 else None
+    try:
+        end = await run.wait()
+    finally:
+        if aborting:
+            aborting.cancel()
     told = {"phase": end.phase, "states": end.states, "results": end.results, "cost": end.cost, "aborted": end.aborted}
     note(what="over", key=key, there=eye.phase(key)[1], **told)
 
@@ -439,19 +492,25 @@ async def main(words: argparse.Namespace) -> None:
         setattr(sagas.definition.shelf, "SHARD_CAPACITY", 10)
     children = 2 if words.small else 16
     async with contextlib.AsyncExitStack() as stack:
-        store = await opened(stack, lambda: sagas.open(
-            words.store, world.sagas, concurrency=words.concurrency, engine_processes=children, node=words.node, lease=words.lease
-        ))
-        approving = asyncio.create_task(approve_all(world, store))
-        work = asyncio.create_task(every(world, store, words.count))
-        asyncio.get_running_loop().add_signal_handler(signal.SIGTERM, work.cancel)
+        def make() -> sagas.Store:
+            store = sagas.open(
+                words.store, world.sagas, concurrency=words.concurrency, engine_processes=children, node=words.node, lease=words.lease
+            )
+            store.leased = words.node is not None
+            return store
+
+        store = await opened(stack, make)
+        others = [asyncio.create_task(approve_all(world, store)), *([asyncio.create_task(work(world, store))] if words.node else [])]
+        starting = asyncio.create_task(every(world, store, words.count))
+        asyncio.get_running_loop().add_signal_handler(signal.SIGTERM, starting.cancel)
         print("open", flush=True)
         try:
-            await work
+            await starting
             print("done", flush=True)
         except asyncio.CancelledError:
             print("closing", flush=True)
-        approving.cancel()
+        for other in others:
+            other.cancel()
     asyncio.get_running_loop().remove_signal_handler(signal.SIGTERM)  # a loop that closes would complain of one that comes now
 
 

@@ -47,6 +47,10 @@ if ! [ -d "$data" ]; then
   initdb -D "$data" -U "$POSTGRES_USER" --pwfile=/tmp/password --auth-host=scram-sha-256 >/dev/null
   echo "host all all all scram-sha-256" >>"$data/pg_hba.conf"
   echo "CREATE DATABASE $POSTGRES_DB" | postgres --single -D "$data" postgres >/dev/null
+  pg_ctl -D "$data" -w -o "-c listen_addresses= -c unix_socket_directories=/tmp" start >/dev/null
+  export PGHOST=/tmp PGPASSWORD=$POSTGRES_PASSWORD
+  for script in /docker-entrypoint-initdb.d/*.sh; do sh "$script"; done
+  pg_ctl -D "$data" -w stop >/dev/null
 fi
 exec postgres -D "$data" -c listen_addresses='*' -c unix_socket_directories=/var/run/postgresql
 END

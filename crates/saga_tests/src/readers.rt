@@ -1,27 +1,7 @@
-//! Readers that never end, are interrupted, or fail.
+//! A reader that is interrupted, and fails.
 use saga_bytes::{read_once, read_up_to};
 use std::io::{self, ErrorKind, Read};
 use std::test::Fail;
-
-/// A reader that never ends.
-#[derive(Drop)]
-struct Endless;
-
-impl Read for Endless {
-    fn read(&mut self, buf: &mut [u8]) -> io::Result<usize> {
-        buf.fill(7);
-        Ok(buf.len())
-    }
-}
-
-#[test]
-fn an_endless_reader_gives_one_more(rt: HostRuntime) -> Result<(), Fail> {
-    for limit in [0, 1, 8_191, 8_192, 100_000] {
-        let bytes = read_up_to(rt.alloc(), &mut Endless, limit)?;
-        assert_eq!(rt; bytes.len(), limit + 1);
-    }
-    Ok(())
-}
 
 /// A reader that is interrupted before each byte, and fails after a number of bytes.
 #[derive(Drop)]

@@ -1,12 +1,10 @@
-//! Trials of public calls under refused memory that no command of the program makes: the calls of a book, a shard and a
-//! desk, and others. The program also has what `bench/` times, and a booking service that embeds the crates.
+//! Trials of public calls under refused memory that no command of the program makes: the calls of a desk, and others. The program also has a booking service that embeds the crates.
 //!
 //! `names` prints the kind and the name of each trial. The kind is `each` if one allocation after another is refused,
 //! `none` if every allocation is refused, and `ample` for inputs of the maximum size with ample memory. `try NAME`
 //! makes a trial: it makes the call, and repeats it if memory was refused. It prints `refused` or `whole`, or what is
-//! wrong. `time` takes the words of [`timing`], and `book` books the trips of [`booking`] with the definition from
-//! standard input. Without words, the program makes each trial once with ample memory, times the flow of a small
-//! network, and books the trips.
+//! wrong. `book` books the trips of [`booking`] with the definition from standard input. Without words, the program
+//! makes each trial once with ample memory, and books the trips.
 //!
 //! The program itself refuses no memory. It prints on standard error where the calls start and end. A library that is
 //! loaded before the C library reads that and refuses allocations there (`tests/memory.py`).
@@ -14,13 +12,11 @@
 
 mod agency;
 mod booking;
-mod books;
 mod calls;
 mod desks;
 mod greatest;
 mod nets;
 mod samples;
-mod timing;
 mod trial;
 mod trips;
 
@@ -28,20 +24,16 @@ use crate::calls::Call;
 use crate::greatest::Size;
 use crate::nets::Flow;
 use crate::trial::Trial;
-use Tried::{Alone, Book, Desk, FinishDesk, Great, Net, OpenDesk, Work};
+use Tried::{Alone, Desk, Great, Net};
 use anyhow::{Context, Result, bail, ensure};
 use std::env;
 use std::sync::Wait;
 use std::thread::Threads;
 
-/// What is tried: calls of a book, or of a shard or a desk, given by a script, or a single call.
+/// What is tried: calls of a desk, given by a script, or a single call.
 #[derive(Clone, Copy)]
 enum Tried {
-    Book(books::Script),
     Desk(desks::Script),
-    OpenDesk,
-    FinishDesk,
-    Work,
     Alone(Call),
     Net(Flow),
     Great(Size),
@@ -49,36 +41,16 @@ enum Tried {
 
 /// The trials: the kind and the name of each, and what is tried.
 const TRIALS: &[(&str, Tried)] = &[
-    ("each saga_core::Book::open", Book(books::OPEN)),
-    ("each saga_core::Book::take_run", Book(books::RUN)),
-    ("each saga_core::Book::take_undo", Book(books::UNDO)),
-    ("each saga_core::Book::take_plan", Book(books::PLAN)),
-    ("each saga_core::Book::present_case", Book(books::PRESENT)),
-    ("each saga_core::Book::abort", Book(books::ABORT)),
-    ("none saga_core::Book::report_run", Book(books::REPORT)),
-    ("none saga_core::Book::report_undo", Book(books::UNDONE)),
-    ("none saga_core::Book::drop_plan", Book(books::DROP)),
-    ("none saga_core::Book::adopt", Book(books::ADOPT)),
-    ("none saga_core::Book::next", Book(books::NEXT)),
-    ("none saga_core::Book::history", Book(books::HISTORY)),
-    ("none saga_core::Book,long", Book(books::LONG)),
-    ("each saga_desk::Desk::open", OpenDesk),
-    ("each saga_desk::Desk::finish", FinishDesk),
     ("each saga_desk::Desk::open_saga", Desk(desks::OPEN)),
     ("each saga_desk::Desk::claim", Desk(desks::CLAIM)),
+    ("each saga_desk::Desk::claim,misses", Desk(desks::MISS)),
     ("each saga_desk::Desk::abort", Desk(desks::ABORT)),
-    ("each saga_desk::Shard::open_saga", Desk(desks::OPEN_SHARD)),
-    ("each saga_desk::Shard::claim", Desk(desks::CLAIM_SHARD)),
-    ("each saga_desk::Shard::abort", Desk(desks::ABORT_SHARD)),
     ("none saga_desk::Desk::report", Desk(desks::REPORT)),
     ("none saga_desk::Desk::adopt", Desk(desks::ADOPT)),
     ("none saga_desk::Desk::give_back", Desk(desks::GIVE_BACK)),
     ("none saga_desk::Desk,long", Desk(desks::LONG)),
-    ("none saga_desk::Shard,calls", Desk(desks::SHARD)),
-    ("each saga_work::work", Work),
     ("each saga_order::Order::of", Alone(Call::Order)),
     ("each saga_cert::write_case", Alone(Call::WriteCase)),
-    ("each saga_report::report", Alone(Call::Report)),
     (
         "each saga_history::first_not_allowed",
         Alone(Call::NotAllowed),
@@ -87,10 +59,7 @@ const TRIALS: &[(&str, Tried)] = &[
         "none saga_history::first_not_allowed,none-adopted",
         Alone(Call::NoneAdopted),
     ),
-    ("each saga_texts::audit_text_alone", Alone(Call::AuditText)),
     ("each saga_drive::audit_trail", Alone(Call::Trail)),
-    ("each saga_fleet::audit_record", Alone(Call::Records)),
-    ("none saga_history,laws", Alone(Call::Laws)),
     ("each saga_flow::unbounded_path", Net(Flow::Path)),
     ("each saga_flow::largest", Net(Flow::Largest)),
     ("each saga_flow::largest_counted", Net(Flow::Counted)),
@@ -109,11 +78,7 @@ fn trials() -> &'static [(&'static str, Tried)] {
 fn run<R: Wait>(rt: &R, trial: &mut Trial<'_>, how: &str, tried: Tried) -> Result<()> {
     trial.refuses = how == "each";
     match tried {
-        Book(script) => books::run(trial, script),
         Desk(script) => desks::run(rt, trial, script),
-        OpenDesk => desks::open(trial),
-        FinishDesk => desks::finish(rt, trial),
-        Work => desks::work_alone(rt, trial),
         Alone(call) => calls::run(trial, call),
         Net(call) => nets::run(trial, call),
         Great(which) => greatest::run(trial, which),
@@ -143,12 +108,11 @@ fn try_named<R: Wait>(waits: &R, rt: &HostRuntime, name: Option<String>) -> Resu
     Ok(())
 }
 
-/// Makes each trial, times a flow, and books trips.
+/// Makes each trial, and books trips.
 fn run_all<R: Threads + Wait + Sync>(threads: &R, rt: &HostRuntime) -> Result<()> {
     let mut trial = Trial::new(rt);
     let count = run_named(threads, &mut trial, None)?;
     println!(rt; "trials {count} whole")?;
-    timing::sample(rt)?;
     booking::run(threads, rt)
 }
 
@@ -168,8 +132,7 @@ fn main(rt: HostRuntime) -> Result<()> {
     match what.as_str() {
         "names" => print_names(&rt),
         "try" => try_named(&rt, &rt, words.next()),
-        "time" => timing::run(&rt, &rt, &mut words),
         "book" => booking::run(&rt, &rt),
-        _ => bail!("names, try, time or book?"),
+        _ => bail!("names, try or book?"),
     }
 }

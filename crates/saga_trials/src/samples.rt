@@ -7,7 +7,6 @@ use saga_core::Book;
 use saga_def::Definition;
 use saga_history::Event;
 use saga_log::{LogFault, read_log};
-use saga_script::Script;
 use saga_text::read_definition;
 use std::alloc::Global;
 
@@ -22,30 +21,12 @@ step = [
 ]
 ";
 
-/// The same steps, with all costs 0.
-pub const FREE_TRIP: &str = "\
-format = 1
-name = \"trip\"
-step = [
-  { name = \"a\" },
-  { name = \"b\", needs = [\"a\"] },
-  { name = \"c\", needs = [\"b\"] },
-]
-";
-
 /// The case in which the last step has failed.
 pub const TRIP_CASE: &str = "{\"states\":[\"committed\",\"committed\",\"failed\"]}";
 
 /// The plan that keeps no step.
 pub const TRIP_ANSWER: &str =
     "{\"cost\":3,\"kept\":[],\"kind\":\"plan\",\"leave\":[1,2,0],\"links\":[0,0],\"stand\":[1,2,0]}";
-
-/// The same plan if all costs are 0.
-pub const FREE_ANSWER: &str =
-    "{\"cost\":0,\"kept\":[],\"kind\":\"plan\",\"leave\":[0,0,0],\"links\":[0,0],\"stand\":[0,0,0]}";
-
-/// The script in which the last step fails.
-pub const TRIP_SCRIPT: &str = "0 c run fail\n";
 
 /// The log of that run.
 pub const TRIP_LOG: &str = "\
@@ -62,16 +43,6 @@ pub const TRIP_LOG: &str = "\
 {\"event\":\"undone\",\"saga\":0,\"step\":1}
 {\"event\":\"start_undo\",\"saga\":0,\"step\":0}
 {\"event\":\"undone\",\"saga\":0,\"step\":0}
-";
-
-/// The report of that run.
-pub const TRIP_REPORT: &str = "\
-saga 0 trip ended
-   0 undone    a
-   1 undone    b
-   2 failed    c
-plans 1 cost 3
-sagas 1 ended 1 stuck 0 events 13
 ";
 
 /// A log in which no plan is adopted.
@@ -125,13 +96,6 @@ pub const FAILED: Sample = Sample {
     definition: TRIP,
     case: TRIP_CASE,
     answer: TRIP_ANSWER,
-};
-
-/// The same with all costs 0.
-pub const FREE: Sample = Sample {
-    definition: FREE_TRIP,
-    answer: FREE_ANSWER,
-    ..FAILED
 };
 
 /// The step that must not be left out.
@@ -207,14 +171,6 @@ pub fn events(alloc: Global, log: &str) -> Result<Vec<Event>> {
         Ok(events) => Ok(events),
         Err(LogFault::BadLine { line, .. }) => bail!("a fault in line {line}"),
         Err(LogFault::OutOfMemory) => bail!("out of memory"),
-    }
-}
-
-/// The script of a text.
-pub fn script(alloc: Global, text: &str) -> Result<Script> {
-    match Script::read(alloc, text.as_bytes()) {
-        Ok(script) => Ok(script),
-        Err(_) => bail!("no script"),
     }
 }
 

@@ -114,11 +114,14 @@ def test_an_unknown_one_stays_unknown_where_it_is_retried() -> None:
 
 @pytest.mark.parametrize("words", [{"on_exhausted": "ask"}, {"on_exhausted": "retry"}])
 def test_a_saga_that_drains_waits_for_no_failure(words: dict[str, Any]) -> None:
-    """What failed has failed; a compensation goes on waiting."""
+    """What failed has failed, unless a person was asked and the saga is not aborted; a compensation goes on waiting."""
     attempt, undo = attempt_of(number=2, **words), attempt_of("undo", 2, **words)
     for one in (attempt, undo):
         MACHINE.ended(one, NO, NOW)
         one.instance.draining = True
+    if words["on_exhausted"] == "ask":
+        assert MACHINE.drain(attempt.instance, NOW) == [] and exhaustion.may_retry(attempt)
+        attempt.instance.aborted = True
     assert MACHINE.drain(attempt.instance, NOW) == [(attempt, REPORT)] and attempt.outcome is NO
     assert MACHINE.drain(undo.instance, NOW) == []
     late = attempt_of(number=2, **words)

@@ -133,6 +133,16 @@ def test_an_epoch_that_is_another_nodes() -> None:
         assert "heard 999999999, told 999999999 2" in said(merged(notes, takeovers, CHUNKS, now))
 
 
+@pytest.mark.parametrize("sync", [False, True])
+@pytest.mark.parametrize("notes", ["", "\n".join(NODE.splitlines()[:5])])
+def test_a_shard_that_was_taken_and_closed_before_a_promotion(notes: str, sync: bool) -> None:
+    """Its first node was killed before it heard of the last commit; the second one took it, wrote nothing of it but its close, and a client was told of an end."""
+    takeovers = [BORN, Takeover(2, "b", 2, "1")]
+    found = said(merged(f"{notes}\nclosed b 7 2 1", takeovers, CHUNKS, "2", sync, [("client", 3)]))
+    assert ":" not in found and ", moved 2 2, " in found
+    assert found.index("heard 1") < found.index("moved 2 2") < found.rindex("told")
+
+
 @pytest.mark.parametrize(
     ("epochs", "notes", "events"),
     [

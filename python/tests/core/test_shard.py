@@ -2,6 +2,7 @@
 
 from __future__ import annotations
 
+import dataclasses
 import json
 from typing import Any
 
@@ -281,6 +282,23 @@ def test_a_finished_attempt_is_reported_again_or_replaced() -> None:
     found = recovered(shard, rows(), [(0, "run", 1)])
     (other,) = found.resumed
     assert found.forgotten == [attempt] and other is not attempt and other.state is AttemptState.CLAIMED and not other.fresh
+
+
+@pytest.mark.parametrize(("epoch", "line", "is_ours"), [(1, "line", True), (2, "line", True), (3, "line", False), (2, "other", False)])
+def test_what_was_given_up_is_decided_again(epoch: int, line: str, is_ours: bool) -> None:
+    """And what waits is made anew from its row, where another node may have had the shard, or another server took over: it may have been called there."""
+    shard = driver()
+    attempt = begun(shard)
+    attempt.finish(outcomes.failure("not called", called=False), NOW)
+    shard.report(attempt)
+    loaded = dataclasses.replace(rows(), epoch=epoch, line=line)
+    (given_up,) = recovered(shard, loaded, [(0, "run", 1)]).resumed
+    assert given_up is not attempt and given_up.state is AttemptState.CLAIMED and given_up.fresh is is_ours
+    shard.known = (1, "line")
+    given_up.suspend(Suspension.BACKOFF, NOW + 1)
+    found = recovered(shard, loaded, [(0, "run", 1)])
+    (other,) = found.resumed
+    assert (other is given_up) is is_ours and (given_up in found.forgotten) is not is_ours and other.fresh is is_ours
 
 
 def test_rows_of_an_earlier_program() -> None:

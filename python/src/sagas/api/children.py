@@ -36,7 +36,7 @@ class ChildCarrier:
 
     async def end(self, key: str) -> ChildEnd:
         """Wait until a saga has ended."""
-        over = await self._lookup.over(key)
+        over = await self._lookup.whole(key)
         if isinstance(over, SagaInstance):
             end = history.end_of_live(over)
             return ChildEnd(end, over.id, over.kind, over.text, over.results)

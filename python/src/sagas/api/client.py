@@ -12,6 +12,7 @@ from typing import TYPE_CHECKING, Any, TypeVar
 
 from sagas.api import client_start, timeouts
 from sagas.api.client_run import ClientRun
+from sagas.api.repeated_reports import check_again
 from sagas.api.schedules import Schedules
 from sagas.base.errors import Closed, InvalidStore, NoSuchSaga
 from sagas.base.fork_guard import Opened
@@ -37,7 +38,7 @@ from sagas.runtime import operator_commands, retries
 from sagas.storage import operator_requests, queries
 from sagas.storage.blob_layer import Blobs
 from sagas.storage.factory import FORM
-from sagas.storage.postgresql import caller_connection
+from sagas.storage.postgresql import caller_connection, codec_note
 from sagas.storage.postgresql import connections as connections_module
 from sagas.storage.postgresql import key_finder, notifications, saga_requests, schema
 from sagas.storage.record_file import RecordFile, told_path
@@ -95,8 +96,9 @@ class Client(Schedules):
                 f"{arguments.shown(url)}: this is not a URL of a PostgreSQL database. Write {FORM}"
             )
         arguments.count("connections", connections)
-        self._url, self.path = url, connections_module.named(url)
-        self._asker = connections_module.Asker(url, self.path, connections)
+        self._url, self.path = connections_module.hosts_of(url), connections_module.named(url)
+        self._asker = connections_module.Asker(self._url, self.path, connections)
+        self._asker.late = self._look_at_hosts
         self._reader = AsyncStoreReader(self._read, self._read)
         self._opened = Opened("the client")
         self._news: notifications.News | None = None
@@ -110,13 +112,21 @@ class Client(Schedules):
             self._asker, self.path, connections, self._payloads
         )
 
+    @property
+    def codec(self) -> Codec | None:
+        """What encodes values; None if nothing does."""
+        return self._payloads.codec
+
     async def __aenter__(self) -> Client:
         """Connect.
 
         Raises:
             StoreUnavailable: The server does not answer.
-            InvalidStore: There are no tables: a node makes them, or `sagas store URL init`.
+            InvalidStore: There are no tables: a node makes them, or `sagas store URL init`. Or it
+                is a pooler that pools transactions.
             StoreSchemaTooNew: The tables are of a later version.
+            MissingCodec: The store's values are encoded, and this client has no codec.
+            StoreLocked: This client has a codec, and a node without one has the store open.
             RuntimeError: The client is open already.
         """
         with self._opened.opening(self.path):
@@ -147,12 +157,25 @@ class Client(Schedules):
                     f"{self.path}: the store has no tables yet. Start a node, or run `sagas store "
                     "URL init`"
                 )
+            await codec_note.agree(self._asker, self._payloads.codec is not None)
             if self._record:
                 self._record.open()
         except BaseException:
             await self._asker.close()
             raise
         self._news = notifications.News(self._url, lambda what: None)
+        self._asker.attach(self._news.listener)
+
+    def _look_at_hosts(self) -> None:
+        """A statement took too long: a server that was replaced may be waiting for its standby."""
+        if self._url.are_several:
+            self._asker.spawn(self._choose_host())
+
+    async def _choose_host(self) -> None:
+        before = self._url.turn
+        await self._url.choose(connections_module.address(self._url))
+        if self._url.turn != before and self._news is not None:
+            await self._asker.renew(cuts=True)
 
     async def __aexit__(
         self,
@@ -207,11 +230,13 @@ class Client(Schedules):
             saga: The definition. The nodes have to know it.
             connection: A psycopg connection to the same database (default: one of its own). The
                 saga is written in the transaction that is open there, and exists exactly if that
-                commits. A second start of the key waits for its end.
+                commits. If this call raises, it wrote nothing there. A second start of the key
+                waits for its end.
 
         Raises:
             StoreUnavailable: The connection is closed, failed, or to another database. Or the
-                server does not answer.
+                server, or a synchronous standby, does not answer in 21 seconds: start it again,
+                with the same key.
             TypeError: The connection is not a `psycopg.AsyncConnection`.
             Closed: The client is closed.
         """
@@ -256,8 +281,7 @@ class Client(Schedules):
         row = await self._row(key)
         if row.phase is not None:
             return False
-        answer = await saga_requests.ask(self._asker, self._heard, row, "abort", "null")
-        return bool(operator_requests.told(answer))
+        return bool(await self._request(row, "abort", "null"))
 
     async def complete(
         self, key: str, step: Step[Any] | str, result: Any = None, *, undo: bool = False,
@@ -281,8 +305,13 @@ class Client(Schedules):
         value = serialization.write(
             {"step": step if isinstance(step, str) else step.name, "kind": kind}
         )
-        answer = await saga_requests.ask(self._asker, self._heard, row, "retry", value)
-        operator_requests.told(answer)
+        await self._request(row, "retry", value)
+
+    async def _request(self, row: SagaRow, what: str, value: str) -> Any:
+        """Ask the node that has the saga, and return its answer. Raises what the answer names."""
+        asker, payloads = self._asker, self._payloads
+        answer = await saga_requests.ask(asker, self._heard, row, what, value, payloads)
+        return operator_requests.told(answer)
 
     async def _report(
         self, key: str, step: Step[Any] | str, outcome: Outcome, undo: bool, early: bool
@@ -292,20 +321,14 @@ class Client(Schedules):
         if row.phase is not None:
             await self._check_kept(row, name, kind, outcome)
             return
+        await codec_note.agree(self._asker, self._payloads.codec is not None)
         what, told = operator_commands.report_of(name, kind, outcome, early, self._payloads)
-        value = serialization.write(told)
-        operator_requests.told(await saga_requests.ask(self._asker, self._heard, row, what, value))
+        await self._request(row, what, serialization.write(told))
 
     async def _check_kept(self, row: SagaRow, step: str, kind: str, outcome: Outcome) -> None:
-        """Of a saga that is over: raises `StepNotWaiting` where it was not said before that the
-        step
-        ended so."""
-        rows = await self._read(step_reports.RESULTS, row.id)
+        """As `check_again`, of a saga that is over."""
         names = self._kind(row, (await self._known(row)).definition).names
-        first = step_reports.first_of(rows, names.index(step), kind) if step in names else None
-        if first is None:
-            raise step_reports.over(row)
-        step_reports.check(row.key, step, first, outcome, payloads=self._payloads)
+        await check_again(self._read, row, names, (step, kind), outcome, self._payloads)
 
     # -- questions
 
@@ -342,8 +365,7 @@ class Client(Schedules):
     async def log(self, key: str) -> builtins.list[HistoryEvent]:
         """Return a saga's events so far. See `Store.log`."""
         row = await self._row(key)
-        found = [] if row.id < 0 else await self._answer(one_saga.log(row))
-        return history.decoded(found, self._payloads)
+        return [] if row.id < 0 else await self._answer(one_saga.log(row, self._payloads.read))
 
     async def waits_for(self, key: str) -> builtins.list[str]:
         """Return what a saga waits for, as the database has it. See `Store.waits_for`."""

@@ -2,10 +2,11 @@
 
 from __future__ import annotations
 
+import contextlib
 import json
 import time
 from collections.abc import Callable, Coroutine
-from typing import TYPE_CHECKING, Any
+from typing import TYPE_CHECKING, Any, NamedTuple
 from weakref import WeakKeyDictionary, WeakSet
 
 import psycopg
@@ -20,7 +21,8 @@ from sagas.definition.saga import Saga
 from sagas.definition.shape import Shape
 from sagas.definition.start_options import Deadline, deadline_at
 from sagas.runtime import relocation
-from sagas.storage.postgresql import caller_connection, connections
+from sagas.storage import codec_note
+from sagas.storage.postgresql import caller_connection, connections, notifications, replication
 
 if TYPE_CHECKING:
     from sagas.storage.postgresql.connections import Row
@@ -29,15 +31,12 @@ Connection = psycopg.AsyncConnection[Any]
 AskDatabase = Callable[[Coroutine[Any, Any, list["Row"]]], list["Row"]]
 
 START = """
-WITH given AS (SELECT %(key)s::text AS key, %(saga)s::text AS saga, %(version)s::integer AS version,
-  %(input)s::text AS input, %(digest)s::text AS digest, %(labels)s::jsonb AS labels,
-  %(deadline)s::double precision AS deadline, %(traceparent)s::text AS traceparent),
-told AS (SELECT pg_notify('sagas_nodes', 'starts'))
 INSERT INTO sagas.pending_starts(
   key, saga, version, input, digest, labels, deadline, traceparent, at)
-SELECT key, saga, version, input, digest, labels, deadline, traceparent,
+SELECT %(key)s::text, %(saga)s::text, %(version)s::integer, %(input)s::text, %(digest)s::text,
+  %(labels)s::jsonb, %(deadline)s::double precision, %(traceparent)s::text,
   extract(epoch FROM clock_timestamp())
-FROM given, told
+WHERE %(encodes)s OR NOT EXISTS (SELECT 1 FROM sagas.secrets WHERE name = 'codec')
 ON CONFLICT (key) DO NOTHING RETURNING id
 """
 THERE = """
@@ -47,13 +46,18 @@ FROM sagas.pending_starts
 WHERE key = %(key)s AND id <> ALL(%(own)s::bigint[])
 """
 RENEW = """
-WITH told AS (SELECT pg_notify('sagas_nodes', 'starts'))
-UPDATE sagas.pending_starts SET digest = %(digest)s, refused = NULL FROM told
+UPDATE sagas.pending_starts SET digest = %(digest)s, refused = NULL
 WHERE key = %(key)s AND version = %(version)s AND node IS NULL RETURNING id
 """
 """A start that no node has taken has the definition of who starts it last. One that was refused is
 taken again."""
+NOTED = "SELECT 1 FROM sagas.secrets WHERE name = 'codec'"
 BACK = "DELETE FROM sagas.pending_starts WHERE id = ANY(%(own)s::bigint[])"
+TELL = f"SELECT pg_notify('{notifications.CHANNEL}', '{notifications.STARTS}')"
+"""In the caller's transaction, which only its commit ends. One of the client's own is told of
+behind its commit: a commit that tells holds a lock over the whole server, also while it waits for
+a standby."""
+UNSURE = "It is unknown whether the saga was started. Start it again, with the same key"
 
 
 def is_renewed(words: dict[str, Any], rows: list[Row]) -> bool:
@@ -73,9 +77,22 @@ def check_same(words: dict[str, Any], rows: list[Row]) -> None:
             raise error
 
 
-async def start(link: Connection, words: dict[str, Any]) -> bool:
+class Written(NamedTuple):
+    """What a start did: whether its row is there, and whether the nodes are to be told."""
+
+    is_new: bool
+    tells: bool
+
+
+def check_written(words: dict[str, Any], noted: list[Row]) -> None:
+    """Raises `MissingCodec` where nothing was written because values have to be encoded."""
+    if noted and not words["encodes"]:
+        raise codec_note.missing(words["path"])
+
+
+async def start(link: Connection, words: dict[str, Any]) -> Written:
     """A row, and then a look whether another has the key: in this order, so that no start of the
-    same key can pass unseen. Whether the row is there.
+    same key can pass unseen. What is there may be of a commit that no standby has yet.
     """
     own = await caller_connection.rows(link, START, words)
     rows = await caller_connection.rows(
@@ -84,12 +101,17 @@ async def start(link: Connection, words: dict[str, Any]) -> bool:
     if rows and own:
         await psycopg.AsyncCursor(link).execute(BACK, {"own": [id for (id,) in own]})
     check_same(words, rows)
-    if is_renewed(words, rows):
+    if not (own or rows):
+        check_written(words, await caller_connection.rows(link, NOTED, words))
+    if renewed := is_renewed(words, rows):
         await caller_connection.rows(link, RENEW, words)
-    return bool(own) and not rows
+    if not own:
+        await psycopg.AsyncCursor(link).execute(replication.REPLICATED)
+    is_new = bool(own) and not rows
+    return Written(is_new, is_new or renewed)
 
 
-def start_now(link: psycopg.Connection[Any], words: dict[str, Any]) -> bool:
+def start_now(link: psycopg.Connection[Any], words: dict[str, Any]) -> Written:
     """As `start`, where it stands."""
     own = caller_connection.rows_now(link, START, words)
     rows = caller_connection.rows_now(
@@ -98,9 +120,39 @@ def start_now(link: psycopg.Connection[Any], words: dict[str, Any]) -> bool:
     if rows and own:
         psycopg.Cursor(link).execute(BACK, {"own": [id for (id,) in own]})
     check_same(words, rows)
-    if is_renewed(words, rows):
+    if not (own or rows):
+        check_written(words, caller_connection.rows_now(link, NOTED, words))
+    if renewed := is_renewed(words, rows):
         caller_connection.rows_now(link, RENEW, words)
-    return bool(own) and not rows
+    if not own:
+        psycopg.Cursor(link).execute(replication.REPLICATED)
+    is_new = bool(own) and not rows
+    return Written(is_new, is_new or renewed)
+
+
+class StartTeller:
+    """Tells the nodes of starts that are committed. Those that come while it does are told of
+    together; a node looks by itself as well, each second.
+    """
+
+    def __init__(self, asker: connections.Asker) -> None:
+        self._asker, self._has_more, self._tells = asker, False, False
+
+    def tell(self) -> None:
+        """There is a start."""
+        self._has_more = True
+        if not self._tells:
+            self._tells = True
+            self._asker.spawn(self._tell())
+
+    async def _tell(self) -> None:
+        try:
+            while self._has_more:
+                self._has_more = False
+                with contextlib.suppress(StoreUnavailable):
+                    await self._asker.ask(notifications.SAY, words=[notifications.STARTS])
+        finally:
+            self._tells = False
 
 
 class ClientStarter:
@@ -110,6 +162,7 @@ class ClientStarter:
         self._payloads, self._tracer = payloads, tracing.tracer()
         self._asker, self._path, self._most = asker, path, most
         self._digests: WeakKeyDictionary[Saga, str | None] = WeakKeyDictionary()
+        self._teller = StartTeller(asker)
         self._checked: WeakSet[caller_connection.Given] = WeakSet()
         """connections that were given, and are to the store's database"""
 
@@ -127,11 +180,12 @@ class ClientStarter:
         if saga not in self._digests:  # its definition is whole by now
             self._digests[saga] = digest_of(definition_text.declared(saga)) if saga.parts else None
         about = {"key": key, "saga": saga.name, "version": saga.version, "of": saga}
-        plain = serialization.write(input, "input")
+        plain = serialization.write_value(input, "input")
         if saga.is_shaped:
             shape_text.write(Shape(saga, plain))  # what raises here would be refused by the nodes
         text = self._payloads.encode(plain)
-        about["payloads"] = self._payloads
+        about |= {"payloads": self._payloads, "path": self._path}
+        about["encodes"] = self._payloads.codec is not None
         about["traceparent"] = tracing.of_start(self._tracer, traceparent)
         at = deadline_at(saga.deadline if deadline is None else deadline, time.time())
         digest = self._digests[saga]
@@ -146,9 +200,12 @@ class ClientStarter:
             if store:
                 found = await caller_connection.rows(connection, caller_connection.HERE, {})
                 caller_connection.check_database(connection, found, store, self._path)
-            new = await start(connection, words)
+            async with caller_connection.savepoint(connection):
+                written = await start(connection, words)
+                if written.tells:
+                    await psycopg.AsyncCursor(connection).execute(TELL)
         self._checked.add(connection)
-        return new
+        return written.is_new
 
     def start_now(
         self, words: dict[str, Any], connection: psycopg.Connection[Any], ask: AskDatabase
@@ -159,9 +216,12 @@ class ClientStarter:
             if store:
                 found = caller_connection.rows_now(connection, caller_connection.HERE, {})
                 caller_connection.check_database(connection, found, store, self._path)
-            new = start_now(connection, words)
+            with caller_connection.savepoint_now(connection):
+                written = start_now(connection, words)
+                if written.tells:
+                    psycopg.Cursor(connection).execute(TELL)
         self._checked.add(connection)
-        return new
+        return written.is_new
 
     async def _alone(self, words: dict[str, Any]) -> bool:
         """A start in a transaction of its own. Connections that the server has ended meanwhile are
@@ -170,14 +230,18 @@ class ClientStarter:
             try:
                 return await self._asker.whole(self._begin(words))
             except StoreUnavailable as error:
+                if isinstance(error.__cause__, (TimeoutError, psycopg.errors.QueryCanceled)):
+                    raise StoreUnavailable(f"{error}. {UNSURE}") from error.__cause__
                 if not (left and connections.was_cut(error)):
                     raise
         raise AssertionError
 
     async def _begin(self, words: dict[str, Any]) -> bool:
-        with connections.faults(self._path):
-            async with self._asker.pool.connection() as link, link.transaction():
-                return await start(link, words)
+        async with self._asker.connection() as link, link.transaction():
+            written = await start(link, words)
+        if written.tells:
+            self._teller.tell()
+        return written.is_new
 
     async def database(self) -> list[Row]:
         """Which database the store is in; nothing where this role may not know."""

@@ -7,6 +7,7 @@ import contextlib
 from collections.abc import Iterable
 from typing import Any
 
+from sagas.api.repeated_reports import check_again
 from sagas.api.saga_lookup import SagaLookup
 from sagas.api.store_access import StoreAccess
 from sagas.base.errors import (
@@ -84,7 +85,9 @@ class Commands:
         if isinstance(request, int):
             raise Moved(f"saga {row.key!r}")
         value = serialization.write(told) if request is None else request[2]
-        return operator_requests.told(await self._access.inside.store.ask(row, what, value))
+        inside = self._access.inside
+        answer = await inside.store.ask(row, what, value, inside.shelf.payloads)
+        return operator_requests.told(answer)
 
     async def report(
         self, key: str, step: str, outcome: Outcome, undo: bool, request: Wanted,
@@ -233,12 +236,12 @@ class Commands:
         """Stores a report of a step that has not begun. Raises `StepNotWaiting`, or `Moved` where
         that is to be looked at again."""
         inside, key, step = self._access.inside, live.key, live.kind.names[word[0]]
+        first = early_reports.stored(live, word)
         why = early_reports.refusal(live, *word) if early else early_reports.NOT_STARTED
-        if why is not None:
+        if why is not None and first is None:
             if live.shard is not None and live.committed:
                 await inside.executor.early.put(Refusal(live))
             raise StepNotWaiting(f"saga {key!r}, step {step!r}: {why}")
-        first = early_reports.stored(live, word)
         if first is not None:
             if (kept := inside.executor.early.waiting(live, word)) is not None:
                 await asyncio.shield(kept)
@@ -267,12 +270,9 @@ class Commands:
         """Of a saga that is over: raises `StepNotWaiting` where it was not said before that the
         step ended so."""
         inside = self._access.inside
-        rows = await inside.store.read(step_reports.RESULTS, row.id)
         names = inside.shelf.kind((await inside.store.known(row)).definition).names
-        first = step_reports.first_of(rows, names.index(step), kind) if step in names else None
-        if first is None:
-            raise step_reports.over(row)
-        step_reports.check(row.key, step, first, outcome, payloads=inside.shelf.payloads)
+        payloads = inside.shelf.payloads
+        await check_again(inside.store.read, row, names, (step, kind), outcome, payloads)
 
 
 def _over(live: SagaInstance, rows: Iterable[tuple[Any, ...]], word: Word) -> str | None:

@@ -11,7 +11,6 @@ from sagas.api.schedules import Schedules
 from sagas.api.store_access import StoreAccess
 from sagas.base import program
 from sagas.base.errors import NoSuchSaga
-from sagas.core import history
 from sagas.core.batch import SagaRow
 from sagas.core.progress import active_attempts
 from sagas.core.results import ActiveAttempt, HistoryEvent, SagaResult, UnknownAttempt
@@ -96,8 +95,8 @@ class Questions(Schedules):
             StoreUnavailable: The database does not answer.
             Closed: The store is closed.
         """
-        found = await self._answer(one_saga.log((await self._row(key))))
-        return history.decoded(found, self._access.inside.shelf.payloads)
+        read = self._access.inside.shelf.payloads.read
+        return await self._answer(one_saga.log(await self._row(key), read))
 
     async def plan(self, key: str) -> Plan | None:
         """Return a saga's last plan, with its certificate.

@@ -78,10 +78,11 @@ class SagaLookup:
         if live is not None:  # as most are: it is driven here
             try:
                 await inside.sagas.ends.wait(live)
-                return history.end_of_live(live)
+                if live.is_whole:
+                    return history.end_of_live(live)
             except Moved:
                 pass
-        over = await self.over(key)
+        over = await self.whole(key)
         if isinstance(over, SagaInstance):
             return history.end_of_live(over)
         return await retries.until_answered(functools.partial(self._end_of, over))
@@ -91,6 +92,16 @@ class SagaLookup:
         known = await inside.store.known(row)
         kind = inside.shelf.kind(known.definition)
         return history.end_of(kind, row, known.results, known.shape)
+
+    async def whole(self, key: str) -> SagaInstance | SagaRow:
+        """As `over`; the row of a saga of which large values are not held."""
+        while True:
+            over = await self.over(key)
+            if isinstance(over, SagaRow) or over.is_whole:
+                return over
+            row = await retries.until_answered(lambda: self.row(key))
+            if row.phase is not None:
+                return row
 
     async def over(self, key: str) -> SagaInstance | SagaRow:
         """Waits until a saga is over: one that was driven here, or its row."""

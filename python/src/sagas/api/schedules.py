@@ -55,7 +55,7 @@ class Schedules(Batches):
         is, also if it is paused. A start that is on its way keeps the previous input.
 
         Args:
-            name: The schedule's name: 1 to 128 printable characters without `@`.
+            name: The schedule's name: 1 to 128 printable characters, without `@` and `/:`.
             saga: The definition.
             input: What its steps read as `task.input` (default: None).
             cron: Minute, hour, day of month, month and day of week, for example `0 2 * * *`.
@@ -79,7 +79,7 @@ class Schedules(Batches):
         validation.check_given(saga)
         when = timing.timing(cron, every, timezone, catch_up)
         having = json.dumps(dict(checked(labels)))
-        location, text = self._location(), serialization.write(input, "input")
+        location, text = self._location(), serialization.write_value(input, "input")
         self._check_input(saga, text)
         words = (saga.name, saga.version), text, having, when, self._now(), self._stored()
         await beside(location, lambda link: schedules_module.Schedules(link).put(name, *words))

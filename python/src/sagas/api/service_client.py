@@ -322,7 +322,7 @@ class ServiceClient:
             InvalidKey: The key is not valid.
         """
         if key is not None:
-            arguments.key(key)
+            arguments.key(key, or_child=True)
         query = _given(key=key, definition=None if saga is None else _name("saga", saga))
         path = f"/v1/events?{urllib.parse.urlencode(query)}"
         stream = ServiceEvents(self._service, path, last_event_id, self.timeout)
@@ -371,7 +371,7 @@ class ServiceClient:
 
 
 def _path(key: str, *rest: str) -> str:
-    arguments.key(key)
+    arguments.key(key, or_child=True)
     return "/".join(["/v1/sagas", *(urllib.parse.quote(part, safe="") for part in (key, *rest))])
 
 

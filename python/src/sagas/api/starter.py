@@ -11,7 +11,8 @@ from sagas.api.store_access import StoreAccess
 from sagas.base.errors import Closed, KeyConflict, StoreUnavailable
 from sagas.core.model import SagaInstance
 from sagas.definition import arguments, children, serialization, start_options
-from sagas.definition.labels import Labels, checked
+from sagas.definition.labels import Labels, checked, with_token
+from sagas.definition.payloads import ABSENT
 from sagas.definition.saga import Saga
 from sagas.definition.shelf import Fitted, Shelf
 from sagas.definition.start_options import Deadline, StartOptions, deadline_at
@@ -34,28 +35,32 @@ class Starter:
 
     def start(
         self, saga: Saga, key: str, input: Any, labels: Labels | None, deadline: Deadline | None,
-        traceparent: str | None = None,
+        traceparent: str | None = None, token: str | None = None,
     ) -> Begun:  # fmt: skip
-        """Starts a saga. Whether this start began it."""
+        """Starts a saga. Whether this start began it. `token`: the name of a service's token."""
         inside = self._access.here()
         arguments.key(key)
-        text = serialization.write(input, "input")
+        text = serialization.write_value(input, "input")
         fitted = self._shelf.fit(saga, text)
         if saga.has_children:
             children.check_key(key, saga)
         shape, options = fitted.shape, start_options.NONE
         if deadline is None:
             deadline = saga.deadline
-        if not (labels is None and deadline is None and shape is None and traceparent is None):
-            time = deadline_at(deadline, inside.clock())
-            options = StartOptions(checked(labels), time, None, shape, traceparent)
+        given = (labels, deadline, shape, traceparent, token)
+        if any(word is not None for word in given):
+            time, told = deadline_at(deadline, inside.clock()), checked(labels)
+            told = told if token is None else with_token(told, token, len(text))
+            options = StartOptions(told, time, None, shape, traceparent)
         return self._start(inside, saga, fitted, key, text, options, self.accepts_new)
 
     def start_child(self, saga: Saga, key: str, input: Any, options: StartOptions) -> Begun:
         """Starts a child, also where the store starts no new sagas: its parent is not new."""
         inside = self._access.here()
-        arguments.key(key)
-        text = serialization.write(input, "input")
+        arguments.key(key, or_child=True)
+        # the input of a saga that undoes a child has the child's results
+        write = serialization.write if saga.undoes else serialization.write_value
+        text = write(input, "input")
         fitted = self._shelf.fit(saga, text)
         if fitted.shape is not None:
             options = dataclasses.replace(options, shape=fitted.shape)
@@ -90,6 +95,8 @@ class Starter:
         row = await lookup.find(key) if looks and live is None else None
         live = inside.sagas.by_key.get(key)  # another start of it may have come meanwhile
         there = (live.kind.name, live.text) if live else (row.saga, row.input) if row else None
+        if live and live.text == ABSENT and (row := await inside.store.find(key)):
+            there = row.saga, row.input
         if there:
             error = relocation.conflict(key, kind or saga, text, *there, payloads)
             if error and live and not live.committed and not inside.store.shared:
@@ -113,6 +120,8 @@ class Starter:
             return await self._begin(inside, new, guessed=False)
         if live and not live.committed:
             await inside.sagas.started(live)
+        elif live is None:  # another node wrote it, which may not have heard yet that it is kept
+            await inside.store.replicated()
         return False
 
     async def _begin(self, inside: Coordinator, live: SagaInstance, guessed: bool) -> bool:

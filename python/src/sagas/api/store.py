@@ -113,13 +113,20 @@ class Store(RetryCalls):
         """The definitions that it was opened with."""
         return [*self._shelf.sagas.values()]
 
+    @property
+    def codec(self) -> Codec | None:
+        """What encodes its values; None if nothing does."""
+        return self._shelf.payloads.codec
+
     async def __aenter__(self) -> Store:
         """Open it: take the lock, and go on with each saga that is not over.
 
         Raises:
-            StoreLocked: Another program has the file open.
+            StoreLocked: Another program has the file open. Or a codec was given, and a node
+                without one has the database open.
             StoreUnavailable: The file or the server does not answer.
             InvalidStore: It is no store, or not one that this program can go on from.
+            MissingCodec: Its values are encoded, and no codec was given.
             MissingStep: A saga that is not over needs a step that this program has no function for.
             EngineError: The program `sagas` cannot be started, or refuses a shard.
             RuntimeError: The store is open already.
@@ -259,8 +266,8 @@ class Store(RetryCalls):
 
         Args:
             saga: A definition that was given to `open`.
-            key: The saga's identity, for example an order number: 1 to 512 printable characters. It
-                is taken as long as the saga is kept.
+            key: The saga's identity, for example an order number: 1 to 512 printable characters,
+                without `/:`. It is taken as long as the saga is kept.
             input: What the steps read as `task.input`: JSON, or a value of their type hints
                 (default: None).
             labels: Texts by name, by which lists find the saga: `{"customer": "7"}` (default:
@@ -289,8 +296,15 @@ class Store(RetryCalls):
             Closed: The store is closed, or was opened with `accept_new=False`.
             RuntimeError: The call is made in another event loop.
         """
+        return await self._start(None, saga, key, input, labels, deadline, traceparent)
+
+    async def _start(
+        self, token: str | None, saga: Saga, key: str, input: Any, labels: Labels | None,
+        deadline: Deadline | None, traceparent: str | None,
+    ) -> Run:  # fmt: skip
+        """As `start`; `token`: of a service, the name of the token that starts it."""
         trace = tracing.of_start(self._tracer, traceparent)
-        new = await self._starter.start(saga, key, input, labels, deadline, trace)
+        new = await self._starter.start(saga, key, input, labels, deadline, trace, token)
         return Run(self, key, new)
 
     def _check_input(self, saga: Saga, text: str) -> None:

@@ -66,6 +66,11 @@ class SyncClient(Facade[Client]):
         remedy = "is not open. Use `with sagas.SyncClient(...) as client`"
         super().__init__(client, Loop(client.path, "the client", remedy))
 
+    @property
+    def codec(self) -> Codec | None:
+        """What encodes values; None if nothing does."""
+        return self._inner.codec
+
     def __enter__(self) -> SyncClient:
         self._loop.start()
         try:

@@ -13,6 +13,7 @@ from sagas.api.run import Run
 from sagas.api.store import Store
 from sagas.core.results import SagaResult
 from sagas.definition.labels import Labels
+from sagas.definition.payloads import Codec
 from sagas.definition.saga import Saga
 from sagas.definition.start_options import Deadline
 from sagas.definition.step import Seconds
@@ -54,6 +55,11 @@ class SyncStore(Facade[Store]):
     def __init__(self, store: Store) -> None:
         remedy = "is not open, or was closed. Use `with sagas.open_sync(...) as store`"
         super().__init__(store, Loop(store.path, "the store", remedy))
+
+    @property
+    def codec(self) -> Codec | None:
+        """What encodes values; None if nothing does."""
+        return self._inner.codec
 
     def __enter__(self) -> SyncStore:
         self._loop.start()

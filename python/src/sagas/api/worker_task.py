@@ -154,7 +154,7 @@ def _outcome(
             told["final"] = True
         return ("unknown" if kind is outcomes.UNKNOWN else "fail"), told, error
     try:
-        return "complete", {"result": json.loads(serialization.write(result))}, None
+        return "complete", {"result": json.loads(serialization.write_value(result))}, None
     except NotSerializable as error:
         logger.warning("a result could not be stored: %s", error)
         return "complete", unstorable(str(error)), None

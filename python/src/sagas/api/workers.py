@@ -102,6 +102,23 @@ class Workers:
         """
         await self._access.inside.external.give_back(tasks, holder)
 
+    async def set_aside(self, task: LeasedTask, why: str, *, holder: str = "") -> None:
+        """Set a claimed task aside whose values cannot be read or written.
+
+        Nothing of it has failed. It waits for a program that can read it, or for an operator, and
+        is listed by `Store.attention`.
+
+        Args:
+            task: One that `claim` returned.
+            why: What is wrong with it, without a value.
+            holder: As given to `claim`.
+
+        Raises:
+            InvalidLease: The lease was not issued for this task to this holder.
+            Closed: The store is closed.
+        """
+        await self._access.inside.external.set_aside(task, holder, why)
+
     async def report(
         self,
         attempt_id: str,

@@ -17,7 +17,8 @@ SagasError
 |   |-- MissingStep           this program has no function for a step that goes on
 |   |-- WrongStore            a worker reports into another store
 |   |-- InvalidStore          it is no store
-|   |   `-- StoreSchemaTooNew it is of a later release
+|   |   |-- StoreSchemaTooNew it is of a later release
+|   |   `-- MissingCodec      its values are encoded, and no codec was given
 |   |-- InvalidSchedule       a schedule is not well made (a ValueError, too)
 |   |-- InvalidLease          the lease was not issued for this task
 |   |-- TooLarge              a saga has too many steps or needs for its input
@@ -62,7 +63,10 @@ class DefinitionError(InvalidError):
 
 
 class StoreLocked(TemporaryError):
-    """Another program has this file open. Close it first, or use PostgreSQL."""
+    """Another program has this file open. Close it first, or use PostgreSQL.
+
+    Over PostgreSQL: a codec was given, and a node without one has the store open.
+    """
 
 
 class StoreUnavailable(TemporaryError):
@@ -79,6 +83,14 @@ class InvalidStore(InvalidError):
 
 class StoreSchemaTooNew(InvalidStore):
     """A later release changed the store's tables. Use that release, or a later one."""
+
+
+class MissingCodec(InvalidStore):
+    """The values of this store are encoded, and this program has no codec.
+
+    Nothing was written. A store is noted as encoded when a program with `codec=` opens it for the
+    first time. Give the same codec to every program that opens it.
+    """
 
 
 class Lost(SagasError):
@@ -184,7 +196,7 @@ class NotSerializable(InvalidError, TypeError):
 
 
 class InvalidKey(NotSerializable):
-    """The key is not a text of 1 to 512 printable characters."""
+    """The key is not a text of 1 to 512 printable characters, or is a child's (`/:`)."""
 
 
 class InvalidInput(NotSerializable):
@@ -227,20 +239,28 @@ class StepFailed(SagasError):
 
 
 class CannotDecode(InvalidError):
-    """A stored input or result does not fit the type of a hint in this program.
+    """A stored input or result does not fit the type of a hint, or cannot be decoded.
 
     The message names the place, but not the value. The attempt waits, and nothing is compensated:
     see `Store.attention`. It goes on when a program that can read the value opens the store. Give a
-    new field a default, for example. Do not catch this in a step's function.
+    new field a default, for example, or give the program the codec. Do not catch this in a step's
+    function.
     """
 
     __module__ = "sagas"
 
 
 class EngineError(SagasError):
-    """The program `sagas` cannot be started, or refuses a shard.
+    """The program `sagas` cannot be started, or ends while it opens a shard.
 
     The message is its last line; the reference of errors has the remedy.
+    """
+
+
+class DamagedShard(EngineError):
+    """The engine refuses the stored data of one shard, or the data contradicts itself.
+
+    The store sets the shard aside and serves the others.
     """
 
 

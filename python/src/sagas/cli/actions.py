@@ -8,16 +8,22 @@ import time
 from collections.abc import Sequence
 from typing import Any
 
+from sagas.base.errors import CannotDecode, ConflictingReport
+from sagas.cli.app_option import payloads_of
 from sagas.cli.batches import WAITS, abort_all, check_keys, filter_of, show_count
 from sagas.cli.formatting import GOOD, NO, complain, show_json
 from sagas.cli.snapshot import Snapshot
+from sagas.core import step_reports
+from sagas.core.outcomes import reported
 from sagas.core.states import Suspension
+from sagas.definition.payloads import ENVELOPE
+from sagas.definition.serialization import TOO_DEEP, is_deeper
 from sagas.definition.validation import meant
 from sagas.inspection import lists
 from sagas.inspection.names import step_names
 from sagas.inspection.views import Waits
 from sagas.runtime.operator_commands import words_of
-from sagas.storage import admin, factory
+from sagas.storage import admin, codec_note, factory
 from sagas.storage.admin import Trouble
 from sagas.storage.batches import Batch
 from sagas.storage.operator_requests import reason
@@ -35,6 +41,8 @@ def ask(path: str, key: str, what: str, value: Any, timeout: float) -> tuple[Any
     where none has come yet, and whether a program has the store.
     """
     with admin.writing(path) as link:
+        if what in ("complete", "fail") and is_repeated(link, key, what, value):
+            return True, True
         of = what_is_asked(link, key, what, value)
         if of is None:
             return WITHDRAWN, True
@@ -82,6 +90,31 @@ def what_is_asked(link: admin.Source, key: str, what: str, value: Any) -> int | 
     if what in ("complete", "fail", "retry"):
         check_step(link, key, id, value["step"])
     return int(id)
+
+
+def is_repeated(link: admin.Source, key: str, what: str, value: Any) -> bool:
+    """Whether a saga is over, and this was reported of its step before. Raises `Trouble` where
+    another outcome was."""
+    for id, phase in link.ask(SAGA, key):
+        names = step_names(str(link.ask(DEFINITION, id)[0][0]))
+        if phase == "open" or value["step"] not in names:
+            return False
+        place, kind = names.index(value["step"]), value["kind"]
+        first = step_reports.first_of(link.ask(step_reports.RESULTS, id), place, kind)
+        first = first or step_reports.early_of(link.ask(step_reports.EARLY, id, place, kind))
+        if first is None or ENVELOPE.match(first.value):  # it cannot be compared here
+            return False
+        outcome = reported(value.get("result"), value["error"] if what == "fail" else None)
+        try:
+            step_reports.check(key, value["step"], first, outcome)
+        except ConflictingReport as error:
+            if phase == "stuck":  # which says what to do
+                return False
+            raise Trouble(str(error)) from None
+        except CannotDecode:
+            return False
+        return True
+    return False
 
 
 def check_step(link: admin.Source, key: str, id: int, step: str) -> None:
@@ -138,13 +171,19 @@ def complete(path: str, words: argparse.Namespace) -> int:
     With --all, report it of each step whose attempts are used up. The program that executes the
     saga takes the report, now or when it opens the store.
     """
+    if is_deeper(words.result):
+        raise Trouble(f"--result: {TOO_DEEP}", 2)
     try:
         result = json.loads(words.result)
     except ValueError as error:
         told = f"--result is not JSON ({error}). Write a text as '\"yes\"'"
         raise Trouble(told, 2) from error
     check_steps(words, "complete")
-    return answer(path, words, "complete", {"result": result}, "succeeded", "not reported")
+    payloads = payloads_of(words)
+    with admin.writing(path) as link:
+        codec_note.check(link, payloads)
+    kept = {"result": payloads.encode_value(result)}
+    return answer(path, words, "complete", kept, "succeeded", "not reported")
 
 
 def fail(path: str, words: argparse.Namespace) -> int:

@@ -25,6 +25,7 @@ NEEDS = {
     AttentionReason.UNKNOWN: "unknown outcome",
     AttentionReason.EXHAUSTED: "attempts used up",
     AttentionReason.CANNOT_DECODE: "cannot be decoded",
+    AttentionReason.DAMAGED: "damaged shard",
 }
 """Why a saga needs a person, in words."""
 
@@ -95,7 +96,8 @@ def stats(path: str, words: argparse.Namespace) -> int:
     undo_failed = asked["undo_failed"]
     persons = sum(asked[why] for why in ("unknown", "exhausted", "cannot_decode", "approval"))
     if words.json:
-        show_json({"sagas": told, "undo_failed": undo_failed, "attention_required": persons})
+        counts = {"undo_failed": undo_failed, "attention_required": persons}
+        show_json({"sagas": told, **counts, "damaged": asked["damaged"]})
         return GOOD
     rows = [(saga, *of.values()) for saga, of in told.items()]
     print(table(["SAGA", *map(str.upper, COUNTED)], rows))
@@ -108,6 +110,8 @@ def stats(path: str, words: argparse.Namespace) -> int:
     if persons:
         wait = "waits" if persons == 1 else "wait"
         said.append(f"{persons} {wait} for a person: {command} pending")
+    if damaged := asked["damaged"]:
+        said.append(f"{damaged} in damaged shards: {command} attention")
     if said:
         print("\n" + "\n".join(said))
     return GOOD

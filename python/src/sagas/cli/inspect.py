@@ -11,6 +11,7 @@ from typing import Any
 
 from sagas.base import program
 from sagas.base.wording import escaped
+from sagas.cli.app_option import read_by
 from sagas.cli.backlog import held_json, show_held
 from sagas.cli.batches import filter_of
 from sagas.cli.formatting import GOOD, lines, moment, short, show_json, table
@@ -88,7 +89,7 @@ def show(path: str, words: argparse.Namespace) -> int:
 
     A step in state `begun` runs, or waits for its turn: only the program that executes it knows.
     """
-    with Snapshot(path) as store:
+    with Snapshot(path, read_by(words)) as store:
         view = store.saga(words.key)
     if words.json:
         show_json(view_json(view) | {"plan": view.plan.answer if view.plan else None})
@@ -176,7 +177,7 @@ def show_steps(view: SagaView) -> None:
 
 def log(path: str, words: argparse.Namespace) -> int:
     """Print the events of a saga, and as `note` what operators did to it."""
-    with Snapshot(path) as store:
+    with Snapshot(path, read_by(words)) as store:
         events = store.saga(words.key).history
     if words.json:
         show_json([dataclasses.asdict(one) for one in events])
@@ -246,7 +247,7 @@ def draw(path: str, words: argparse.Namespace) -> int:
 
 def export(path: str, words: argparse.Namespace) -> int:
     """Print everything that is stored of a saga, as JSON."""
-    with Snapshot(path) as store:
+    with Snapshot(path, read_by(words)) as store:
         view = store.saga(words.key)
     show_json(
         view_json(view)

@@ -43,6 +43,11 @@ def nodes(path: str, words: argparse.Namespace) -> int:
                 [(one["name"], one["open"], ", ".join(one["sagas"])) for one in left],
             )
         )
+    if told["damaged_shards"]:
+        print("\nNo node can open these shards, because their data is damaged:")
+        heads = ["shard", "name", "open", "reason"]
+        damaged = [[one[head] for head in heads] for one in told["damaged_shards"]]
+        print(table([head.upper() for head in heads], damaged))
     if told["starts_without_node"]:
         print("\nNo node has accepted these starts:")
         rows = [

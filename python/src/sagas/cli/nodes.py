@@ -37,6 +37,11 @@ WHERE l.closed = 0 AND NOT EXISTS (SELECT 1 FROM nodes n WHERE n.node = l.owner 
 GROUP BY l.shard, l.name HAVING count(s.id) > 0 ORDER BY l.shard
 """
 """What has no open saga needs no node: whoever comes closes it."""
+DAMAGED = f"""
+SELECT l.shard, l.name, count(s.id), l.audit FROM shards l LEFT JOIN sagas s ON {OPEN}
+WHERE l.closed = 0 AND l.audit IS NOT NULL GROUP BY l.shard, l.name, l.audit ORDER BY l.shard
+"""
+"""The shards that no node can open, and why."""
 STARTS = f"""
 SELECT saga, version, digest, count(*), extract(epoch FROM now()) - min(at), fits, others
 FROM (SELECT i.*, {queries.FITS} AS fits, {queries.OTHERS} AS others FROM pending_starts i
@@ -54,7 +59,8 @@ def is_database(name: str) -> None:
 
 
 def read(name: str) -> dict[str, Any]:
-    """The nodes, and the logs and the starts of clients that none of them has."""
+    """The nodes, the logs and the starts of clients that none of them has, and the logs that none
+    can open."""
     is_database(name)
     link = Base(name, "ro")
     try:
@@ -80,8 +86,15 @@ def read(name: str) -> dict[str, Any]:
                 }
             )
             left.append({"shard": log, "name": word, "sagas": kinds, "open": open})
-        starts = _starts(link)
-        return {"nodes": nodes, "shards_without_node": left, "starts_without_node": starts}
+        damaged = [
+            dict(zip(("shard", "name", "open", "reason"), row)) for row in link.ask(DAMAGED)
+        ]
+        return {
+            "nodes": nodes,
+            "shards_without_node": left,
+            "damaged_shards": damaged,
+            "starts_without_node": _starts(link),
+        }
     finally:
         link.close()
 

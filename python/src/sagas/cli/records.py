@@ -8,7 +8,7 @@ import json
 import pathlib
 import re
 import zlib
-from collections.abc import Callable
+from collections.abc import Callable, Sequence
 from typing import Any
 
 from sagas.base import program
@@ -32,13 +32,15 @@ EVENT = re.compile(r'"saga":(\d+)')
 
 @dataclasses.dataclass
 class Judged:
-    """A shard: how many events its record has, what the program says of it, and what was lost."""
+    """A shard: how many events its record has, what the program says of it, where its event log
+    has gaps, and what was lost. It is good if the program says yes and there is no gap."""
 
     shard: int
     name: str
     events: int
     good: bool
     answer: str
+    gaps: list[str]
     losses: list[Loss]
     ends_lost: list[int]
 
@@ -115,9 +117,11 @@ class Judge:
         record.make(takeovers, chunks, self._timeline, ends)
         if self._folder:
             save(pathlib.Path(self._folder, f"{shard}.record"), record.text())
-        good, answer = self._judge(record.text())
+        is_allowed, answer = self._judge(record.text())
+        gaps = gaps_of(chunks)
+        good = is_allowed and not gaps
         lost = sorted({id for id, _ in seen if id not in over})
-        return Judged(shard, name, record.events, good, answer, record.losses, lost)
+        return Judged(shard, name, record.events, good, answer, gaps, record.losses, lost)
 
     def _chunks(self, shard: int) -> tuple[list[Chunk], dict[int, int]]:
         """Return the chunks of a shard, and for each of its sagas the number of events of the shard
@@ -132,6 +136,18 @@ class Judge:
                     at[int(told[1])] = events
             found.append(Chunk(epoch, first, first + text.count("\n"), number(digest)))
         return found, at
+
+
+def gaps_of(chunks: Sequence[Chunk]) -> list[str]:
+    """Return where a commit does not follow the one before it. A record has the number of chunks
+    alone, so the program cannot tell."""
+    gaps, events = [], 0
+    for chunk in chunks:
+        if chunk.first != events:
+            before = f"the one before ends at {events}"
+            gaps.append(f"a commit follows event {chunk.first}, and {before}")
+        events = chunk.end
+    return gaps
 
 
 def judged(text: str) -> tuple[bool, str]:
@@ -180,8 +196,9 @@ def shown(one: Judged) -> dict[str, Any]:
 
 
 def lost(one: Judged) -> list[str]:
-    """Return what was acknowledged of a shard and does not exist any more."""
-    found = []
+    """Return where a shard has gaps, and what of it was acknowledged and does not exist any
+    more."""
+    found = [f"shard {one.shard}: gap: {gap}" for gap in one.gaps]
     for loss in one.losses:
         last = max(telling.chunks for telling in loss.told)
         edges = ", ".join(sorted({telling.edge for telling in loss.told}))

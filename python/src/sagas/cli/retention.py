@@ -6,6 +6,7 @@ import argparse
 import re
 import sys
 
+from sagas.base.option_values import integer_from
 from sagas.base.wording import number
 from sagas.cli.formatting import CANNOT, GOOD, show_json
 from sagas.runtime import retention
@@ -27,12 +28,18 @@ def age(text: str) -> float:
 
 def words_of_prune(part: argparse.ArgumentParser) -> None:
     """Its options."""
-    part.add_argument(
+    either = part.add_mutually_exclusive_group(required=True)
+    either.add_argument(
         "--older-than",
         type=age,
-        required=True,
         metavar="TIME",
         help="delete sagas that ended at least this long ago, for example 30d or 12h",
+    )
+    either.add_argument(
+        "--damaged-shard",
+        type=integer_from(0),
+        metavar="NUMBER",
+        help="delete all sagas of a shard that no program can open, or whose audit failed",
     )
     part.add_argument(
         "--export",
@@ -47,6 +54,8 @@ def prune(path: str, words: argparse.Namespace) -> int:
     Their keys are free again. One run deletes at most 100,000 sagas.
     """
     try:
+        if words.damaged_shard is not None:
+            return delete(path, words)
         gone = retention.prune(path, words.older_than, words.export)
     except OSError as error:
         raise Trouble(f"cannot write to {words.export}: {error}", CANNOT) from error
@@ -62,4 +71,15 @@ def prune(path: str, words: argparse.Namespace) -> int:
     print(f"deleted {number(gone.sagas, 'saga')} ({shards}){starts}{where}")
     if gone.more:
         print("more sagas are due: run the command again", file=sys.stderr)
+    return GOOD
+
+
+def delete(path: str, words: argparse.Namespace) -> int:
+    """Delete the sagas of a damaged shard."""
+    count = retention.delete_damaged(path, words.damaged_shard, words.export)
+    if words.json:
+        show_json({"shard": words.damaged_shard, "sagas": count})
+        return GOOD
+    where = f", exported to {words.export}" if words.export else ""
+    print(f"deleted {number(count, 'saga')} of shard {words.damaged_shard}{where}")
     return GOOD

@@ -9,8 +9,10 @@ import time
 from collections.abc import Callable
 
 from sagas.base.errors import NoSuchSchedule
+from sagas.cli.app_option import read_by, words_of_app
 from sagas.cli.formatting import GOOD, moment, show_json, table
 from sagas.cli.snapshot import Snapshot
+from sagas.definition.serialization import write as written
 from sagas.inspection import lists
 from sagas.storage import admin
 from sagas.storage.admin import Trouble
@@ -27,6 +29,7 @@ def words_of_schedules(part: argparse.ArgumentParser) -> None:
     """The options of `schedules`."""
     part.add_argument("change", nargs="?", choices=[*CHANGES], help="what to do with NAME")
     part.add_argument("name", metavar="NAME", nargs="?", help="the schedule's name")
+    words_of_app(part)
 
 
 def schedules(path: str, words: argparse.Namespace) -> int:
@@ -46,6 +49,8 @@ def schedules(path: str, words: argparse.Namespace) -> int:
     with Snapshot(path) as store:
         found = store.ask(lists.schedules())
     if words.json:
+        read = read_by(words)
+        found = [dataclasses.replace(one, input=read(written(one.input))) for one in found]
         show_json([dataclasses.asdict(one) for one in found])
     else:
         rows = [(one.name, one.saga, when(one), *times(one), one.error or "") for one in found]

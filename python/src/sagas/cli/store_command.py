@@ -16,6 +16,7 @@ from sagas.base.errors import SagasError
 from sagas.base.option_values import not_negative
 from sagas.cli import nodes as nodes_module
 from sagas.cli.actions import abort, complete, fail, retry
+from sagas.cli.app_option import words_of_app
 from sagas.cli.audits import audit
 from sagas.cli.backlog import attention, definitions, pending, stats, stuck
 from sagas.cli.batches import resolve, words_of_filter, words_of_limit
@@ -116,7 +117,7 @@ def parser() -> argparse.ArgumentParser:
     add("nodes", nodes)
     add("migrate", migrate)
     nodes_module.words_of_role(add("init", init))
-    add("export", export, key=True)
+    words_of_app(add("export", export, key=True))
     words_of_prune(add("prune", prune))
     return top
 
@@ -136,8 +137,8 @@ def add_looks(add: Add) -> None:
     part.add_argument("--after", metavar="KEY", help="continue after the saga with this key")
     part.add_argument("--newest", action="store_true", help="list the newest first")
     words_of_limit(part, "sagas")
-    add("show", show, key=True)
-    add("log", log, key=True)
+    words_of_app(add("show", show, key=True))
+    words_of_app(add("log", log, key=True))
     add("plan", plan, key=True).add_argument(
         "--text", action="store_true", help="print it in the form that `sagas` reads to check it"
     )
@@ -175,7 +176,7 @@ def add_asks(add: Add) -> None:
     )
     add_note(part)
     add_timeout(part)
-    part = add("complete", complete)
+    part = words_of_app(add("complete", complete))
     add_steps(part, "complete")
     add_early(part)
     part.add_argument(

@@ -11,12 +11,13 @@ from typing import Any
 
 from sagas.base.errors import CannotDecode, Fail
 from sagas.core import early_reports
-from sagas.core.collection import collected, has_nothing_to_undo
+from sagas.core.collection import collected, has_nothing_to_undo, is_unclear
 from sagas.core.decisions import (
     CALL,
     FOLLOW,
     NOTHING,
     OFFER,
+    READ,
     REPORT,
     REPORT_AGAIN,
     SLEEP,
@@ -98,11 +99,14 @@ class AttemptMachine:
             now: Wall time in seconds.
 
         Returns:
-            `CALL`, `OFFER`, `SUSPEND`, or `REPORT` where it is given up without a call.
+            `CALL`, `OFFER`, `SUSPEND`, or `REPORT` where it is given up without a call. `READ`
+            where that rests on values that are not held; then `has_values` is asked.
         """
         instance = attempt.instance
         if is_simple(attempt):
             return CALL
+        if is_unclear(attempt):
+            return READ
         if has_nothing_to_undo(attempt):
             return self.finish(attempt, Outcome(OutcomeKind.SUCCEEDED, "null"), now)
         if attempt.word in instance.rare.final:
@@ -126,7 +130,7 @@ class AttemptMachine:
         """
         if attempt.state is FINISHED:
             return REPORT_AGAIN
-        if attempt.pending and attempt.state is not RUNNING:
+        if attempt.pending and (attempt.state is not RUNNING or attempt.is_remote):
             return self._put_again(attempt, attempt.pending)
         if attempt.reason is Suspension.EXTERNAL and attempt.manner.external:
             attempt.suspend(Suspension.EXTERNAL)
@@ -149,7 +153,7 @@ class AttemptMachine:
 
     def _put_again(self, attempt: Attempt, row: SuspensionRow) -> Decision:
         """The row was on its way to the store, and is not known to be there."""
-        if attempt.state is QUEUED:
+        if attempt.state in (QUEUED, RUNNING):
             return Decision(Do.NOTHING, row)
         attempt.suspend(row.reason, None if row.reason is Suspension.CANNOT_DECODE else row.until)
         return Decision(Do.SUSPEND, row, timer=row.reason in RETRIED)
@@ -182,12 +186,18 @@ class AttemptMachine:
             attempt.has_row = True  # an earlier attempt's
             return CALL
         if due is None:
+            if callable(step.until) and attempt.lacks():
+                return READ
             try:
                 due = due_time(step, attempt, now)
             except Exception as error:
                 return self._without(attempt, error, now)
         rare.due[attempt.word] = until = max(due, 1.0)
         return self._suspend(attempt, Suspension.TIMER, until, now)
+
+    def has_values(self, attempt: Attempt, now: float) -> Decision:
+        """Decide how one goes on of which this said `READ` other than `limit`."""
+        return self.begin(attempt, now)
 
     def _without(self, attempt: Attempt, error: Exception, now: float) -> Decision:
         """A function that says something of it has raised this: its own is not called."""
@@ -202,9 +212,14 @@ class AttemptMachine:
         """Decide by which key the limits of a step count one that may be called.
 
         Returns:
-            `CALL`; or as `ended`, if the function that says the key has raised.
+            `CALL`; or as `ended`, if the function that says the key has raised; or `READ`, and then
+            this is asked again.
         """
-        if attempt.undo or attempt.declared.concurrency_by is None:
+        is_keyed = not attempt.undo and attempt.declared.concurrency_by is not None
+        is_fair = attempt.instance.kind.fair_by is not None
+        if (is_keyed or (is_fair and attempt.instance.rare.tenant is None)) and attempt.lacks():
+            return READ
+        if not is_keyed:
             return CALL
         try:
             attempt.rare.limit_key = attempt.rare.limit_key or limit_key(attempt)
@@ -290,6 +305,7 @@ class AttemptMachine:
             called again, and where a person or another program has to go on.
         """
         kind = outcome.kind
+        attempt.fresh = False  # also where the worker got it from another node
         if kind is OutcomeKind.UNKNOWN:
             return self._unknown(attempt, outcome, now)
         if kind is OutcomeKind.CANNOT_DECODE:
@@ -362,11 +378,12 @@ class AttemptMachine:
     def drain(self, instance: SagaInstance, now: float) -> Decisions:
         """Let a saga drain, so that it can be planned: what waits and was not called is given up,
         and what waits for its back-off goes on now. If it was planned meanwhile, nothing is to be
-        done.
+        done. Asked once the commit is answered that has why it drains.
         """
         found: Decisions = []
         if not instance.draining:
             return found
+        instance.rare.drains = True
         for attempt in list(instance.busy.values()):
             if attempt.state is SUSPENDED and attempt.reason is Suspension.EXTERNAL:
                 if self._may_leave(attempt):  # unless a worker has it by now
@@ -378,6 +395,8 @@ class AttemptMachine:
                 found.append((attempt, FOLLOW))  # which aborts the child, where that is meant
             elif attempt.state is not SUSPENDED or attempt.undo:
                 continue
+            elif attempt.reason is Suspension.EXHAUSTED and not instance.aborted:
+                continue  # a person was asked, and may have done it by hand
             elif attempt.outcome and attempt.reason in FAILED_BEFORE:
                 found.append((attempt, self.finish(attempt, attempt.outcome, now)))
             elif attempt.until is not None and attempt.reason in COUNTED:

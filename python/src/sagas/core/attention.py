@@ -30,6 +30,9 @@ class AttentionReason(enum.StrEnum):
     CANNOT_DECODE = "cannot_decode"
     """No program could read a stored value. Open the store with one that can, or report the outcome
     by `Store.complete`."""
+    DAMAGED = "damaged"
+    """The stored data of its shard is damaged, and no program can open the shard. The saga does
+    not go on until the shard is repaired or deleted."""
 
 
 @dataclasses.dataclass(frozen=True, slots=True)
@@ -40,11 +43,12 @@ class Attention:
         key: The saga's key.
         saga: The saga's name.
         why: The reason.
-        step: The step; of a stuck saga, the last of the blocking steps.
+        step: The step; of a stuck saga, the last of the blocking steps; None if its shard is
+            damaged.
         undo: Whether the step's compensation is meant.
         detail: What was raised or cannot be read; of a stuck saga, the blocking steps and what
             the step raised.
-        since: Wall time, in seconds since 1970.
+        since: Wall time, in seconds since 1970; of a damaged shard, of its last commit.
     """
 
     key: str

@@ -38,6 +38,23 @@ Offer = tuple[
 `external_attempts`"""
 Cancelled = tuple[str, int]
 """why, id: of a saga that is to be undone"""
+
+
+@dataclasses.dataclass(eq=False, slots=True)
+class Withdrawal:
+    """An attempt that no worker is to get any more.
+
+    Attributes:
+        attempt: Its id.
+        shard: The number of its shard.
+        is_done: Whether the commit found that no worker has it; written by the commit.
+    """
+
+    attempt: str
+    shard: int
+    is_done: bool = False
+
+
 OpenRow = tuple[int, str, int, str, Optional[float], Optional[str], Optional[str]]
 """id, key, def, input, deadline, traceparent, shape: of a saga that is open"""
 Shape = tuple[int, str]
@@ -83,6 +100,8 @@ class Rare:
     suspended: list[tuple[str, int, str]]
     """of these the attempts of which nobody knows, their shard, and `suspended`, or `person` where
     a person has to say"""
+    withdrawn: list[Withdrawal]
+    """of these the attempts that no worker is to get, unless one has them"""
     settled: list[tuple[str, int, str | None]]
     """of these the attempts that are over, their shard, and `succeeded` where they have. No report
     of them is taken any more. Where it is None, and a worker has reported a success before,
@@ -94,6 +113,8 @@ class Rare:
     work: list[Callable[[Any], object]]
     """what else is done in the transaction of a file, with its connection"""
     closed: tuple[int, str] | None = None
+    set_aside: tuple[str | None] | None = None
+    """why no program can open the log; None in it where it could be opened again"""
 
     def __getattr__(self, part: str) -> Any:
         if part.startswith("_"):
@@ -170,7 +191,7 @@ class Batch:
 
 @dataclasses.dataclass(slots=True)
 class LogRow:
-    """A log that is not closed."""
+    """A log that is not closed. `note`: why no program could open it before."""
 
     log: int
     name: str
@@ -178,6 +199,20 @@ class LogRow:
     opened: int
     open: int
     epoch: int = 0
+    note: str | None = None
+
+
+class Tail(NamedTuple):
+    """The last chunk of a shard's event log: the next commit of the shard requires that it is
+    there, unchanged.
+
+    Attributes:
+        first_seq: How many events the shard has before it.
+        committed_at: When it was written, by the clock of the node that wrote it.
+    """
+
+    first_seq: int
+    committed_at: float
 
 
 @dataclasses.dataclass(slots=True)
@@ -197,6 +232,10 @@ class Loaded:
     """the server's timeline as it was read, where that is kept"""
     definitions: int = 0
     """how many definitions the log has"""
+    tail: Tail | None = None
+    """of a log that has any events, where other nodes may write it"""
+    damage: str | None = None
+    """where its chunks do not join"""
 
 
 class Known(NamedTuple):

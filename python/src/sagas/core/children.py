@@ -5,6 +5,7 @@ from __future__ import annotations
 from collections.abc import Mapping
 from typing import Any
 
+from sagas.base.errors import NotSerializable
 from sagas.core.model import Attempt
 from sagas.core.outcomes import SUCCEEDED, Outcome, failure
 from sagas.core.results import Ended
@@ -26,6 +27,15 @@ def child_input(attempt: Attempt) -> Any:
     function = attempt.declared.run.function
     assert function
     return function(attempt.task())
+
+
+def _written(value: Any) -> str:
+    """A child's end as JSON. It adds levels to those of the child's results, which may have ends of
+    children themselves."""
+    try:
+        return serialization.write(value)
+    except NotSerializable as error:
+        return serialization.write({serialization.UNSTORABLE: str(error)})
 
 
 def undo_input(key: str, token: str, kind: Kind, text: str, results: Mapping[int, str]) -> Any:
@@ -68,7 +78,7 @@ def outcome(end: Ended, kind: Kind, results: Mapping[int, str]) -> Outcome | Non
             kind.names[step]: serialization.read(decode(value)) for step, value in results.items()
         }
         value = {"key": end.key, "phase": end.phase, "results": told}
-        return Outcome(SUCCEEDED, serialization.write(value))
+        return Outcome(SUCCEEDED, _written(value))
     aborted = " (aborted)" if end.aborted else ""
     failed = [f"{step}: {error}" for step, error in end.errors.items()]
     told_errors = f". {'; '.join(failed)}" if failed else ""

@@ -7,6 +7,7 @@ import json
 from sagas.core.model import Attempt
 from sagas.core.outcomes import FAILED, PERMANENT, SUCCEEDED, Outcome
 from sagas.definition import serialization
+from sagas.definition.payloads import ABSENT
 
 
 def collected(attempt: Attempt, outcome: Outcome) -> Outcome:
@@ -26,6 +27,12 @@ def collected(attempt: Attempt, outcome: Outcome) -> Outcome:
 
 def has_nothing_to_undo(attempt: Attempt) -> bool:
     """Whether it is the compensation of an item whose failure was collected."""
-    if not attempt.undo or attempt.own is None or not attempt.declared.is_collected:
+    if not attempt.undo or not attempt.declared.is_collected or attempt.own is None:
         return False
     return serialization.failed(serialization.read(attempt.own)) is not None
+
+
+def is_unclear(attempt: Attempt) -> bool:
+    """Whether it may be such a compensation: the result that says so is not held."""
+    is_collected = attempt.undo and attempt.declared.is_collected
+    return is_collected and attempt.results.get(attempt.step) == ABSENT

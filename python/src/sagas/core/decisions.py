@@ -14,6 +14,8 @@ class Do(enum.Enum):
     NOTHING = enum.auto()
     CALL = enum.auto()
     """Call its function, within the limits."""
+    READ = enum.auto()
+    """A function needs values that are not held: read them, and ask again. Its state stays."""
     OFFER = enum.auto()
     """Offer it to external workers: it is suspended until one of them reports it."""
     WITHDRAW = enum.auto()
@@ -51,4 +53,5 @@ NOTHING, CALL, OFFER = Decision(Do.NOTHING), Decision(Do.CALL), Decision(Do.OFFE
 REPORT, REPORT_AGAIN = Decision(Do.REPORT), Decision(Do.REPORT_AGAIN)
 SLEEP = Decision(Do.SUSPEND, timer=True)
 WITHDRAW = Decision(Do.WITHDRAW)
+READ = Decision(Do.READ)
 FOLLOW = Decision(Do.FOLLOW)

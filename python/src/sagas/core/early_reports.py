@@ -1,7 +1,7 @@
 """Reports that come before their step begins: stored with the saga, and used when it begins.
 
 They stand among the suspensions, as of attempt 0, and go away with the report of the attempt that
-takes them.
+takes them. Where no attempt does, they stay with the saga: the same report again is no error.
 """
 
 from __future__ import annotations

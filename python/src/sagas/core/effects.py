@@ -5,7 +5,7 @@ from __future__ import annotations
 import dataclasses
 from collections.abc import Sequence
 
-from sagas.core.batch import Batch, Wanted
+from sagas.core.batch import Batch, Wanted, Withdrawal
 from sagas.core.early_reports import EarlyReport, Refusal
 from sagas.core.model import Attempt, SagaInstance
 
@@ -30,22 +30,24 @@ class RareEffects:
     """What most answers do not come to.
 
     Done at once:
-        draining: These sagas drain: what waits of them and was not called is given up
-            (`AttemptMachine.drain`).
         displaced: The shard has no room for these: another one opens them.
 
     Done once the batch is durable, in this order:
         suspended: The rows of their suspensions are kept.
         offered: These attempts are offered to external workers.
+        withdrawn: These are offered no more, where the withdrawal is done.
+        draining: A step of these sagas failed, so that they drain: what waits of them and was not
+            called is given up (`AttemptMachine.drain`).
         early: These reports of steps that have not begun are stored, or refused.
         aborted: These were answered, each with `done`.
         planned: These sagas go by a plan that was adopted, their `answer`.
     """
 
-    draining: list[SagaInstance] = dataclasses.field(default_factory=list)
     displaced: list[SagaInstance] = dataclasses.field(default_factory=list)
     suspended: list[Attempt] = dataclasses.field(default_factory=list)
     offered: list[Attempt] = dataclasses.field(default_factory=list)
+    withdrawn: list[tuple[Attempt, Withdrawal]] = dataclasses.field(default_factory=list)
+    draining: list[SagaInstance] = dataclasses.field(default_factory=list)
     early: list[EarlyReport | Refusal] = dataclasses.field(default_factory=list)
     aborted: list[Abort] = dataclasses.field(default_factory=list)
     planned: list[SagaInstance] = dataclasses.field(default_factory=list)

@@ -303,7 +303,10 @@ class ShardRecord:
         del self._ends[had + 1 :], self._digests[had + 1 :]
 
     def _lose(self, session: _Session) -> None:
-        """Place what the server confirmed to a session, and the database does not have any more."""
+        """Place what the server confirmed to a session, and the database does not have any more.
+        What the database has still, the session may have heard by then: an end that rests on it may
+        have been acknowledged.
+        """
         self._drain(session)
         while session.notes:
             if session.notes[0].what == "heard" and session.stage == "sent":
@@ -311,6 +314,8 @@ class ShardRecord:
                 self._drain(session)
             else:
                 self._drain(session, forced=True)
+        if session.stage == "done" and session.known + session.asked < len(self._ends):
+            self._heard(session)
 
 
 def _is_heard(line: Line, notes: Iterable[Note]) -> bool:

@@ -19,6 +19,7 @@ from sagas.definition.compiled import Word
 from sagas.definition.context import Context
 from sagas.definition.control import Control
 from sagas.definition.decoders import Decoder
+from sagas.definition.payloads import ABSENT
 from sagas.definition.place import Place
 from sagas.definition.step import Manner, Step
 from sagas.definition.task import Task
@@ -200,7 +201,7 @@ class Attempt(AcknowledgedAttempt):
             return None
         spot = layout.spots[self.name]
         try:
-            return self.instance.shape.key(spot)
+            return self.instance.numbering.key(spot)
         except CannotDecode:
             return spot.number
 
@@ -345,9 +346,19 @@ class Attempt(AcknowledgedAttempt):
         extras = self.rare
         if extras.control is None:
             extras.control = Control()
-            if self.instance.draining and not self.undo:
+            if self.instance.drains and not self.undo:
                 extras.control.cancelled.set(self.instance.why_draining)
         return extras.control
+
+    def lacks(self) -> bool:
+        """Whether its function may read a value that is not held."""
+        instance = self.instance
+        if not instance.is_partial:
+            return False
+        needed = [self.results.get(number) for number, _ in self.action.given]
+        if self.action.undo:
+            needed.append(self.results.get(self.step))
+        return ABSENT in (instance.text, instance.options.shape, *needed)
 
     def task(self) -> Task[Any]:
         """What its function is handed, where that goes on elsewhere: as it is now."""

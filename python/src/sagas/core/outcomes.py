@@ -24,6 +24,8 @@ MOST_TEXT = 4000
 SUCCEEDED, FAILED = OutcomeKind.SUCCEEDED, OutcomeKind.FAILED
 PERMANENT, UNKNOWN = OutcomeKind.FAILED_PERMANENTLY, OutcomeKind.UNKNOWN
 CANNOT_DECODE, ANSWERED = OutcomeKind.CANNOT_DECODE, OutcomeKind.ANSWERED
+UNREADABLE = "unreadable"
+"""In a report: the task could not be handed out. No worker's report has it."""
 WORST = (UNKNOWN, CANNOT_DECODE, PERMANENT, FAILED)
 """Of a group of exceptions, the first of these that any of them is."""
 
@@ -72,7 +74,7 @@ def succeeded(value: Any, task: Task[Any] | None = None) -> Outcome:
         Unawaited: The result is awaitable. What it comes to is the result.
     """
     try:
-        return _outcome((SUCCEEDED, serialization.write(value), True, None, False))
+        return _outcome((SUCCEEDED, serialization.write_value(value), True, None, False))
     except NotSerializable as error:
         if isinstance(value, Answer):
             return Outcome(ANSWERED, value.written())
@@ -111,6 +113,21 @@ def failure(
     if retry_after is not None:
         told["retry_after"] = retry_after
     return Outcome(PERMANENT if final else FAILED, serialization.write(told), called)
+
+
+def unreadable(text: str) -> Outcome:
+    """Return what is reported of a task that cannot be handed out, since what is stored for it
+    cannot be read: nothing was called, and nothing has failed.
+    """
+    report = {"error": text[:MOST_TEXT], "called": False, UNREADABLE: True}
+    return Outcome(FAILED, serialization.write(report), called=False)
+
+
+def delivered(kind: OutcomeKind, value: str) -> Outcome:
+    """Return the outcome of a report, as it is stored for the node that executes the saga."""
+    if kind is FAILED and UNREADABLE in value and (report := json.loads(value)).get(UNREADABLE):
+        return _told(CANNOT_DECODE, str(report["error"]))
+    return Outcome(kind, value)
 
 
 def unknown(text: str) -> Outcome:
@@ -221,7 +238,7 @@ def reported(result: Any, failed: str | None, final: bool = True) -> Outcome:
         TypeError: `failed` is not a text.
     """
     if failed is None:
-        return Outcome(SUCCEEDED, serialization.write(result))
+        return Outcome(SUCCEEDED, serialization.write_value(result))
     if not isinstance(failed, str):
         raise TypeError(f"failed={type(failed).__name__}: must be a text that says why it failed")
     return failure(failed, final)

@@ -23,7 +23,7 @@ from sagas.core.batch import HeldRow, Loaded, OpenRow
 from sagas.core.early_reports import ATTEMPT
 from sagas.core.effects import Abort, Effects
 from sagas.core.exhaustion import FAILED_BEFORE
-from sagas.core.model import FINISHED, Attempt, SagaInstance
+from sagas.core.model import FINISHED, RUNNING, Attempt, SagaInstance
 from sagas.core.outcomes import SUCCEEDED, Outcome, failure
 from sagas.core.replies import Reading
 from sagas.core.shard import ShardDriver
@@ -65,6 +65,14 @@ class Recovery:
     forgotten: list[Attempt] = dataclasses.field(default_factory=list)
     aborted: list[Abort] = dataclasses.field(default_factory=list)
     draining: list[SagaInstance] = dataclasses.field(default_factory=list)
+
+
+def damage_of(rows: Loaded, driver: ShardDriver) -> str | None:
+    """Return what is wrong with a shard's rows, before an engine is asked."""
+    count = len(driver.identity.definitions.kinds)
+    if lacking := [key for _, key, place, *_ in rows.open if place >= count]:
+        return f"the definition of its saga {lacking[0]!r} cannot be read"
+    return rows.damage
 
 
 def requests(rows: Loaded) -> list[str]:
@@ -132,6 +140,7 @@ def recover(
         `aborted`; the commit of `effects`; `resumed`; `draining`.
     """
     driver, before, old = previous, previous.sagas, _under_way(previous)
+    epoch, line = previous.known
     aborts = driver.aborting + driver.aborts
     driver.restart(rows)
     found = Recovery(driver.effects(now))
@@ -145,7 +154,8 @@ def recover(
     _put_rows(driver, rows)
     for number, reply in zip(_odd(rows), replies[1:], strict=True):
         _show(found.effects, driver, number, reply)
-    _resume(found, driver, rows, old, json.loads(replies[0])["busy"])
+    is_ours = rows.epoch <= epoch + 1 and rows.line == line
+    _resume(found, driver, rows, old, json.loads(replies[0])["busy"], is_ours)
     for abort in aborts:
         _abort_again(found, driver, abort)
     found.draining = [saga for saga in driver.sagas.values() if saga.draining]
@@ -201,7 +211,7 @@ def _put_result(
     saga: SagaInstance, step: int, kind: str, outcome: str, value: str, at: float
 ) -> None:
     if outcome == "commit":
-        saga.results[step] = value
+        saga.put_result(step, value)
     elif outcome == "undone":
         saga.results.pop(step, None)
         saga.odd = True
@@ -224,10 +234,12 @@ def _show(effects: Effects, driver: ShardDriver, number: int, reply: str) -> Non
 
 
 def _resume(
-    found: Recovery, driver: ShardDriver, rows: Loaded, old: Old, busy: list[dict[str, Any]]
-) -> None:
+    found: Recovery, driver: ShardDriver, rows: Loaded, old: Old, busy: list[dict[str, Any]],
+    is_ours: bool,
+) -> None:  # fmt: skip
     """The attempts that were begun and not reported: those that are under way here, and those of
-    an earlier program.
+    an earlier program. `is_ours`: no other node had the shard since this program knew it, and the
+    server is the same.
     """
     held = {row[:4]: row for row in rows.held}
     kept = {row[:4]: row for row in rows.results if row[4] == "ok"}
@@ -240,8 +252,10 @@ def _resume(
         if attempt is not None and attempt.recorded and row not in kept:
             found.forgotten.append(attempt)  # by a server that was there before
             attempt = Attempt(saga, *words, fresh=False)
-        elif attempt is None:
-            attempt = Attempt(saga, *words, fresh=False)
+        elif attempt is None or _is_doubtful(attempt, is_ours):
+            if attempt is not None:
+                found.forgotten.append(attempt)
+            attempt = _made_again(saga, words, attempt, is_ours)
             if row in held:
                 _put_suspension(attempt, held[row])
         attempt.instance = saga
@@ -251,6 +265,25 @@ def _resume(
             attempt.finish(Outcome(SUCCEEDED, value or "null", encoded=True), at)
         found.resumed.append(attempt)
     found.forgotten += old.values()
+
+
+def _is_doubtful(attempt: Attempt, is_ours: bool) -> bool:
+    """Whether what this program knows of it may be otherwise by now: it was given up without a
+    call, or it waits, and another node may have had the shard and called it.
+    """
+    if attempt.state is FINISHED:
+        return attempt.outcome is not None and not attempt.outcome.called
+    return not is_ours and attempt.state is not RUNNING
+
+
+def _made_again(
+    saga: SagaInstance, words: tuple[int, str, int], before: Attempt | None, is_ours: bool
+) -> Attempt:
+    """An attempt as an earlier program left it, or as one that was given up is decided again."""
+    attempt = Attempt(saga, *words, fresh=before is not None and is_ours)
+    if attempt.fresh and attempt.manner.external and attempt.word not in saga.rare.final:
+        attempt.reason = Suspension.EXTERNAL  # its row tells whether a worker has it
+    return attempt
 
 
 def _put_suspension(attempt: Attempt, row: HeldRow) -> None:

@@ -9,8 +9,7 @@ from typing import TYPE_CHECKING
 from sagas.core import announcements, protocol, spans
 from sagas.core.attempts import PARKED
 from sagas.core.batch import Opened, Result
-from sagas.core.collection import has_nothing_to_undo
-from sagas.core.early_reports import ATTEMPT
+from sagas.core.collection import has_nothing_to_undo, is_unclear
 from sagas.core.early_reports import stored as stored_report
 from sagas.core.effects import Abort, Effects, Question
 from sagas.core.model import Attempt, SagaInstance
@@ -19,6 +18,7 @@ from sagas.core.outcomes import SUCCEEDED, Outcome, stored
 from sagas.core.states import UNDO_FAILED, EnginePhase
 from sagas.definition import serialization
 from sagas.definition.capacity import SHARD_CAPACITY
+from sagas.definition.payloads import ABSENT
 
 if TYPE_CHECKING:
     from sagas.core.shard import ShardDriver
@@ -111,7 +111,7 @@ class Reading:
     def _offer(self, attempt: Attempt) -> None:
         """Who does it elsewhere may have it as soon as it has begun, if that is at once."""
         is_first = attempt.is_external and attempt.attempt == 1 and not attempt.instance.draining
-        if has_nothing_to_undo(attempt):
+        if is_unclear(attempt) or has_nothing_to_undo(attempt):
             return
         if is_first and stored_report(attempt.instance, attempt.word) is None:
             row = first_offer(attempt, self._driver.number, self._batch.at)
@@ -131,8 +131,9 @@ class Reading:
             assert outcome
             attempt.event = event
             value = outcome.value
-            if saga.kind.payloads.codec and outcome.kind is SUCCEEDED and not outcome.encoded:
-                value = stored(saga.kind.payloads, value)
+            payloads = saga.kind.payloads
+            if outcome.kind is SUCCEEDED and not outcome.encoded and payloads.changes(value):
+                value = stored(payloads, value)
             row: Result = (
                 first + saga.number, attempt.step, attempt.kind, attempt.attempt, event, value,
                 attempt.at,
@@ -141,7 +142,7 @@ class Reading:
             if attempt.has_row or attempt.extras or saga.kind.has_external:
                 self._settle_rows(attempt)
             if event == "commit":
-                saga.results[attempt.step] = value
+                saga.put_result(attempt.step, value)
             else:
                 self._otherwise(attempt, outcome, event)
             self._phase(saga, phase)
@@ -230,6 +231,7 @@ class Reading:
                     id, saga.key, saga.kind.name, saga.place, saga.text, batch.at,
                     saga.options.deadline, saga.options.traceparent,
                 )  # fmt: skip
+                assert saga.text != ABSENT, "the store has this saga already"
                 batch.opened.append(row)
                 if labels:
                     batch.more.labels += [(id, *label) for label in labels.items()]
@@ -294,6 +296,4 @@ class Reading:
         if saga.has_due:  # a wait that is retried kept its row for an attempt that never came
             freed = [(id, step, kind, LAST_ATTEMPT) for step, kind in saga.rare.due]
             batch.more.freed += freed
-        if saga.has_early:  # the steps never began
-            batch.more.freed += [(id, *word, ATTEMPT) for word in saga.rare.early]
         self._effects.ended.append(saga)

@@ -4,6 +4,8 @@ from __future__ import annotations
 
 from typing import TYPE_CHECKING, Any
 
+from sagas.core.held_values import HeldValues
+from sagas.core.states import AttemptState
 from sagas.core.suspensions import SagaExtras, tenant_of
 from sagas.definition import start_options
 from sagas.definition.capacity import SHARD_CAPACITY
@@ -16,7 +18,11 @@ if TYPE_CHECKING:
     from sagas.core.shard import ShardDriver
 
 
-class AcknowledgedSaga:
+RESTING = (AttemptState.SUSPENDED, AttemptState.QUEUED, AttemptState.FINISHED)
+"""The states of attempts whose functions read nothing now."""
+
+
+class AcknowledgedSaga(HeldValues):
     """What a program with a record has of a saga. Without a record, it is never set.
 
     Attributes:
@@ -34,19 +40,14 @@ class SagaInstance(AcknowledgedSaga):
 
     Attributes:
         key: The caller's name for it.
-        text: Its input, as JSON.
         kind: Its definition.
         place: The index of its definition in its shard.
         number: Its number in its shard; -1 until it has one.
-        results: The results of the steps that stand. A compensation puts another dict here, so
-            that each attempt keeps the one that it began with.
         busy: The attempts that were claimed and not reported.
         odd: Whether something failed, was retried or was aborted.
         draining: Whether what runs ends, and then the saga is planned.
         answer: The last plan that was adopted.
         committed: Whether the store has it.
-        options: What its start said; of one that another program started its deadline and trace
-            context alone.
         guessed: Whether it was begun without a look for its key. Until it is committed, the key
             may be another saga's.
         start: The pending start of a client that it is of.
@@ -55,9 +56,8 @@ class SagaInstance(AcknowledgedSaga):
     """
 
     __slots__ = (
-        "key", "text", "kind", "place", "number", "shard", "results", "busy", "odd", "aborted",
-        "draining", "answer", "committed", "guessed", "start", "phase", "end", "token", "options",
-        "_extras",
+        "key", "kind", "place", "number", "shard", "busy", "odd", "aborted", "draining", "answer",
+        "committed", "guessed", "start", "phase", "end", "token",
     )  # fmt: skip
 
     def __init__(
@@ -69,10 +69,9 @@ class SagaInstance(AcknowledgedSaga):
         options: StartOptions = start_options.NONE,
     ) -> None:
         self.key = key
-        self.text = text
         self.kind = kind
         self.place = place
-        self.options = options
+        self.take(text, options)
         self.number = -1
         self.shard: ShardDriver | None = None
         self.committed = self.guessed = False
@@ -112,6 +111,21 @@ class SagaInstance(AcknowledgedSaga):
             )
         return self.rare.shape
 
+    def release(self) -> None:
+        """Hold no large value any more, unless a function may read it now. It is read from the
+        store when one needs it.
+        """
+        if not (self.is_large and self.committed):
+            return
+        busy = self.busy.values()
+        if all(attempt.state in RESTING for attempt in busy):
+            self.drop([attempt.results for attempt in busy])
+
+    @property
+    def numbering(self) -> ShapeValues:
+        """As `shape`, of which only numbers and keys of items are looked at."""
+        return self.rare.numbering or self.shape
+
     @property
     def tenant(self) -> str | None:
         """Whose it is, where its definition says that. It is asked for once."""
@@ -127,6 +141,11 @@ class SagaInstance(AcknowledgedSaga):
     def why_draining(self) -> str:
         """Why what it does is not wanted any more, as functions hear it."""
         return "aborted" if self.aborted else "failed"
+
+    @property
+    def drains(self) -> bool:
+        """Whether it drains, and the store has why: what it does may be ended."""
+        return self.draining and self._extras is not None and self._extras.drains
 
     @property
     def over(self) -> bool:

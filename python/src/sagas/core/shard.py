@@ -7,10 +7,10 @@ happens next, and its event log in the store is the only truth. One turn of a sh
     answer = driver.replies(*ask(lines), now)   # `ask` is the engine: its replies, and log text
     while isinstance(answer, list):             # how sagas ended that did not just go well
         answer = driver.replies(*ask(answer), now)
-    for saga in answer.draining: ..             # what `Effects` says is done at once
     driver.writes(answer)
     .. make answer.batch durable ..
     driver.committed(answer)                    # or driver.failed(answer), if it was refused
+    for saga in answer.rare.draining: ..        # a step of it failed
     for attempt in answer.dispatch: ..          # what `Effects` says is done after the commit
 
 The next question may be asked before the batch is durable, and further batches may be on their
@@ -27,7 +27,7 @@ from collections import deque
 from collections.abc import Iterable, Sequence
 
 from sagas.core import endings, offers, protocol, suspension_rows
-from sagas.core.batch import Batch, Born, Loaded
+from sagas.core.batch import Batch, Born, Loaded, Withdrawal
 from sagas.core.effects import Abort, Effects, Question
 from sagas.core.model import Attempt, SagaInstance
 from sagas.core.outcomes import SUCCEEDED
@@ -206,6 +206,14 @@ class ShardDriver:
         effects = self.effects(now)
         effects.batch.more.offers.append(offers.offer(attempt, self.number, now))
         effects.more.offered.append(attempt)
+        return effects
+
+    def withdrawn(self, attempt: Attempt, now: float) -> Effects:
+        """Withdraw an attempt from external workers: the batch changes its row."""
+        effects = self.effects(now)
+        withdrawal = Withdrawal(attempt.token(), self.number)
+        effects.batch.more.withdrawn.append(withdrawal)
+        effects.more.withdrawn.append((attempt, withdrawal))
         return effects
 
     def effects(self, now: float) -> Effects:

@@ -1,4 +1,4 @@
-"""Idempotent reports: the same outcome again is accepted, another one conflicts."""
+"""Idempotent reports: the same again is accepted, another one conflicts."""
 
 from __future__ import annotations
 
@@ -8,11 +8,16 @@ from typing import Any
 
 from sagas.base.errors import ConflictingReport, StepNotWaiting
 from sagas.core.batch import SagaRow
+from sagas.core.early_reports import KINDS
 from sagas.core.outcomes import Outcome
-from sagas.core.states import EnginePhase, OutcomeKind
+from sagas.core.states import EarlyReason, EnginePhase, OutcomeKind
 from sagas.definition.payloads import PLAIN, Payloads
 
 RESULTS = "SELECT step, action, event, value FROM attempts WHERE id = ? ORDER BY at, number"
+EARLY = """
+SELECT reason, detail FROM suspensions WHERE id = ? AND step = ? AND action = ? AND number = 0
+"""
+UNUSED = "a report of it was stored, and the saga ended without the step"
 DONE = ("commit", "ok", "undone")
 OVER = {
     "commit": "it has succeeded",
@@ -48,15 +53,23 @@ def first_of(rows: Iterable[tuple[Any, ...]], place: int, kind: str) -> Outcome 
     return found
 
 
+def early_of(rows: Iterable[tuple[Any, ...]]) -> Outcome | None:
+    """What was reported of a step that has not begun, by rows of `EARLY`."""
+    for reason, text in rows:
+        return Outcome(KINDS[EarlyReason(reason)], text or "null")
+    return None
+
+
 def check(
     key: str, step: str, first: Outcome, outcome: Outcome, why: str | None = None,
     payloads: Payloads = PLAIN,
 ) -> None:  # fmt: skip
-    """Raises `ConflictingReport` where this is another answer than the first. What was said is in
-    neither text. `why`: what is to be said of the step, where that is more."""
+    """Raises `ConflictingReport` where this is another answer than the first, which is as it is
+    stored. What was said is in neither text. `why`: what is to be said of the step, where that is
+    more."""
     if first.kind is OutcomeKind.SUCCEEDED:
-        values = payloads.decode(outcome.value), payloads.decode(first.value)
-        is_same = outcome.kind is OutcomeKind.SUCCEEDED and values[0] == values[1]
+        value = payloads.decode(first.value)
+        is_same = outcome.kind is OutcomeKind.SUCCEEDED and outcome.value == value
     else:
         is_same = outcome.kind is not OutcomeKind.SUCCEEDED and _error(outcome) == _error(first)
     if not is_same:

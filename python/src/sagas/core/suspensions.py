@@ -82,10 +82,14 @@ class SagaExtras:
     """What each step raised last."""
     shape: ShapeValues | None = None
     """What is kept of its shape, once it was read."""
+    numbering: ShapeValues | None = None
+    """The numbers and keys of its items, once its shape is not held any more."""
     due: dict[Word, float] = dataclasses.field(default_factory=dict)
     """Of waits: until when; 0 once that is over."""
     early: dict[Word, tuple[EarlyReason, str]] = dataclasses.field(default_factory=dict)
     """What is reported of steps that have not begun: which kind, and its text as it is stored."""
+    drains: bool = False
+    """See `SagaInstance.drains`."""
     tenant: str | None = None
     """Whose it is, as JSON; None until that is asked."""
 

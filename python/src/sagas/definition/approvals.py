@@ -78,7 +78,7 @@ class Answer:
         if isinstance(self.said, Rejected):
             return json.dumps({"rejected": self.said.why})
         try:
-            return serialization.write({"approved": self.said.result})
+            return f'{{"approved":{serialization.write_value(self.said.result)}}}'
         except NotSerializable as error:
             return json.dumps({"approved": {serialization.UNSTORABLE: str(error)}})
 

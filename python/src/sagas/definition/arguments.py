@@ -17,6 +17,8 @@ from sagas.definition import validation
 from sagas.definition.mismatches import MOST_SHOWN
 
 MOST_KEY = 512
+BELOW = "/:"
+"""What a child's key has between its parent's key and the name of its step."""
 TIME = "must be seconds or a timedelta"
 
 
@@ -132,9 +134,19 @@ def keeping(retention: Any, archive_dir: Any) -> None:
         )
 
 
-def key(value: Any) -> None:
-    """A saga's key. Raises `InvalidKey`."""
+def key(value: Any, or_child: bool = False) -> None:
+    """A saga's key; `or_child`: also one that a parent gives. Raises `InvalidKey`."""
     if not isinstance(value, str) or not 0 < len(value) <= MOST_KEY or not value.isprintable():
         raise InvalidKey(
             f"key={shown(value)}: must be a text of 1 to {MOST_KEY} printable characters"
         )
+    if BELOW in value and not or_child:
+        raise InvalidKey(
+            f"key={shown(value)}: only keys of child sagas have {BELOW!r}, and their parents start "
+            "them. Use another key"
+        )
+
+
+def root_of(key: str) -> str:
+    """Return the key of the saga that was started by a caller, for a descendant or for itself."""
+    return key.partition(BELOW)[0]

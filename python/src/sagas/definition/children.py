@@ -8,6 +8,7 @@ from typing import TYPE_CHECKING, Any, Literal, TypedDict, overload
 
 from sagas.base.errors import InvalidKey
 from sagas.definition import arguments, decoders, validation
+from sagas.definition.arguments import BELOW
 from sagas.definition.decoders import Decoder
 from sagas.definition.decorators import Decorator
 from sagas.definition.step import NEVER, Cost, CostOf, Manner, Step
@@ -78,10 +79,10 @@ class ChildSteps:
         """Declare a step that starts another saga, and waits for its end.
 
         The function returns the child's input. It may be called again: the first child that is
-        started counts. The child's key is `KEY/STEP`, by the saga's own key and the step's name.
+        started counts. The child's key is `KEY/:STEP`, by the saga's own key and the step's name.
         The step succeeds with a `ChildResult` once the child has completed. If the child ends
         otherwise, the step fails. An abort of the saga aborts the child. The compensation starts a
-        saga of the child's compensations, with the key `KEY/STEP:undo`.
+        saga of the child's compensations, with the key `KEY/:STEP:undo`.
 
         Args:
             saga: The child's definition, which the store must have, too.
@@ -91,7 +92,7 @@ class ChildSteps:
                 another number, child steps that cannot be undone stay in place.
             keep: Cost of leaving the completed child in place (default: the sum of its own).
             on_exhausted: What follows if the child does not complete: `fail`, or `ask` (wait for
-                `Store.retry`, which starts another child with the key `KEY/STEP/2`,
+                `Store.retry`, which starts another child with the key `KEY/:STEP/2`,
                 `Store.complete` or `Store.fail`). An input that the child cannot have fails the
                 step in any case (default: `fail`).
 
@@ -121,7 +122,7 @@ class ChildSteps:
             >>> sagas.testing.run(trip, {"days": 4}).results["tour"]
             3
             >>> sagas.testing.run(trip, {"days": 4}, fail={tour: 1}).states
-            cancel 3 nights of test/stay
+            cancel 3 nights of test/:stay
             {'stay': 'undone', 'tour': 'failed'}
         """
 
@@ -235,8 +236,8 @@ def key_of(parent: str, step: str, number: int = 1, undo: bool = False) -> str:
         undo: Whether the saga is meant that undoes it.
     """
     if undo:
-        return f"{parent}/{step}{UNDO}"
-    return f"{parent}/{step}" if number == 1 else f"{parent}/{step}/{number}"
+        return f"{parent}{BELOW}{step}{UNDO}"
+    return f"{parent}{BELOW}{step}{'' if number == 1 else f'/{number}'}"
 
 
 def room_of(saga: Saga) -> int:
@@ -244,7 +245,7 @@ def room_of(saga: Saga) -> int:
     return max(
         (
             (MOST_NAME if saga.is_shaped else len(step.name))
-            + 1
+            + len(BELOW)
             + max(len(UNDO), NUMBERS)
             + room_of(child)
             for step, child in children_of(saga)

@@ -9,12 +9,20 @@ from sagas.base.errors import InvalidLabel
 from sagas.definition.arguments import shown
 
 Labels = Mapping[str, str]
+TOKEN = "=token"
+"""Stands among the labels of a saga that a service started, with the bytes of its input and the
+name of the token. No label of a caller has this name, and none is shown."""
 NONE: dict[str, str] = {}
 MOST_LABELS, MOST_NAME, MOST_VALUE = 16, 64, 256
 RULE = (
     f"labels must be up to {MOST_LABELS} texts by name, names of 1 to {MOST_NAME} "
     f"printable characters without '=', values of 1 to {MOST_VALUE}"
 )
+
+
+def with_token(labels: Labels, token: str, size: int) -> Labels:
+    """Labels, and who started the saga."""
+    return {**labels, TOKEN: f"{size} {token}"}
 
 
 def is_text(value: Any, most: int) -> bool:

@@ -8,10 +8,16 @@ import re
 from typing import Any, Protocol
 
 from sagas.base.errors import CannotDecode, NotSerializable
-from sagas.definition.blobs import HEAD, Reference
+from sagas.definition.blobs import Reference
 
 ENVELOPE = re.compile(r'\{"\$codec":"([A-Za-z0-9+/]*={0,2})"\}\Z')
 """A stored value that a codec made. It is JSON, so that programs without the codec can list it."""
+ESCAPED = '{"$plain":'
+"""What a stored value begins with that would else be taken for another one."""
+ABSENT = '{"$absent":true}'
+"""Stands for a stored value that is not held in memory; it is never stored."""
+RESERVED = ('{"$codec":', '{"$blob":', '{"$absent":', ESCAPED)
+"""What no value begins with as it is stored."""
 
 
 class Codec(Protocol):
@@ -37,8 +43,10 @@ class Codec(Protocol):
 
 
 class Payloads:
-    """Encodes and decodes the JSON texts of a store. Without a codec they stay as they are; with
-    one, texts of a time without it can still be read.
+    """Encodes and decodes the JSON texts of a store.
+
+    A value that only looks as what is stored in place of one is escaped, so that it is read as the
+    data that it is. With a codec, texts of a time without it can still be read.
     """
 
     def __init__(self, codec: Codec | None = None, has_blobs: bool = False) -> None:
@@ -49,27 +57,18 @@ class Payloads:
         """Whether what is stored may be something else than the value."""
         return self.codec is not None or self.has_blobs
 
-    def check(self, text: str) -> None:
-        """Check the text of a value that somebody gave.
-
-        Raises:
-            NotSerializable: It looks as what is stored in place of a value: it would be read as
-                another one.
-        """
-        if text.startswith(HEAD) and Reference.of(text):
-            raise NotSerializable("it looks as a reference to a blob. Use another key than $blob")
-        if self.codec is not None and ENVELOPE.match(text):
-            raise NotSerializable("it looks as an encoded value. Use another key than $codec")
+    def changes(self, text: str) -> bool:
+        """Whether a value is stored as another text."""
+        return self.codec is not None or text.startswith(RESERVED)
 
     def encode(self, text: str) -> str:
         """Return a text as it is stored.
 
         Raises:
-            NotSerializable: The codec failed, or as of `check`.
+            NotSerializable: The codec failed.
         """
-        self.check(text)
         if self.codec is None:
-            return text
+            return f"{ESCAPED}{text}}}" if text.startswith(RESERVED) else text
         try:
             data = base64.b64encode(self.codec.encode(text.encode())).decode()
         except Exception as error:  # of the codec, which may have the value in its text
@@ -82,31 +81,73 @@ class Payloads:
         """Return a text as it was before it was stored.
 
         Raises:
-            CannotDecode: The codec failed: the key is not there, say. Or it refers to a blob that
-                is missing.
+            CannotDecode: The codec failed, or there is none: a key is not there, say. Or it refers
+                to a blob that is missing.
         """
-        if text.startswith(HEAD) and Reference.of(text):
-            raise CannotDecode("its value is not in the blob store, or no blob store was given")
-        if self.codec is None or not (found := ENVELOPE.match(text)):
+        if not text.startswith(RESERVED):
             return text
+        if text.startswith(ESCAPED):
+            return text[len(ESCAPED) : -1]
+        if text == ABSENT:
+            raise CannotDecode("its value was not read from the store")
+        if Reference.of(text):
+            raise CannotDecode("its value is not in the blob store, or no blob store was given")
+        envelope = ENVELOPE.match(text)
+        if envelope is None:
+            return text
+        if self.codec is None:
+            raise CannotDecode("it is encoded, and this program has no codec. Give it codec=")
         try:
-            return self.codec.decode(base64.b64decode(found[1])).decode()
+            return self.codec.decode(base64.b64decode(envelope[1])).decode()
         except Exception as error:
             raise CannotDecode(f"the codec could not decode it: {type(error).__name__}") from None
 
+    def is_same(self, text: str, stored: str) -> bool:
+        """Return whether two stored texts are of one value: a large one is known by its digest,
+        since it may be in the blob store meanwhile, and a codec may encode it in many ways.
+
+        Args:
+            text: A stored text that is no reference.
+            stored: Another one, or a reference to a blob.
+        """
+        if text == stored:
+            return True
+        try:
+            value = self.decode(text)
+            if reference := Reference.of(stored):
+                return reference.is_of(value)
+            return value == self.decode(stored)
+        except CannotDecode:
+            return False
+
     def encode_value(self, value: Any) -> Any:
         """As `encode`, of a value that is a part of another one."""
-        if self.codec is None:
-            return value
-        return json.loads(self.encode(json.dumps(value, separators=(",", ":"))))
+        text = json.dumps(value, separators=(",", ":"))
+        return json.loads(self.encode(text)) if self.changes(text) else value
 
     def decode_value(self, value: Any) -> Any:
         """As `decode`, of a value that is a part of another one."""
-        return (
-            value
-            if not self.reads
-            else json.loads(self.decode(json.dumps(value, separators=(",", ":"))))
-        )
+        text = json.dumps(value, separators=(",", ":"))
+        return json.loads(self.decode(text)) if text.startswith(RESERVED) else value
+
+    def read(self, text: str) -> Any:
+        """The value of a text that is stored. A reference to a blob stays as it is.
+
+        Raises:
+            CannotDecode: As of `decode`.
+        """
+        return json.loads(text if Reference.of(text) else self.decode(text))
+
+
+def shown(value: Any) -> Any:
+    """As `unescaped`, of a value that was read."""
+    is_escaped = isinstance(value, dict) and [*value] == ["$plain"]
+    return value["$plain"] if is_escaped else value
+
+
+def unescaped(text: str) -> str:
+    """A text that is stored, for programs that only show it: an encoded value stays so."""
+    return text[len(ESCAPED) : -1] if text.startswith(ESCAPED) else text
 
 
 PLAIN = Payloads()

@@ -367,7 +367,7 @@ class Saga(WaitSteps, Inclusions):
         self.check()
         if not self.is_shaped:
             return definition_text.fixed(self)
-        text = serialization.write(input, "input")
+        text = serialization.write_value(input, "input")
         return shape_text.write(shape.Shape(self, text))
 
     def draw(self, input: Any = None, *, unfold: Iterable[str] = ()) -> str:

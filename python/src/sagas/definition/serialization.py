@@ -8,18 +8,29 @@ import datetime
 import decimal
 import enum
 import json
+import re
 import uuid
 from collections.abc import Callable, Iterable
 from typing import Any
 
-from sagas.base.errors import NotSerializable, ResultNotSerializable, StepFailed
+from sagas.base.errors import CannotDecode, NotSerializable, ResultNotSerializable, StepFailed
 from sagas.definition.decoders import Decoder, is_old_model
 
 NUMBERS = {int, float, bool}
 UNSTORABLE = "unstorable"
 FAILED = "$failed"
 """The only word of what is kept of an item whose failure was collected."""
+MOST_LEVELS = 64
+"""Levels of a value that comes in. Every reader and writer of JSON, in any language, takes them
+together with those that are around the value in an answer."""
+BRACKETS = b"[]{}"
+OTHERS = bytes(byte for byte in range(256) if byte not in BRACKETS)
+ALIKE = bytes.maketrans(b"{}", b"[]")
+RUN = re.compile(rb"\[+|\]+")
+FLAT = 4
+"""Levels that are removed together, the innermost first: few values have more."""
 MOST_DEEP = 16
+TOO_DEEP = f"it has more than {MOST_LEVELS} levels of lists and objects. Use fewer levels"
 
 
 def _default(value: Any) -> Any:
@@ -87,13 +98,36 @@ _chunks = _chunked()
 
 def _decode(text: str) -> Any:
     """What the decoder does; of a text with nothing around its value, as `write` makes it, by
-    the part in C alone.
+    the part in C alone. Raises `CannotDecode` where it has too many levels for that.
     """
     try:
-        value, end = _scan(text, 0)
-    except StopIteration:
-        end = -1
-    return value if end == len(text) else _decoder.decode(text)
+        try:
+            value, end = _scan(text, 0)
+        except StopIteration:
+            end = -1
+        return value if end == len(text) else _decoder.decode(text)
+    except RecursionError:
+        raise CannotDecode(f"it has more than {MOST_LEVELS} levels of lists and objects") from None
+
+
+def is_deeper(text: str, levels: int = MOST_LEVELS) -> bool:
+    """Return whether a JSON text has more levels than these.
+
+    It never recurses. For 1 MiB it takes at most 50 ms, however the brackets lie.
+    """
+    if len(text) <= 2 * levels or text.count("[") + text.count("{") <= levels:
+        return False
+    data = text.encode("ascii", "replace").replace(b"\\\\", b"").replace(b'\\"', b"")
+    brackets = b"".join(data.split(b'"')[::2]).translate(ALIKE, OTHERS)
+    left, level = levels, 0
+    for _ in range(min(FLAT, levels)):
+        brackets = brackets.replace(b"[]", b"")
+        left -= 1
+    for run in RUN.findall(brackets):
+        level += len(run) if run.startswith(b"[") else -len(run)
+        if level > left:
+            return True
+    return False
 
 
 def clean(text: str) -> str:
@@ -126,7 +160,19 @@ def write(value: Any, name: str = "") -> str:
         ) from error
 
 
+def write_value(value: Any, name: str = "") -> str:
+    """As `write`, of a value that comes in: an input, an item or a result. Raises `NotSerializable`
+    also where it has more than `MOST_LEVELS` levels, which not every program could read.
+    """
+    text = write(value, name)
+    if is_deeper(text):
+        raise NotSerializable(f"{name}: {TOO_DEEP}" if name else TOO_DEEP)
+    return text
+
+
 def _why(value: Any, error: Exception) -> str:
+    if isinstance(error, RecursionError):
+        return f"{TOO_DEEP}, and must not contain itself"
     text = str(error)
     if text.startswith("'<' not supported"):
         return "all keys of a dict must be texts"
@@ -134,7 +180,7 @@ def _why(value: Any, error: Exception) -> str:
         return "NaN and infinity are not JSON. Use a finite number or None"
     return (
         text
-        if isinstance(error, (TypeError, ValueError, RecursionError))
+        if isinstance(error, (TypeError, ValueError))
         else f"{type(value).__name__}: {type(error).__name__}: {error}"
     )
 

@@ -224,7 +224,7 @@ class Shape:
         plain = self.values.inputs[spot.word] = _plain(part, "its input", given)
         scope, prefix = (*level.scope, (part.name, index)), f"{level.name(part.name, index)}-"
         try:
-            text = serialization.write(plain)
+            text = serialization.write_value(plain)
             value = serialization.read(text, self._declared.input(scope))
         except Exception as error:  # of the type's own code
             raise _invalid(part, f"input{mismatches.of(error)}") from None
@@ -386,6 +386,6 @@ def _plain(part: Part, what: str, value: Any) -> Any:
     if type(value) is int and value.bit_length() <= 64:  # a longer one may have no text
         return value
     try:
-        return serialization.read(serialization.write(value, what))
+        return serialization.read(serialization.write_value(value, what))
     except SagasError as error:
         raise _invalid(part, str(error)) from None

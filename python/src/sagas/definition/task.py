@@ -188,9 +188,10 @@ class Task(Generic[I]):
 
     @property
     def attempt_id(self) -> str:
-        """The idempotency key and the attempt's number: different for each attempt.
+        """The idempotency key and the attempt's number, which differs for each attempt.
 
-        Use it with a service that remembers a refusal under its key.
+        Use it with a service that remembers a refusal under its key. The last attempt may be made
+        again with the same id: with `max_attempts`, `on_exhausted="retry"` or `Store.retry`.
         """
         return tokens.attempt_id(self.idempotency_key, self.attempt)
 

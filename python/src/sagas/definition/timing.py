@@ -9,7 +9,7 @@ from typing import Any
 from zoneinfo import ZoneInfo, ZoneInfoNotFoundError
 
 from sagas.base.errors import InvalidSchedule
-from sagas.definition.arguments import shown
+from sagas.definition.arguments import BELOW, shown
 from sagas.definition.cron import Cron
 
 MOST_NAME = 128
@@ -146,10 +146,10 @@ def timing(cron: Any, every: Any, timezone: Any, catch_up: Any) -> Timing:
 def check_name(name: Any) -> None:
     """Raises `InvalidSchedule` where it is no name of a schedule."""
     is_text = isinstance(name, str) and 0 < len(name) <= MOST_NAME and name.isprintable()
-    if not is_text or "@" in name:
+    if not is_text or "@" in name or BELOW in name:
         raise InvalidSchedule(
             f"schedule {shown(name)}: a name must have 1 to {MOST_NAME} printable "
-            "characters without '@'"
+            f"characters without '@' and {BELOW!r}"
         )
 
 

@@ -11,7 +11,7 @@ import re
 from typing import NamedTuple
 
 ATTEMPT_ID = re.compile(
-    r"([0-9a-f]{1,64})-(\d{1,9})-([a-z][a-z0-9_-]{0,31})-(run|undo)-(\d{1,9})\Z"
+    r"([0-9a-f]{1,64})-([0-9]{1,9})-([a-z][a-z0-9_-]{0,31})-(run|undo)-([0-9]{1,9})\Z"
 )
 
 

@@ -49,6 +49,10 @@ class Listener(Protocol):
         """It has ended by itself, with these last words. It is called once."""
 
 
+REFUSED = 3
+"""The status of an engine that refuses its event log, or a definition."""
+
+
 class EngineProcess:
     """One process that drives one shard, one question at a time.
 
@@ -138,6 +142,10 @@ class EngineProcess:
         self.asked, self._since = len(requests), time.monotonic()
         self._out += ("\n".join(requests) + "\n").encode()
         self._write()
+
+    def has_refused(self) -> bool:
+        """Whether it has ended since it refuses what it was started on."""
+        return self.process.returncode == REFUSED
 
     def is_hung(self, now: float) -> bool:
         """Whether it was asked so long ago that it will hardly answer."""

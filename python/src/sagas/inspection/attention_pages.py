@@ -14,7 +14,7 @@ from sagas.inspection.lists import chain_of
 from sagas.inspection.names import OF_SHARD, Names
 from sagas.inspection.question import Query, Question
 from sagas.storage.filters import Filter
-from sagas.storage.queries import PHASES
+from sagas.storage.queries import DAMAGED, DAMAGED_SINCE, PHASES
 
 Place = Optional[tuple[float, int, int]]
 """The last entry of the page before: the start of its saga, that, and its step, or -1."""
@@ -39,12 +39,18 @@ SELECT s.at AS started, s.id, h.step, s.key, s.saga, d.definition, h.action, NUL
   h.since, h.until
 FROM suspensions h JOIN sagas s ON s.id = h.id AND s.phase IS NULL {OF_SHARD}
 WHERE h.reason = """
+IN_DAMAGED = f"""
+SELECT s.at AS started, s.id, -1 AS place, s.key, s.saga, coalesce(d.definition, ''), '' AS action,
+  NULL, l.audit, {DAMAGED_SINCE}, NULL
+{DAMAGED}
+"""
 BY_KIND = {
     "stuck": (STUCK, "-1"),
     "undo_failed": (UNDO_FAILED, "r.step"),
     "unknown": (f"{HELD} 'unknown' AND h.until IS NULL", "h.step"),
     "exhausted": (f"{HELD} 'exhausted'", "h.step"),
     "cannot_decode": (f"{HELD} 'cannot_decode'", "h.step"),
+    "damaged": (IN_DAMAGED, "-1"),
     APPROVAL: (f"{HELD} 'approval'", "h.step"),
 }
 NOTHING = Filter()
@@ -56,7 +62,8 @@ MOST_GROUPED = 20_000
 @dataclasses.dataclass(frozen=True, slots=True)
 class Entry:
     """Something that needs a person. `step` is None of a saga that is stuck: `blocking` has the
-    steps because of which it is. `detail`: what was raised, or what cannot be read."""
+    steps because of which it is; and of one whose shard is damaged. `detail`: what was raised, or
+    what cannot be read."""
 
     kind: str
     started: float
@@ -76,7 +83,8 @@ class Entry:
         """What is meant, and its detail without numbers: the same for all of one cause."""
         of = " and ".join(self.blocking) or self.step or ""
         of = f"undoing {of}" if self.undo else of
-        return f"{of}: {NUMBERS.sub('…', self.detail)}" if self.detail else of
+        detail = NUMBERS.sub("…", self.detail) if self.detail else ""
+        return ": ".join(part for part in (of, detail) if part)
 
 
 @dataclasses.dataclass(frozen=True, slots=True)
@@ -112,7 +120,8 @@ def entries(
     query = " AND ".join([text, *wheres]) + f" {order} LIMIT ?"
     rows = yield Query(query, (*words, wanted))
     names = yield from names_module.of_digests(row[5] for row in rows)
-    found = (_entry(kind, names, *row) for row in rows if row[5] in names)
+    is_whole = kind == AttentionReason.DAMAGED  # a step has no part in it
+    found = (_entry(kind, names, *row) for row in rows if is_whole or row[5] in names)
     if step is None:
         return [*found]
     return [one for one in found if one.step == step and undo in (None, one.undo)][:most]
@@ -128,7 +137,7 @@ def _entry(
     kind: str, names: Names, started: float, id: int, place: int, key: str, saga: str,
     digest: str, action: str, outcome: str | None, detail: str | None, *times: Any,
 ) -> Entry:  # fmt: skip
-    steps = names.of(digest)
+    steps = names.of(digest) if digest in names else []
     blocking = chain_of(steps, outcome) if kind == AttentionReason.STUCK else []
     if detail is not None and kind in (AttentionReason.STUCK, AttentionReason.UNDO_FAILED):
         detail = str((json.loads(detail) or {}).get("error", ""))

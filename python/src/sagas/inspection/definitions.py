@@ -10,6 +10,7 @@ from sagas.inspection import names as names_module
 from sagas.inspection.lists import PERSON, WAITS
 from sagas.inspection.names import OF_SHARD
 from sagas.inspection.question import Query, Question
+from sagas.storage.filters import Scope
 from sagas.storage.queries import PHASES
 
 MOST, MOST_FAILED = 5000, 2000
@@ -20,18 +21,18 @@ AT = "d.definition"
 HELD = f"""
 SELECT {AT}, h.step, CASE WHEN {PERSON} THEN 'person' ELSE 'waits' END, count(*)
 FROM suspensions h CROSS JOIN sagas s {OF_SHARD}
-WHERE s.id = h.id AND {WAITS} AND s.saga = ? GROUP BY 1, 2, 3
+WHERE s.id = h.id AND {WAITS} AND s.saga = ? AND {{scope}} GROUP BY 1, 2, 3
 """
 OFFERED = f"""
 SELECT {AT}, e.step, CASE WHEN e.worker IS NULL THEN 'waits' ELSE 'worker' END, count(*)
 FROM external_attempts e CROSS JOIN sagas s {OF_SHARD}
-WHERE s.id = e.id AND e.outcome IS NULL AND s.saga = ?
+WHERE s.id = e.id AND e.outcome IS NULL AND s.saga = ? AND {{scope}}
 GROUP BY 1, 2, 3
 """
 FAILED = f"""
 SELECT {AT}, r.step, 'failed', count(*) FROM (
   SELECT id, definition_index FROM sagas s
-  WHERE saga = ? AND {{}} ORDER BY id DESC LIMIT {MOST_FAILED}) s
+  WHERE saga = ? AND {{{{scope}}}} AND {{}} ORDER BY id DESC LIMIT {MOST_FAILED}) s
 {OF_SHARD} JOIN attempts r ON r.id = s.id AND r.event IN ('fail', 'undo_fail') GROUP BY 1, 2
 """
 WITH_FAILURES = (
@@ -41,7 +42,7 @@ WITH_FAILURES = (
 )
 """The sagas in which a step has failed, by the indexes of their phases."""
 COSTS = """
-SELECT ended, outcome FROM sagas WHERE saga = ? AND recovered AND ended >= ?
+SELECT ended, outcome FROM sagas s WHERE saga = ? AND {scope} AND recovered AND ended >= ?
 ORDER BY id DESC LIMIT ?
 """
 
@@ -63,11 +64,11 @@ class AtStep:
         return self.person + self.worker + self.waits
 
 
-def at_steps(name: str) -> Question[dict[str, AtStep]]:
+def at_steps(name: str, scope: Scope) -> Question[dict[str, AtStep]]:
     """By the names with which the steps were declared."""
-    rows = []
+    rows, (where, words) = [], scope.where()
     for text in (HELD, OFFERED, *WITH_FAILURES):
-        rows += yield Query(text, (name,))
+        rows += yield Query(text.format(scope=where), (name, *words))
     names = yield from names_module.of_digests(digest for digest, *_ in rows)
     found = dict[str, Counter[str]]()
     for digest, step, what, count in rows:
@@ -77,10 +78,11 @@ def at_steps(name: str) -> Question[dict[str, AtStep]]:
     return {step: AtStep(**counts) for step, counts in found.items()}
 
 
-def costs(name: str, now: float) -> Question[list[tuple[float, int, int]]]:
+def costs(name: str, now: float, scope: Scope) -> Question[list[tuple[float, int, int]]]:
     """What recoveries cost lately: of each day its begin, how many ended, and their cost."""
     first = (now // DAY - DAYS + 1) * DAY
-    rows = yield Query(COSTS, (name, first, MOST))
+    where, words = scope.where()
+    rows = yield Query(COSTS.format(scope=where), (name, *words, first, MOST))
     counts, sums = Counter[float](), Counter[float]()
     known: dict[str | None, int] = {}  # most ended in one of a few ways
     for ended, outcome in rows:

@@ -5,6 +5,7 @@ from __future__ import annotations
 import dataclasses
 from collections.abc import Callable
 
+from sagas.definition.arguments import BELOW
 from sagas.inspection.question import Query, Question
 from sagas.inspection.views import Relative, SagaView
 from sagas.storage.queries import PHASE
@@ -31,6 +32,6 @@ def of(id: int, key: str) -> Question[tuple[Relative | None, list[Relative]]]:
     """The parent of a saga, if it has one, and its children in the order of their starts."""
     above = yield Query(PARENT, (id,))
     below = yield Query(CHILDREN.format(most=MOST), (id,))
-    parent = [Relative(one, saga, phase, key[len(one) + 1 :]) for one, saga, phase in above]
-    children = [Relative(one, saga, phase, one[len(key) + 1 :]) for one, saga, phase in below]
+    parent = [Relative(one, saga, phase, key[len(one + BELOW) :]) for one, saga, phase in above]
+    children = [Relative(one, saga, phase, one[len(key + BELOW) :]) for one, saga, phase in below]
     return parent[0] if parent else None, children

@@ -3,8 +3,8 @@
 from __future__ import annotations
 
 import json
-from collections.abc import Callable, Collection, Mapping
-from typing import Any, Optional
+from collections.abc import Callable, Mapping
+from typing import Any
 
 from sagas.core import states
 from sagas.core.attention import Attention, AttentionReason
@@ -15,17 +15,26 @@ from sagas.core.results import DefinitionCount, SagaResult, Summary, UnknownAtte
 from sagas.definition import tokens
 from sagas.definition.capacity import SHARD_CAPACITY
 from sagas.definition.compiled import Kind, version_of
+from sagas.definition.labels import TOKEN
 from sagas.inspection import names as names_module
 from sagas.inspection.names import OF_SHARD, Names
 from sagas.inspection.question import Query, Question, Row
 from sagas.inspection.views import Waits
 from sagas.storage import schedules as schedules_module
-from sagas.storage.filters import Filter, among
-from sagas.storage.queries import HELD, LABELS, PHASE, PHASES, RESULTS, SAGA, labels_of
+from sagas.storage.filters import EVERYTHING, Filter, Scope
+from sagas.storage.queries import (
+    DAMAGED,
+    DAMAGED_SINCE,
+    HELD,
+    LABELS,
+    PHASE,
+    PHASES,
+    RESULTS,
+    SAGA,
+    labels_of,
+)
 from sagas.storage.schedules import Schedule
 
-Definitions = Optional[Collection[str]]
-"""The definitions of which sagas are looked at; None: all."""
 Counts = dict[str, dict[str, int]]
 COUNTED = ("open", "completed", "recovered", "stuck", "resolved")
 SUMMARY = (
@@ -45,21 +54,22 @@ SUSPENDED = f"""(
   UNION ALL SELECT e.id, e.step, e.action, e.number, 'external',
     coalesce((SELECT count FROM suspensions u WHERE {SAME.format("u", "e")}), 0), e.since, e.until,
     e.worker
-  FROM external_attempts e WHERE e.outcome IS NULL AND e.worker IS NOT NULL{{e}})"""
-"""What is suspended, and what a worker has; of what is offered again nobody waits for a time. With
-a further condition of each."""
+  FROM external_attempts e
+  WHERE e.outcome IS NULL AND e.worker IS NOT NULL AND e.until IS NOT NULL{{e}})"""
+"""What is suspended, and what a worker has; of what is offered again nobody waits for a time, and
+no worker has it, though its row says who had it last. With a further condition of each."""
 OF_KEY = " AND {}.id = (SELECT id FROM sagas WHERE key = ?)"
 PERSON = f"(reason = 'approval' OR {HELD_BADLY})"
 WAITS = "NOT (reason = 'wait' AND until = 0) AND number > 0"
 """The row of a wait stays behind its time, so that nobody waits once more. Of attempt 0 are the
 reports of steps that have not begun."""
 COUNTS = f"""
-SELECT saga, 'completed', count(*) FROM sagas GROUP BY saga
-UNION ALL SELECT saga, 'open', count(*) FROM sagas s WHERE {PHASES["open"]} GROUP BY saga
-UNION ALL SELECT saga, CASE WHEN note IS NULL THEN 'stuck' ELSE 'resolved' END, count(*) FROM sagas
-  WHERE phase = 'stuck' GROUP BY 1, 2
+SELECT saga, 'completed', count(*) FROM sagas s WHERE {{0}} GROUP BY saga
+UNION ALL SELECT saga, 'open', count(*) FROM sagas s WHERE {PHASES["open"]} AND {{0}} GROUP BY saga
+UNION ALL SELECT saga, CASE WHEN note IS NULL THEN 'stuck' ELSE 'resolved' END, count(*)
+  FROM sagas s WHERE phase = 'stuck' AND {{0}} GROUP BY 1, 2
 UNION ALL SELECT saga, CASE WHEN note IS NULL THEN 'recovered' ELSE 'resolved' END, count(*)
-  FROM sagas WHERE recovered GROUP BY 1, 2
+  FROM sagas s WHERE recovered AND {{0}} GROUP BY 1, 2
 """
 """All sagas of each definition, and those of the phases that have an index: so nothing is sorted
 but names."""
@@ -79,10 +89,11 @@ def summary_of(row: Row) -> Summary:
     return Summary(id, key, saga, phase, at, ended, note, bool(undo_failed), told, deadline)
 
 
-def counts() -> Question[Counts]:
+def counts(scope: Scope = EVERYTHING) -> Question[Counts]:
     """How many sagas there are, by name and phase."""
     found: Counts = {}
-    rows = yield Query(COUNTS)
+    where, words = scope.where()
+    rows = yield Query(COUNTS.format(where), (*words, *words, *words, *words))
     for saga, phase, count in sorted(rows, key=lambda row: str(row[1]) != "completed"):
         of = found.setdefault(saga, dict.fromkeys(COUNTED, 0))
         of[phase] += count
@@ -93,6 +104,23 @@ def counts() -> Question[Counts]:
 
 HEADS = "SELECT definition, substr(text, 1, 40) FROM definitions"
 """Of each definition as much as its version stands in."""
+
+
+OpenByToken = dict[str, tuple[int, int]]
+OPEN_BY_TOKEN = f"""
+SELECT b.value FROM sagas s JOIN labels b ON b.id = s.id AND b.name = '{TOKEN}'
+WHERE {PHASES["open"]}
+"""
+
+
+def open_by_token() -> Question[OpenByToken]:
+    """How many open sagas each token started by a service, and the bytes of their inputs."""
+    found: OpenByToken = {}
+    for (text,) in (yield Query(OPEN_BY_TOKEN, is_long=True)):
+        size, _, name = text.partition(" ")
+        count, total = found.get(name, (0, 0))
+        found[name] = count + 1, total + int(size)
+    return found
 
 
 def definitions() -> Question[list[DefinitionCount]]:
@@ -136,21 +164,22 @@ def to_abort(of: Filter, most: int) -> Question[tuple[int, list[str]]]:
     return int(rows[0][0]), [str(key) for key, in keys]
 
 
-def asked(sagas: Definitions = None) -> Question[dict[str, int]]:
+def asked(scope: Scope = EVERYTHING) -> Question[dict[str, int]]:
     """How many things wait for a person: stuck sagas, sagas of which a compensation failed
-    permanently, approvals, and attempts that are exhausted, whose outcome is unknown, or whose
-    stored values cannot be read."""
-    within = ""
-    if sagas is not None:
-        within = f" AND id IN (SELECT id FROM sagas s WHERE {among(sagas)})"
+    permanently, approvals, attempts that are exhausted, whose outcome is unknown, or whose stored
+    values cannot be read, and open sagas whose shard is damaged."""
+    (where, words), within = scope.where(), ""
+    if scope != EVERYTHING:
+        within = f" AND id IN (SELECT id FROM sagas s WHERE {where})"
     query = f"SELECT reason, count(*) FROM suspensions WHERE {PERSON}{within} GROUP BY reason"
-    rows = yield Query(query, (*(sagas or ()),))
+    rows = yield Query(query, (*words,))
     held = {reason: count for reason, count in rows}
     asks = ("unknown", "exhausted", "cannot_decode", "approval")
     told = {word: held.get(word, 0) for word in asks}
-    stuck = yield from count(Filter("stuck", sagas=sagas))
-    undo_failed = yield from count(Filter("undo_failed", sagas=sagas))
-    return {"stuck": stuck, "undo_failed": undo_failed, **told}
+    stuck = yield from count(Filter("stuck", scope=scope))
+    undo_failed = yield from count(Filter("undo_failed", scope=scope))
+    damaged = yield Query(f"SELECT count(*) {DAMAGED} AND {where}", (*words,))
+    return {"stuck": stuck, "undo_failed": undo_failed, **told, "damaged": int(damaged[0][0])}
 
 
 def waits(
@@ -159,12 +188,13 @@ def waits(
     person: bool = True,
     why: str | None = None,
     key: str | None = None,
-    sagas: Definitions = None,
+    scope: Scope = EVERYTHING,
     within: Filter | None = None,
 ) -> Question[list[Waits]]:
     """What is held, the oldest first; by default what a person has to say something about. `why`:
     of this reason alone; `key`: of one saga alone; `within`: of those sagas alone."""
-    wheres, words = [WAITS, among(sagas)], list[Any](sagas or ())
+    seen, words = scope.where()
+    wheres = [WAITS, seen]
     if within is not None:
         condition, more = within.where()
         wheres.append(condition)
@@ -205,14 +235,17 @@ def _waits(
     return Waits(id, key, saga, name, action == "undo", number, *told)
 
 
-def stuck(most: int = MOST, sagas: Definitions = None) -> Question[list[tuple[Summary, list[str]]]]:
+def stuck(
+    most: int = MOST, scope: Scope = EVERYTHING
+) -> Question[list[tuple[Summary, list[str]]]]:  # fmt: skip
     """The stuck sagas that nobody has resolved, with the chain of each, the oldest first."""
+    where, words = scope.where()
     rows = yield Query(
         f"""
         SELECT {SUMMARY}, d.definition, s.outcome FROM sagas s {OF_SHARD}
-        WHERE {PHASES["stuck"]} AND {among(sagas)} {OLDEST} LIMIT ?
+        WHERE {PHASES["stuck"]} AND {where} {OLDEST} LIMIT ?
         """,
-        (*(sagas or ()), most),
+        (*words, most),
     )
     names = yield from names_module.of_digests(row[-2] for row in rows)
     return [
@@ -270,6 +303,12 @@ def unknown(most: int) -> Question[list[UnknownAttempt]]:
     return found
 
 
+IN_DAMAGED = f"""
+SELECT s.key, s.saga, coalesce(d.definition, ''), 'damaged', NULL, '', l.audit, {DAMAGED_SINCE}
+{DAMAGED} ORDER BY s.id LIMIT ?
+"""
+
+
 def attention(most: int = MOST) -> Question[list[Attention]]:
     """What needs a person, the oldest first."""
     stuck_sagas = f"""
@@ -297,27 +336,29 @@ def attention(most: int = MOST) -> Question[list[Attention]]:
     }
     rows = rows + (yield undone_query(most))
     rows = rows + (yield Query(attempts, (most,)))
+    rows = rows + (yield Query(IN_DAMAGED, (most,)))
     return (yield from _entries(rows, most, errors))
 
 
-def undone(most: int = MOST, sagas: Definitions = None) -> Question[list[Attention]]:
+def undone(most: int = MOST, scope: Scope = EVERYTHING) -> Question[list[Attention]]:
     """The compensations that failed permanently of sagas that have ended and that nobody has
     resolved, the oldest first."""
-    rows = yield undone_query(most, sagas)
+    rows = yield undone_query(most, scope)
     return (yield from _entries(rows, most))
 
 
-def undone_query(most: int, sagas: Definitions = None) -> Query:
+def undone_query(most: int, scope: Scope = EVERYTHING) -> Query:
     """Asks for compensations that failed permanently."""
+    where, words = scope.where()
     return Query(
         f"""
         SELECT s.key, s.saga, d.definition,
           'undo_failed', r.step, 'undo', r.value, r.at
         FROM sagas s CROSS JOIN attempts r {OF_SHARD}
         WHERE r.id = s.id AND r.event = 'undo_fail' AND {PHASES["undo_failed"]}
-          AND {among(sagas)} ORDER BY r.at, s.id, r.step LIMIT ?
+          AND {where} ORDER BY r.at, s.id, r.step LIMIT ?
         """,
-        (*(sagas or ()), most),
+        (*words, most),
     )
 
 
@@ -329,9 +370,10 @@ def _entries(
     names = yield from names_module.of_digests(row[2] for row in rows)
     found = []
     for key, saga, digest, word, step, action, told, since in rows:
-        if digest not in names:
+        why = AttentionReason(word)
+        if digest not in names and why is not AttentionReason.DAMAGED:
             continue
-        why, steps = AttentionReason(word), names.of(digest)
+        steps = names.of(digest) if digest in names else []
         name, detail, undo = None if step is None else steps[step], told, action == "undo"
         if why is AttentionReason.STUCK:
             chain = chain_of(steps, told)

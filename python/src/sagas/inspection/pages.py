@@ -3,7 +3,6 @@
 from __future__ import annotations
 
 import dataclasses
-from collections.abc import Collection
 from typing import Any, Optional
 
 from sagas.core.results import Summary
@@ -78,18 +77,17 @@ def page(
     after: Position = None,
     newest: bool | None = None,
     most: int | None = 50,
-    sagas: Collection[str] | None = None,
     of: Filter | None = None,
 ) -> Question[list[Summary]]:
     """A page of the list, the newest first, or the oldest first: those `before` a place, or `after`
     one. `newest`: which are first; by default the oldest where `after` is given.
 
-    `most`: None for all; `phase`, `saga`, `labels`, `search`, `sagas`: as of a `Filter`, or `of`.
+    `most`: None for all; `phase`, `saga`, `labels`, `search`: as of a `Filter`, or `of`.
 
     A database cannot know which is less work: to go through the sagas in their order, or to sort
     all that are of the filter. So it goes through those that are near, and then it sorts.
     """
-    of = of or Filter(phase, saga, labels, search, sagas)
+    of = of or Filter(phase, saga, labels, search)
     is_newest = after is None if newest is None else newest
     bounds = _bounds(of, after, before)
     if of.has_times_alone:

@@ -116,18 +116,26 @@ def plan(row: SagaRow) -> Question[Plan | None]:
     return (yield from _kept(row)).plan
 
 
-def log(row: SagaRow) -> Question[list[HistoryEvent]]:
-    """The events of a saga, each with what came of it."""
-    return (yield from _kept(row)).events
+def log(row: SagaRow, read: Read) -> Question[list[HistoryEvent]]:
+    """The events of a saga, each with what came of it. `read`: as of `view`."""
+    return (yield from _kept(row, read)).events
 
 
-def notes(key: str) -> Question[list[Note]]:
-    """What people did to a saga, in the order of time."""
+def notes(key: str, read: Read = json.loads) -> Question[list[Note]]:
+    """What people did to a saga, in the order of time. `read`: as of `view`."""
     rows = yield Query(NOTES, (key,))
     return [
-        Note(key, what, at, json.loads(value or "null") or {}, answer and json.loads(answer))
+        Note(key, what, at, _told(value, read), answer and json.loads(answer))
         for key, what, at, value, answer in rows
     ]
+
+
+def _told(value: str | None, read: Read) -> dict[str, Any]:
+    """What is kept of a command, with the result that it reports."""
+    told: dict[str, Any] = json.loads(value or "null") or {}
+    if "result" in told:
+        told["result"] = read(json.dumps(told["result"], separators=(",", ":")))
+    return told
 
 
 def view(key: str, read: Read = json.loads) -> Question[SagaView | None]:
@@ -155,13 +163,14 @@ def _view(
     """All of a saga that is there. Raises `NoSuchSaga` where it was let go meanwhile."""
     kept = yield from _kept(row, read)
     held = yield from waits(MOST_HELD, person=False, key=row.key)
-    done = yield from notes(row.key)
+    done = yield from notes(row.key, read)
     token = yield from _token(row.id)
     history, results = kept.history, results_of(kept.attempts)
     progress = {row[:3]: Progress(*row[3:]) for row in (yield Query(PROGRESS, (row.id,)))}
     spans = yield Query(SPANS, (row.id,))
     elsewhere = yield Query(ELSEWHERE, (row.id,))
-    early = {step: SAID[EarlyReason(why)] for step, why in (yield Query(EARLY, (row.id,)))}
+    found = (yield Query(EARLY, (row.id,))) if row.phase is None else []
+    early = {step: SAID[EarlyReason(why)] for step, why in found}
     states = zip(kept.names, history.states)
     parent, children = yield from families.of(row.id, row.key)
     return SagaView(

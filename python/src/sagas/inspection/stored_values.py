@@ -6,6 +6,8 @@ import json
 import re
 from typing import Any
 
+from sagas.definition.payloads import unescaped
+
 LARGE = 10_000
 """Characters from which on a value is not read at once: of 1 MiB that takes 20 ms."""
 TOKENS = re.compile(r'("(?:[^"\\]|\\u[0-9a-f]{4}|\\[^u])*)("?)|[,:]')
@@ -50,7 +52,8 @@ def _shown(token: re.Match[str]) -> str:
 
 
 def stored(text: str) -> Any:
-    """A value; a large one as it is stored."""
+    """A value; a large one as it is stored, and so one that is encoded."""
+    text = unescaped(text)
     return json.loads(text) if len(text) < LARGE else StoredValue(text)
 
 

@@ -7,7 +7,7 @@ import functools
 import inspect
 import os
 import time
-from collections.abc import Callable, Sequence
+from collections.abc import Awaitable, Callable, Sequence
 from concurrent.futures import Executor as Threads
 from typing import Any, Protocol
 
@@ -69,8 +69,9 @@ class Calls:
 
     def __init__(
         self, ends: Ends, host: Host, slots: Slots, fleet: Fleet, threads: Threads, remote: Remote,
-        tracer: Tracer | None,
+        tracer: Tracer | None, fill: Callable[[Attempt], Awaitable[None]],
     ) -> None:  # fmt: skip
+        self._fill = fill
         self._ends, self._store, self._slots, self._fleet = ends, host.store, slots, fleet
         self._threads, self._remote = threads, remote
         self._teller, self._clock = host.teller, host.clock
@@ -96,7 +97,7 @@ class Calls:
 
     def start(self, attempt: Attempt) -> None:
         """Call its function; it has a slot."""
-        if attempt.action.simple and self._tracer is None:
+        if attempt.action.simple and self._tracer is None and not attempt.lacks():
             self.start_simple([attempt])
             return
         gate = self._fleet.gate(attempt)
@@ -142,10 +143,20 @@ class Calls:
         fault, outcome, began = None, None, time.monotonic()
         CALLED.set(attempt)
         try:
-            outcome = await self._outcome(attempt, attempt.manner)
+            if await self._has_values(attempt):
+                outcome = await self._outcome(attempt, attempt.manner)
         except Lost as error:
             fault = error
         self._ended(attempt, began, outcome, fault, at_once=False)
+
+    async def _has_values(self, attempt: Attempt) -> bool:
+        """Read what it lacks. False: it was cancelled meanwhile."""
+        if attempt.lacks():
+            try:
+                await self._fill(attempt)
+            except asyncio.CancelledError:
+                return False
+        return True
 
     async def _outcome(self, attempt: Attempt, manner: Manner) -> Outcome | None:
         """Call what is not simple: in a thread, in its time, in a transaction, or elsewhere."""

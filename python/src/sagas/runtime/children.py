@@ -24,9 +24,11 @@ from sagas.core.states import Suspension
 from sagas.definition import tokens, undo_sagas
 from sagas.definition.capacity import SHARD_CAPACITY
 from sagas.definition.compiled import Kind
+from sagas.definition.labels import TOKEN
 from sagas.definition.saga import Saga
 from sagas.definition.start_options import StartOptions, deadline_at
 from sagas.runtime.executor_host import Host
+from sagas.runtime.stored_values import ValueReader
 from sagas.runtime.waiters import Waiters
 
 AGAIN = 1.0
@@ -36,7 +38,7 @@ LOOK = 5.0
 PARENT = """
 SELECT s.id, c.parent FROM sagas s LEFT JOIN children c ON c.id = s.id WHERE s.key = ?
 """
-LABELS = "SELECT name, value FROM labels WHERE id = ?"
+LABELS = f"SELECT name, value FROM labels WHERE id = ? AND name <> '{TOKEN}'"
 NAME = "SELECT name FROM shards WHERE shard = ?"
 
 
@@ -86,8 +88,8 @@ class Children:
     program, or a slow one, might start it behind the parent's end.
     """
 
-    def __init__(self, host: Host, reports: Reports) -> None:
-        self._host, self._reports = host, reports
+    def __init__(self, host: Host, reports: Reports, values: ValueReader) -> None:
+        self._host, self._reports, self._values = host, reports, values
         self.carrier: Carrier | None = None
         self._jobs: dict[Attempt, asyncio.Task[None]] = {}
         self._aborts: dict[Attempt, asyncio.Task[None]] = {}
@@ -189,12 +191,15 @@ class Children:
         if saga is None:
             return Outcome(SUCCEEDED, "null")  # there is no compensation to be called
         while not await self._is_there(attempt, key):
+            await self._values.fill(attempt)
             try:
                 given = await self._input(attempt, saga)
             except SagasError:
                 raise
             except Exception as error:  # of the step's function
                 return outcomes.raised(error, attempt.manner)
+            finally:
+                attempt.instance.release()
             if await self._carried.start(saga, key, given, await self._options(attempt, saga)):
                 break
         return key
@@ -253,9 +258,11 @@ class Children:
         """
         if attempt.undo or attempt not in self._there:
             return
+        if not attempt.instance.drains:
+            return
         if attempt.instance.aborted and attempt not in self._aborts:
             self._aborts[attempt] = self._host.spawn(self._abort(attempt))
-        elif attempt.instance.draining and attempt not in self._drops:
+        elif attempt not in self._drops:
             self._drops[attempt] = self._host.spawn(self._abort_if_dropped(attempt))
 
     async def _abort(self, attempt: Attempt) -> None:

@@ -128,7 +128,10 @@ class Coordinator:
         shard.
         """
         for place in places:
-            kind = self.shelf.kind(texts[place])
+            try:
+                kind = self.shelf.kind(texts[place])
+            except (ValueError, LookupError, TypeError, SagasError):
+                continue  # its shard is set aside
             lacks = kind.lacks()
             if lacks:
                 return f"saga {kind.name!r} (version {kind.version}) has open sagas, but {lacks}"

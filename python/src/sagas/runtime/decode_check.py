@@ -15,6 +15,9 @@ from sagas.core.batch import Loaded
 from sagas.core.model import RUNNING
 from sagas.core.shard import ShardDriver
 from sagas.definition.compiled import Kind
+from sagas.definition.payloads import ABSENT
+from sagas.runtime import stored_values
+from sagas.runtime.retries import until_answered
 from sagas.storage.interface import Database
 
 MANY = 32
@@ -31,7 +34,9 @@ class Checked(Protocol):
     has_unread: bool
 
 
-async def faults(kinds: Sequence[Kind], rows: Loaded) -> AsyncIterator[str]:
+async def faults(
+    kinds: Sequence[Kind], rows: Loaded, store: Database
+) -> AsyncIterator[str]:  # fmt: skip
     """Of each open saga of a shard yield the first thing that cannot be read."""
     results: dict[int, dict[int, str]] = {}
     for id, step, word, _, outcome, value, _ in rows.results:
@@ -41,7 +46,16 @@ async def faults(kinds: Sequence[Kind], rows: Loaded) -> AsyncIterator[str]:
         kind = kinds[place]
         if count % MANY == MANY - 1:
             await asyncio.sleep(0)
-        if kind.reads and (why := kind.unread(text, results.get(id, {}))):
+        if not kind.reads:
+            continue
+        known = results.get(id, {})
+        if ABSENT in (text, *known.values()):
+            lacking = [step for step, value in known.items() if value == ABSENT]
+            stored = await until_answered(lambda: stored_values.of(store, id, lacking))
+            if stored is None:
+                continue
+            text, known = stored.text, {**known, **stored.results}
+        if why := kind.unread(text, known):
             yield f"saga {kind.name!r}, key {key!r}, {why}"
 
 
@@ -50,7 +64,7 @@ async def is_left(shard: Checked, rows: Loaded, store: Database) -> bool:
     what this one cannot. Else that is told, once.
     """
     driver = shard.driver
-    found = [fault async for fault in faults(driver.identity.definitions.kinds, rows)]
+    found = [fault async for fault in faults(driver.identity.definitions.kinds, rows, store)]
     if not found:
         return False
     if not is_at_work(driver) and await store.spare(driver.number):

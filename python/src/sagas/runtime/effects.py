@@ -11,6 +11,7 @@ from sagas.core.effects import NOTHING_RARE, Abort, Effects, RareEffects
 from sagas.core.model import Attempt, SagaInstance
 from sagas.core.recovery import Recovery
 from sagas.core.states import saga_phase, undo_failures
+from sagas.definition.payloads import ABSENT
 from sagas.runtime.executor import Executor
 from sagas.runtime.instances import Instances
 from sagas.runtime.relocation import conflict
@@ -33,6 +34,9 @@ class Home(Protocol):
         not that saga.
         """
 
+    def meet(self, saga: SagaInstance) -> None:
+        """Its key has a saga of which large values are not held: look whether it is the same."""
+
     def doubt(self) -> None:
         """Starts of clients that are this node's may not be under way."""
 
@@ -42,6 +46,9 @@ class Offers(Protocol):
 
     def offered(self, attempt: Attempt) -> None:
         """Its row is in the store."""
+
+    def withdrawn(self, attempt: Attempt, is_done: bool) -> None:
+        """Its withdrawal is in the store, where no worker had it."""
 
     def look(self) -> None:
         """What was reported may be taken now."""
@@ -63,12 +70,8 @@ class EffectHandler:
             self._acknowledgements.decided(effects)
         if effects.unclaimed:
             self._slots.release(effects.unclaimed)
-        rare = effects.rare
-        if rare is not NOTHING_RARE:
-            for saga in rare.draining:
-                self._executor.drain(saga)
-            for saga in rare.displaced:
-                self._home.place(saga)
+        for saga in effects.rare.displaced:
+            self._home.place(saga)
 
     def lost(self, effects: Effects) -> None:
         """The batch is not durable: nothing of it begins."""
@@ -94,6 +97,12 @@ class EffectHandler:
         if dispatch := effects.dispatch:
             self._slots.release(len(dispatch))
             self._executor.begin_all(dispatch)
+        for saga in effects.opened:
+            if saga.is_large:  # it may wait for a slot
+                saga.release()
+        for attempt in effects.reported:
+            if attempt.instance.is_large and not attempt.instance.over:
+                attempt.instance.release()
 
     def _kept(self, rare: RareEffects) -> None:
         """Rows, offers, reports and answers are in the store."""
@@ -101,6 +110,10 @@ class EffectHandler:
             self._executor.stored(attempt)
         for attempt in rare.offered:
             self._offers.offered(attempt)
+        for attempt, withdrawal in rare.withdrawn:
+            self._offers.withdrawn(attempt, withdrawal.is_done)
+        for saga in rare.draining:
+            self._executor.drain(saga)
         for report in rare.early:
             self._executor.early.stored(report)
         for abort in rare.aborted:
@@ -119,6 +132,10 @@ class EffectHandler:
             self._acknowledgements.recovered(found)
         for before, saga in found.replaced:
             kind = saga.kind
+            if saga.text == ABSENT:
+                self._home.withdraw(before)
+                self._home.meet(before)
+                continue
             if error := conflict(saga.key, before.kind, before.text, kind.name, saga.text):
                 self._sagas.starts.tell(before, error)
                 self._sagas.ends.tell(before, error)

@@ -28,6 +28,7 @@ from sagas.runtime.children import Children
 from sagas.runtime.early_reports import EarlyReports
 from sagas.runtime.executor_host import External, Host, Runner
 from sagas.runtime.fleet_limits import Fleet
+from sagas.runtime.stored_values import ValueReader
 from sagas.runtime.waiters import Waiters
 
 DONE = ("commit", "undone")
@@ -41,6 +42,7 @@ class Executor:
         machine: What decides.
         slots: How many functions may run.
         fleet: The limits over all nodes.
+        values: What reads values that are not held.
         calls: The functions that run.
         children: The attempts that wait for child sagas.
         changes: Who waits until an attempt is suspended, or finished.
@@ -59,10 +61,13 @@ class Executor:
         self.slots = Slots(concurrency, self._start, host.feed)
         self.fleet = Fleet(host, self.slots.enter)
         remote = functools.partial(remote_steps.call, external)
-        self.calls = Calls(self, host, self.slots, self.fleet, threads, remote, tracer)
+        self.values = ValueReader(host)
+        self.calls = Calls(
+            self, host, self.slots, self.fleet, threads, remote, tracer, self.values.fill
+        )
         self.changes: Waiters[Attempt] = Waiters(host.loop)
         self.kept: Waiters[Attempt] = Waiters(host.loop)
-        self.children = Children(host, self)
+        self.children = Children(host, self, self.values)
         self.early = EarlyReports(host, host.clock)
         self._timers: dict[Attempt, asyncio.TimerHandle] = {}
         self._doubted: set[Attempt] = set()  # it is looked for what their workers reported
@@ -82,6 +87,7 @@ class Executor:
             if attempt.action.simple is not None
             and attempt.attempt == 1
             and not attempt.instance.draining
+            and not attempt.lacks()
         ]
         count = 0 if self.closing else self.slots.take(len(simple))
         if count < len(attempts):
@@ -107,7 +113,9 @@ class Executor:
             self._do(attempt, decision)
 
     def drain(self, instance: SagaInstance) -> None:
-        """Let a saga drain: it is about to be planned. Its functions that run hear of it."""
+        """Let a saga drain, as the store has it: it is about to be planned. Its functions that run
+        hear of it.
+        """
         if not instance.busy:
             return
         self.calls.cancel(instance)
@@ -124,6 +132,8 @@ class Executor:
             self.tell(attempt, *decision.event)
         if decision.do is Do.CALL:
             self.enter(attempt)
+        elif decision.do is Do.READ:
+            self._host.spawn(self.values.then(attempt, self._has_values))
         elif decision.do is Do.REPORT:
             self._finished(attempt, at_once)
         elif decision.do is Do.OFFER:
@@ -138,10 +148,17 @@ class Executor:
             if decision.timer:
                 self._set_timer(attempt)
             self.changes.tell(attempt)
-        if attempt.state is SUSPENDED and decision.do is not Do.WITHDRAW:
-            self._note(attempt, decision.row)
+        if attempt.state is SUSPENDED and decision.do is not Do.READ:
+            if decision.do is not Do.WITHDRAW:
+                self._note(attempt, decision.row)
+            attempt.instance.release()
         if decision.row:
             self._put(attempt, decision.row)
+
+    def _has_values(self, attempt: Attempt) -> None:
+        """Its values are held by now."""
+        if not self.closing:
+            self._do(attempt, self.machine.has_values(attempt, self._clock()))
 
     def _note(self, attempt: Attempt, row: SuspensionRow | None = None) -> None:
         """For its history. Of what others do the table of external attempts tells."""
@@ -188,6 +205,9 @@ class Executor:
         if self.closing:
             return
         decision = self.machine.limit(attempt, self._clock())
+        if decision.do is Do.READ:
+            self._host.spawn(self.values.then(attempt, self.enter))
+            return
         if decision.do is not Do.CALL:
             self._do(attempt, decision)
             return
@@ -198,6 +218,7 @@ class Executor:
             self.slots.enter(attempt)
         if attempt.state in (SUSPENDED, QUEUED):
             self._note(attempt)
+            attempt.instance.release()
 
     def _start(self, attempt: Attempt) -> None:
         self.calls.start(attempt)

@@ -67,7 +67,9 @@ class External(Protocol):
         """It waits for a worker."""
 
     def withdraw(self, attempt: Attempt) -> None:
-        """It is taken back, unless a worker has it; then `Executor.withdrawn` is called."""
+        """It is taken back by a commit of its shard, unless a worker has it; then
+        `Executor.withdrawn` is called.
+        """
 
     def gone(self, attempt: Attempt) -> None:
         """Its outcome is known, or it is not this program's any more."""

@@ -11,7 +11,7 @@ import contextlib
 from collections.abc import Iterable, Sequence
 from typing import TYPE_CHECKING, Any
 
-from sagas.base.errors import LeaseLost, SagasError, StoreUnavailable
+from sagas.base.errors import CannotDecode, LeaseLost, SagasError, StoreUnavailable
 from sagas.base.logger import logger
 from sagas.core.lease_signature import Signer
 from sagas.core.model import Attempt
@@ -26,13 +26,15 @@ from sagas.definition.task_data import Told
 from sagas.runtime import given_values
 from sagas.runtime.external_reports import ExternalReports
 from sagas.runtime.leased_tasks import Heartbeat, LeasedTask, Queue, Word
-from sagas.runtime.retries import until_answered
+from sagas.runtime.offer_check import OfferCheck
 from sagas.storage import queries
 from sagas.storage.external import Claim
 
 if TYPE_CHECKING:
     from sagas.runtime.coordinator import Coordinator
 
+BUDGET = 16 << 20
+"""Characters of the values that a claim hands out, unless the first task alone has more."""
 AGAIN = 2.0
 """Seconds after which what the store did not answer is asked again."""
 LOOK = 0.5
@@ -66,6 +68,8 @@ class ExternalQueue(ExternalReports):
         self._limited: set[str] = set()
         self._waiting: dict[str, dict[asyncio.Future[None], None]] = {}
         self._offering: set[Attempt] = set()
+        self._withdrawing: set[Attempt] = set()
+        self._check = OfferCheck(self.owner, self._is_moving, self._offer)
         self._dispatched: dict[Attempt, asyncio.Future[None]] = {}
         self._timer: asyncio.TimerHandle | None = None
         self._pause, self._wakes = LOOK, 0.0
@@ -98,14 +102,14 @@ class ExternalQueue(ExternalReports):
 
     def offer(self, attempt: Attempt) -> None:
         """It waits for a worker, or for the one that has it."""
+        self._withdrawing.discard(attempt)  # its commit was not made, or nobody knows
         if self.owner.closed or attempt.pending:
             return
         if attempt.offered is not None:
             attempt.rare.offered = None
             self.offered(attempt)
             return
-        self._offering.add(attempt)
-        self._put(attempt)
+        self._offer(attempt)
 
     def _put(self, attempt: Attempt) -> None:
         shard = attempt.instance.shard
@@ -115,6 +119,7 @@ class ExternalQueue(ExternalReports):
     def offered(self, attempt: Attempt) -> None:
         """Its row is in the store."""
         self._offering.discard(attempt)
+        self._check.offered(attempt)
         if committed := self._dispatched.get(attempt):
             _set(committed)
             return
@@ -123,22 +128,42 @@ class ExternalQueue(ExternalReports):
         self.wake(task_name(attempt.saga, attempt.declared_name, attempt.kind))
 
     def withdraw(self, attempt: Attempt) -> None:
-        """Its saga is being undone: it is taken back, unless a worker has it."""
-        if attempt not in self._offering:
-            self.owner.spawn(self._withdraw(attempt))
+        """Its saga is being undone: it is taken back, unless a worker has it. That is a commit of
+        its shard, behind the one that offered it, so that no other node's offer is taken back.
+        """
+        if self._is_moving(attempt):
+            return  # once it is offered, its saga is drained again
+        shard = attempt.instance.shard
+        if shard and (runner := self.owner.runner(shard)):
+            self._withdrawing.add(attempt)
+            runner.keep(shard.withdrawn(attempt, self.owner.clock()))
 
-    async def _withdraw(self, attempt: Attempt) -> None:
-        if await until_answered(lambda: self._table.withdraw(attempt.token())):
+    def withdrawn(self, attempt: Attempt, is_done: bool) -> None:
+        """The store has answered its withdrawal."""
+        self._withdrawing.discard(attempt)
+        if is_done:
             self.owner.executor.withdrawn(attempt)
 
     def gone(self, attempt: Attempt) -> None:
         """Its outcome is known, or it is not this program's any more."""
         self._offering.discard(attempt)
+        self._withdrawing.discard(attempt)
+        self._check.gone(attempt)
+
+    def _is_moving(self, attempt: Attempt) -> bool:
+        """Whether a commit that offers or withdraws it is not answered."""
+        return attempt in self._offering or attempt in self._withdrawing
+
+    def _offer(self, attempt: Attempt) -> None:
+        self._offering.add(attempt)
+        self._put(attempt)
 
     async def dispatch(self, attempt: Attempt) -> int:
         """Its row is in the store, with the lease for a message; where it has been reported
         already, that is told."""
         number, attempt.rare.offered = attempt.offered, None
+        while attempt.pending:  # a commit has one word for its row
+            await self.owner.executor.changes.wait(attempt)
         committed = self._dispatched[attempt] = self.owner.loop.create_future()
         try:
             while number is None:
@@ -214,13 +239,22 @@ class ExternalQueue(ExternalReports):
     async def _all_leased(
         self, claims: Sequence[Claim], worker: str, holder: str
     ) -> list[LeasedTask]:
-        """What a worker gets. If the store does not answer, all claims are given back. A claim
-        whose task cannot be read at all keeps its lease, so that it does not block the others.
+        """What a worker gets, of `BUDGET` as far as sizes are known; the other claims are given
+        back. If the store does not answer, all are. A claim whose values cannot be decoded is set
+        aside, so that it does not block the others.
         """
         found: list[LeasedTask | None] = []
-        for claim in claims:
+        size = most = 0
+        for number, claim in enumerate(claims):
+            if size + most > BUDGET:
+                self._unwanted(claims[number:])
+                break
             try:
-                found.append(await self._leased(claim, worker, holder))
+                found.append(task := await self._leased(claim, worker, holder))
+                most = max(most, task.size if task else 0)
+                size += task.size if task else 0
+            except CannotDecode as error:
+                await self.park(claim.attempt, claim.lease, str(error))
             except BaseException as error:
                 is_passing = isinstance(error, (StoreUnavailable, asyncio.CancelledError))
                 self._unwanted([one for one in claims if is_passing or one is not claim])
@@ -240,6 +274,12 @@ class ExternalQueue(ExternalReports):
             one.attempt_id: self._signer.number(one.attempt_id, one.lease, holder) for one in tasks
         }
         await asyncio.gather(*(self._give_back(*one) for one in numbers.items()))
+
+    async def set_aside(self, task: LeasedTask, holder: str, why: str) -> None:
+        """As `Store.workers.set_aside`."""
+        self._raise_if_closed()
+        number = self._signer.number(task.attempt_id, task.lease, holder)
+        await self.park(task.attempt_id, number, why)
 
     async def _give_back(self, attempt: str, lease: int) -> None:
         with contextlib.suppress(StoreUnavailable):  # then it runs out
@@ -270,7 +310,9 @@ class ExternalQueue(ExternalReports):
         else:
             attempt.rare.lease = Lease(claim.lease, worker, now, now + claim.seconds)
             attempt.fresh = False
+            await self.owner.executor.values.fill(attempt)
             task = attempt.task()
+            attempt.instance.release()
         if claim.cancelled is not None:
             task.cancelled.set(claim.cancelled)
         self.owner.teller.tell(
@@ -349,6 +391,8 @@ class ExternalQueue(ExternalReports):
         loop = self.owner.loop
         self._timer = loop.call_later(min(LOOK, self._pause), self._look_later)
         self.look()
+        if self._has_any:
+            self._check.look()
         if self._waiting and not self.owner.closed and loop.time() >= self._wakes:
             self._wakes = loop.time() + LOOK
             self.owner.spawn(self._wake_all())

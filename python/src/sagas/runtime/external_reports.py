@@ -21,13 +21,16 @@ from sagas.base.errors import (
     SagasError,
     StoreUnavailable,
 )
+from sagas.base.logger import logger
+from sagas.core import outcomes
 from sagas.core.exhaustion import RETRIED
 from sagas.core.lease_signature import Signer
 from sagas.core.model import FINISHED, SUSPENDED, Attempt
-from sagas.core.outcomes import FAILED, PERMANENT, SUCCEEDED, UNKNOWN, Outcome
+from sagas.core.outcomes import CANNOT_DECODE, FAILED, PERMANENT, SUCCEEDED, UNKNOWN, Outcome
 from sagas.core.states import OutcomeKind, Suspension
 from sagas.definition import tokens
 from sagas.definition.capacity import SHARD_CAPACITY
+from sagas.runtime.offer_check import is_out
 from sagas.runtime.retries import until_answered
 from sagas.storage import queries
 from sagas.storage.external import Report, Row
@@ -104,8 +107,6 @@ class ExternalReports:
         the task."""
         number = self._signer.number(token, lease, holder)
         self._raise_if_closed()
-        if outcome.kind is SUCCEEDED:
-            self.owner.shelf.payloads.check(outcome.value)
         shard = await self._table.report(token, number, str(outcome.kind), outcome.value)
         if shard is None:
             return await self._repeated(token, number, outcome)
@@ -116,6 +117,18 @@ class ExternalReports:
         else:
             await self._table.tell()
         return True
+
+    async def park(self, token: str, number: int, why: str) -> None:
+        """Set a claimed task aside that cannot be handed out: it waits for a program that can read
+        what is stored for it, or for an operator."""
+        logger.warning("%s cannot be handed out: %s", token, why)
+        outcome = outcomes.unreadable(why)
+        with contextlib.suppress(StoreUnavailable):  # the lease ends, and it is claimed again
+            shard = await self._table.report(token, number, str(outcome.kind), outcome.value)
+            if shard in self.owner.shards.runners:
+                await self._apply(Report(token, str(outcome.kind), outcome.value))
+            elif shard is not None:
+                await self._table.tell()
 
     async def _apply(self, report: Report) -> None:
         """Reports it into its shard here, where it can be now, and waits until it is there."""
@@ -129,7 +142,7 @@ class ExternalReports:
     def _deliver(self, report: Report, attempt: Attempt) -> bool:
         """Whether what was reported of an attempt that is under way here could be said of it
         now."""
-        outcome = Outcome(OutcomeKind(report.outcome), report.value)
+        outcome = outcomes.delivered(OutcomeKind(report.outcome), report.value)
         if attempt.pending:
             return False
         if (waiting := self._reports.get(report.attempt)) is not None:
@@ -139,6 +152,8 @@ class ExternalReports:
         is_known = attempt.reason in RETRIED
         if attempt.state is not SUSPENDED or not (is_known or is_out(attempt)):
             return False
+        if outcome.kind in (UNKNOWN, CANNOT_DECODE) and attempt.lease:
+            attempt.rare.lease = None  # it ended with that: whoever claims it next has another
         if outcome.kind is SUCCEEDED or not is_known:
             self.owner.executor.ended(attempt, outcome)
         elif outcome.kind is not UNKNOWN and attempt.reason is Suspension.UNKNOWN:
@@ -207,11 +222,6 @@ class ExternalReports:
             if phase is None and await self._table.find(token):
                 raise OwnerUnavailable(f"{token!r}: its outcome is being stored. Report it again")
         raise NoSuchTask(f"no task that has started has the attempt id {token!r}")
-
-
-def is_out(attempt: Attempt) -> bool:
-    """Whether it waits for a worker, or for the one that has it."""
-    return attempt.state is SUSPENDED and attempt.reason is Suspension.EXTERNAL
 
 
 def _raise_lost(row: Row, token: str, number: int, said: str, outcome: Outcome) -> None:

@@ -28,7 +28,7 @@ def text_of(task: Task[Any]) -> str:
             "program does not have the version that the saga was started with. Claim it at a node "
             "that has it"
         )
-    return serialization.write(task.given, "what given= returned")
+    return serialization.write_value(task.given, "what given= returned")
 
 
 def failure(error: Exception) -> Outcome:

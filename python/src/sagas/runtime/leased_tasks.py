@@ -29,6 +29,13 @@ class LeasedTask:
     task: Task[Any]
     given: str = "null"
 
+    @property
+    def size(self) -> int:
+        """Characters of its values, as JSON."""
+        texts = self.task.texts
+        own = (self.given, texts["input"], texts["result"] or "")
+        return sum(map(len, own)) + sum(map(len, texts["results"].values()))
+
 
 @dataclasses.dataclass(frozen=True, slots=True)
 class Heartbeat:

@@ -115,7 +115,7 @@ class Requests:
             return
         except SagasError as error:
             answer = {"error": f"{type(error).__name__}: {error}"}
-        except (TypeError, ValueError, KeyError) as error:
+        except (TypeError, ValueError, KeyError, RecursionError) as error:
             answer = {"error": f"invalid request: {error}"}
         batch = Batch(-1, self._owner.clock())
         batch.more.answers.append((json.dumps(answer), id))

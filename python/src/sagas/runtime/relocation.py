@@ -106,6 +106,17 @@ class Relocation:
             self._spawn(self._begun(saga.start, None if error else row.id))
         self.leave(saga, error)
 
+    def meet(self, saga: SagaInstance) -> None:
+        """Another saga has its key, and is driven here: it is read, and compared with that."""
+        self._spawn(self._meet(saga))
+
+    async def _meet(self, saga: SagaInstance) -> None:
+        row = await until_answered(lambda: self._store.find(saga.key))
+        if row is not None and row.id >= 0:
+            self.found(saga, row, is_whole=True)
+        else:
+            self.leave(saga, None)
+
     async def _begun(self, start: int, saga: int | None) -> None:
         """A client's start is a saga that was there, or none: it is to be begun by nobody."""
         batch = Batch(-1, self._clock())

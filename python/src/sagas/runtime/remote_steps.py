@@ -14,6 +14,7 @@ from sagas.base.errors import SagasError
 from sagas.core import outcomes
 from sagas.core.dispatch import Declared, Order, Position
 from sagas.core.outcomes import Outcome
+from sagas.definition.payloads import ABSENT
 
 if TYPE_CHECKING:
     from sagas.core.model import Attempt
@@ -41,19 +42,20 @@ def order_of(attempt: Attempt, lease: int) -> Order:
 
     def carried(text: str) -> bool:
         nonlocal left
-        fits = len(text) <= left
+        fits = len(text) <= left and text != ABSENT
         left -= len(text) if fits else 0
         return fits
 
-    input = live.text if carried(live.text) else None
+    decode = kind.payloads.decode
+    input = decode(live.text) if carried(live.text) else None
     own: str | Position | None = None
     if attempt.kind == "undo":
         text = live.results.get(attempt.step, "null")
-        own = text if carried(text) else Position(attempt.step)
+        own = decode(text) if carried(text) else Position(attempt.step)
     results: dict[str, str | Position] = {}
     for step in kind.below[attempt.step]:
         text = live.results.get(step, "null")
-        results[kind.names[step]] = text if carried(text) else Position(step)
+        results[kind.names[step]] = decode(text) if carried(text) else Position(step)
     return Order(
         kind.name,
         kind.version,

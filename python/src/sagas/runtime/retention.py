@@ -67,6 +67,7 @@ OF_SAGAS = (
     "DELETE FROM external_attempts WHERE id >= ? AND id < ?",
     "DELETE FROM sagas WHERE id >= ? AND id < ?",
 )
+IS_DAMAGED = "(closed = 2 OR (closed = 0 AND audit IS NOT NULL))"
 OF_LOG = (
     "DELETE FROM event_log WHERE shard = ?",
     "DELETE FROM shard_definitions WHERE shard = ?",
@@ -166,6 +167,32 @@ def _delete(link: Source, log: int, blobs: list[str] | None) -> bool:
     if blobs is not None:
         blobs += left
     return True
+
+
+def delete_damaged(name: str, log: int, export: str | os.PathLike[str] | None) -> int:
+    """Delete the sagas of a shard that no program can open, or whose audit said no; return how many
+    these were.
+
+    Raises `Trouble` where the shard is not damaged, and as `prune`.
+    """
+    ids = log * SHARD_CAPACITY, (log + 1) * SHARD_CAPACITY
+    with admin.writing(name) as link:
+        if not link.ask(f"SELECT 1 FROM shards WHERE shard = ? AND {IS_DAMAGED}", log):
+            raise admin.Trouble(
+                f"shard {log} is not damaged. `sagas store {link.name} audit` lists the shards"
+            )
+        if export is not None:
+            archive.write(link, log, pathlib.Path(export))
+        with link.transaction():
+            if not link.changed(f"DELETE FROM shards WHERE shard = ? AND {IS_DAMAGED}", log):
+                raise admin.Trouble(f"shard {log} is not damaged any more")
+            count = link.ask("SELECT count(*) FROM sagas WHERE id >= ? AND id < ?", *ids)[0][0]
+            for text in OF_SAGAS:
+                link.changed(text, *ids)
+            for text in OF_LOG:
+                link.changed(text, log)
+        link.drop_definitions()
+    return int(count)
 
 
 async def keep(

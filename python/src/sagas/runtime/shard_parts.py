@@ -7,9 +7,8 @@ import dataclasses
 from collections.abc import Callable, Coroutine
 from typing import TYPE_CHECKING, Protocol
 
-from sagas.base.errors import SagasError
+from sagas.base.errors import DamagedShard, SagasError
 from sagas.base.events import Teller
-from sagas.base.logger import logger
 from sagas.core.batch import Loaded
 from sagas.core.limits import Slots
 from sagas.core.shard import ShardDriver
@@ -113,10 +112,13 @@ def engine_on(
     return engine
 
 
-def named(error: Exception, shard: str) -> SagasError:
-    """Return why a shard could not be taken up: what nobody expected is logged with where it
-    was."""
-    if isinstance(error, SagasError):
-        return error
-    logger.error("shard %s could not be opened", shard, exc_info=error)
-    return SagasError(f"shard {shard} could not be opened: {error}")
+def named(error: Exception) -> SagasError:
+    """Return why a shard could not be taken up: what is no error of ours comes from its rows."""
+    return error if isinstance(error, SagasError) else not_understood(error)
+
+
+def not_understood(error: Exception) -> DamagedShard:
+    """Return that the rows of a shard raise this, whose text may have something of them."""
+    damaged = DamagedShard(f"its data was not understood ({type(error).__name__})")
+    damaged.__cause__ = error
+    return damaged

@@ -4,7 +4,7 @@ from __future__ import annotations
 
 import time
 
-from sagas.base.errors import SagasError
+from sagas.base.errors import DamagedShard, SagasError
 from sagas.base.logger import logger
 from sagas.core import recovery
 from sagas.core.batch import Loaded
@@ -16,11 +16,12 @@ from sagas.core.states import ShardState
 from sagas.core.suspensions import SuspensionRow
 from sagas.engine.process import EngineProcess
 from sagas.runtime import decode_check
-from sagas.runtime.shard_parts import Parts, Shards, engine_on, named
+from sagas.runtime.shard_parts import Parts, Shards, engine_on, named, not_understood
 
 FEW = 64  # requests whose answer comes soon
 TURN = 0.1  # seconds for which a shard keeps its engine while others wait for one
 FIRST_PAUSE, MOST_PAUSE = 0.02, 2.0  # seconds until a shard is loaded again
+PAUSE_ASIDE = 60.0  # seconds until that is tried of one that is set aside
 STALE, LOADING, IDLE = ShardState.STALE, ShardState.LOADING, ShardState.IDLE
 STARTING, ACTIVE, CLOSED = ShardState.STARTING, ShardState.ACTIVE, ShardState.CLOSED
 
@@ -32,6 +33,8 @@ class ShardRunner:
         driver: What it knows, and decides.
         engine: Its engine process, if it has one.
         fault: Why it could not be taken up, or written.
+        is_set_aside: Whether its data is damaged: it is tried again seldom.
+        note: Why it is set aside, as the store has it.
         has_unread: Whether something that is stored of its open sagas cannot be read by this
             program.
         used: When its engine was asked last, by the monotonic clock.
@@ -41,6 +44,8 @@ class ShardRunner:
         self.driver = driver
         self.engine: EngineProcess | None = None
         self.fault: BaseException | None = None
+        self.is_set_aside = False
+        self.note: str | None = None
         self.has_unread = False
         self.used = 0.0
         self._parts, self._shards = parts, shards
@@ -277,7 +282,7 @@ class ShardRunner:
             text, driver.events = taken
             self.engine = engine_on(self._parts, driver, text, self)
         except Exception as error:
-            self.fail(named(error, self.driver.name))
+            self.fail(named(error))
             return
         driver.to(ACTIVE)
         self.used = self._woke = time.monotonic()
@@ -297,7 +302,10 @@ class ShardRunner:
             self.fail(None)
         else:  # while the shard was taken up
             self.engine = self._rows = None
-            self._trouble(SagasError(f"shard {self.driver.name}: sagas drive: {last}"))
+            said = f"sagas drive: {last.removeprefix('sagas: ')}"
+            is_refused = engine.has_refused()
+            in_shard = SagasError(f"shard {self.driver.name}: {said}")
+            self._trouble(DamagedShard(said) if is_refused else in_shard)
 
     # -- what goes wrong, and the way back
 
@@ -328,6 +336,8 @@ class ShardRunner:
             return
         self._is_coming = True
         pause, self._pause = self._pause, min(MOST_PAUSE, max(FIRST_PAUSE, 2 * self._pause))
+        if self.is_set_aside:
+            pause = PAUSE_ASIDE
         if pause:
             self._loop.call_later(pause, self._want)
         else:
@@ -345,6 +355,9 @@ class ShardRunner:
             rows = await self._parts.store.load(driver.number, driver.epoch, driver.born)
             if driver.state is not LOADING:
                 return
+            if rows is not None and (damage := recovery.damage_of(rows, driver)):
+                driver.loaded(rows)
+                raise DamagedShard(damage)
             if rows is None or await decode_check.is_left(self, rows, self._parts.store):
                 self._shards.lose(self)
                 return
@@ -358,7 +371,7 @@ class ShardRunner:
             self.engine = engine_on(self._parts, driver, rows.text, self)
         except Exception as error:
             if driver.state is LOADING:
-                self._shards.reopen(driver, None, fault := named(error, driver.name))
+                self._shards.reopen(driver, None, fault := named(error))
                 self._trouble(fault)
             return
         self._rows = rows
@@ -372,9 +385,7 @@ class ShardRunner:
             found = recovery.recover(rows, replies, self._clock(), driver, known, store.shared)
             self._effects.found(found)
         except Exception as error:
-            logger.exception("shard %s: the store's data was not understood", driver.name)
-            told = f"shard {driver.name}: the store's data was not understood: {error}"
-            self._trouble(SagasError(told))
+            self._trouble(not_understood(error))
             return
         self.fault = None
         self.used = self._woke = time.monotonic()

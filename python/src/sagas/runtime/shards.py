@@ -3,19 +3,21 @@
 from __future__ import annotations
 
 import asyncio
+import contextlib
 import time
 from collections.abc import Callable, Coroutine
 
-from sagas.base.errors import EngineError, Moved, SagasError, StoreUnavailable
+from sagas.base.errors import DamagedShard, EngineError, Moved, SagasError, StoreUnavailable
 from sagas.base.events import Teller
 from sagas.base.logger import logger
 from sagas.core import recovery
-from sagas.core.batch import Loaded, LogRow, SagaRow, Wanted
+from sagas.core.batch import Batch, Loaded, LogRow, SagaRow, Wanted
 from sagas.core.effects import Abort
 from sagas.core.model import SagaInstance
 from sagas.core.shard import ShardDriver, ShardIdentity
 from sagas.core.shard_definitions import ShardDefinitions
 from sagas.core.states import ShardState
+from sagas.definition.compiled import Kind
 from sagas.definition.shelf import Shelf
 from sagas.engine.pool import EnginePool
 from sagas.engine.process import EngineProcess
@@ -33,6 +35,7 @@ from sagas.runtime.shard_runner import ShardRunner
 from sagas.storage.interface import Database
 
 STALE, ACTIVE, IDLE = ShardState.STALE, ShardState.ACTIVE, ShardState.IDLE
+REMEDY = "The other shards are served. See the guide on damaged shards"
 
 
 class Shards:
@@ -105,11 +108,23 @@ class Shards:
         """
         adopted = []
         for row in rows:
-            kinds = [self._definitions.kind(text) for text in row.texts]
+            kinds = self._kinds(row.texts)
             identity = ShardIdentity(row.log, row.name, ShardDefinitions(kinds))
             state = STALE if row.open else IDLE
-            adopted.append(self.run(ShardDriver(identity, state, row.epoch, row.opened)))
+            runner = self.run(ShardDriver(identity, state, row.epoch, row.opened))
+            runner.note = row.note
+            adopted.append(runner)
         return adopted
+
+    def _kinds(self, texts: list[str]) -> list[Kind]:
+        """The definitions of a shard, up to one that is none: its sagas are found damaged then."""
+        kinds = []
+        for text in texts:
+            try:
+                kinds.append(self._definitions.kind(text))
+            except (ValueError, LookupError, TypeError, SagasError):
+                break
+        return kinds
 
     def run(self, driver: ShardDriver) -> ShardRunner:
         """Drive a shard from now on."""
@@ -128,12 +143,60 @@ class Shards:
                 self.close_if_over(runner)
 
     def ready(self, runner: ShardRunner) -> None:
-        """It was taken up."""
+        """It was taken up, or is lost."""
+        is_here = self.runners.get(runner.driver.number) is runner
+        if runner.is_set_aside and is_here:
+            logger.info("shard %s can be opened again", runner.driver.name)
+        runner.is_set_aside = False
+        if runner.note is not None and is_here:
+            self._spawn(self._note(runner, None))
         self._opening.ready(runner)
 
+    def _set_aside(self, runner: ShardRunner, error: DamagedShard) -> None:
+        """Its data is damaged: the others are served, and no saga is opened in it."""
+        self._store.forget(runner.driver.number)
+        if runner.is_set_aside:
+            if runner.note != str(error):
+                self._spawn(self._note(runner, str(error)))
+            return
+        runner.is_set_aside, driver = True, runner.driver
+        self._spawn(self._report(runner, error))
+        self._placement.forget(runner)
+        driver.is_full = True
+        sent, unsent = recovery.unopened(driver, None, self._sagas.by_key)
+        for saga in sent:
+            unsure = "It is unknown whether the saga was started"
+            self.refuse(saga, StoreUnavailable(f"shard {driver.name}: {error}. {unsure}"))
+        for saga in unsent:
+            self.place(saga)
+        self.changed(runner)
+        self._opening.ready(runner)
+
+    async def _report(self, runner: ShardRunner, error: DamagedShard) -> None:
+        """Report a damaged shard, once the store has the reason: figures are counted again after
+        an event."""
+        await self._note(runner, str(error))
+        driver = runner.driver
+        detail = f"shard {driver.number} ({driver.name}): {error}. {REMEDY}"
+        self._teller.tell("shard_damaged", detail=detail, error=error.__cause__)
+
+    async def _note(self, runner: ShardRunner, why: str | None) -> None:
+        """Store why no program can open a shard. If that fails, the next try notes it."""
+        driver = runner.driver
+        batch = Batch(driver.number, self._parts.clock(), epoch=driver.epoch)
+        batch.more.set_aside = (why,)
+        with contextlib.suppress(SagasError):
+            await self._commits.kept(batch)
+            runner.note = why
+
     def trouble(self, runner: ShardRunner, error: SagasError) -> None:
-        """It could not be taken up: at the opening that is an error, later it is tried again."""
+        """It could not be taken up, which is tried again. At the opening that is an error, unless
+        it is set aside.
+        """
         name = runner.driver.name
+        if isinstance(error, DamagedShard):
+            self._set_aside(runner, error)
+            return
         if isinstance(error, StoreUnavailable):
             detail = f"shard {name} is not open yet: {error}"
             self._teller.tell("commit_failed", detail=detail)
@@ -201,6 +264,10 @@ class Shards:
         """Do not open a saga in any shard."""
         for runner in self.runners.values():
             runner.driver.withdraw(saga)
+
+    def meet(self, saga: SagaInstance) -> None:
+        """Its key has a saga in the store: whoever started it hears whether it is the same."""
+        self._relocation.meet(saga)
 
     def refuse(self, saga: SagaInstance, error: SagasError) -> None:
         """It was not begun, and its callers hear why."""

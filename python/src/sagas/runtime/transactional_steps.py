@@ -17,6 +17,7 @@ import psycopg
 
 from sagas.base.errors import Lost, Unknown
 from sagas.core import outcomes
+from sagas.core.batch import Tail
 from sagas.core.model import RUNNING
 from sagas.core.outcomes import Outcome
 from sagas.definition import awaitables
@@ -39,6 +40,8 @@ PLAIN = frozenset((type(None), bool, int, float, str, dict, list))
 """What is not to be awaited, most of the time."""
 LOOK = REST / 10
 """Seconds between two looks for connections that rest too long."""
+NO_TAIL = Tail(-1, 0.0)
+"""Of a shard of which nothing is known any more: no shard has this chunk."""
 ROLLED_BACK = ("23", "25P02", "25P03", "40001", "40P01", "P0")
 """A constraint, also one that is looked at in the commit; a statement that failed before,
 unnoticed; a transaction that rested for too long; others in the way; a trigger's own word.
@@ -74,6 +77,8 @@ class Record:
     where: str
     node: str
     prepares: Prepares
+    tail: Tail
+    """The last chunk of its shard as it began: it has the attempt's own start, or is behind it."""
     line: str = ""
     """The timeline of the server that it is written to, once that is about to be."""
     begun: bool = False
@@ -121,7 +126,7 @@ class Record:
         shard = self.attempt.instance.shard
         assert shard
         epoch, self.line = shard.known
-        return Fence(shard.number, self.node, epoch, self.line)
+        return Fence(shard.number, self.node, epoch, self.line, self.tail)
 
     def check(self) -> None:
         """Raises `Lost` where the attempt was let go, since its log was taken up without it. What
@@ -138,8 +143,11 @@ class Record:
 class Transactions:
     """The connections of steps: apart from the store's own, with the user's settings."""
 
-    def __init__(self, url: str, where: str, node: str, line: Callable[[], str], most: int) -> None:
-        self._where, self._node, self._line = where, node, line
+    def __init__(
+        self, url: str, where: str, node: str, line: Callable[[], str],
+        tail: Callable[[int], Tail | None], most: int,
+    ) -> None:  # fmt: skip
+        self._where, self._node, self._line, self._tail = where, node, line, tail
         self._prepares = Prepares(step_commit.prepares())
         self._pool = Pool(url, most, self._prepares)
         self._timer: asyncio.TimerHandle | None = None
@@ -295,7 +303,10 @@ class Transactions:
     def _record(self, attempt: Attempt) -> Record:
         if self._timer is None:
             self._look()
-        record = attempt.record = Record(attempt, self._where, self._node, self._prepares)
+        shard = attempt.instance.shard
+        tail = (self._tail(shard.number) if shard else None) or NO_TAIL
+        record = Record(attempt, self._where, self._node, self._prepares, tail)
+        attempt.record = record
         return record
 
     async def _left(self, link: AsyncStepLink) -> None:

@@ -6,12 +6,16 @@ read.
 
 from __future__ import annotations
 
+import contextlib
 import functools
+from collections.abc import Iterator
 
 from starlette.requests import Request
 
 from sagas.server.auth import LOCAL, ROLES, May, Who
-from sagas.server.middleware import SERVICE, SLASH
+from sagas.server.fair_queue import MAKER
+from sagas.server.middleware import CROWDING, LEAVE, LOGIN, SERVICE, SLASH
+from sagas.server.places import Kind
 from sagas.server.problems import Problem
 from sagas.server.service import Service
 
@@ -19,6 +23,12 @@ WHO = "sagas.who"
 """In a scope: the name of whoever asks, for the log."""
 OWNER = "sagas.owner"
 """In a scope: the `Who`, once the route has let the request in."""
+SIZE = "sagas.size"
+"""In a scope: the bytes of the body, once it was read."""
+PLACE = "sagas.place"
+"""In a scope: that the request has taken one of its token's places."""
+ANY_TIME = ("/health/", "/ui/static/", LOGIN)
+"""Paths that are answered however many connections there are: at once, and without a token."""
 CHECK = "sagas.check"
 """In a scope: a function that raises `Problem` where whoever asks may not do so any more."""
 
@@ -70,6 +80,34 @@ def maker(request: Request, who: Who) -> str:
     return who.digest or address(request)
 
 
+def occupy(request: Request, who: Who) -> None:
+    """Take one of the token's places, until the request is over. Raises `Problem`."""
+    MAKER.set(maker(request, who))
+    if PLACE not in request.scope:
+        leave = service_of(request).places.take(maker(request, who), Kind.CONNECTION)
+        request.scope[PLACE] = True
+        request.scope[LEAVE].append(leave)
+
+
+@contextlib.contextmanager
+def waiting(request: Request, who: Who, kind: Kind) -> Iterator[None]:
+    """The request waits. Raises `Problem` where too many of the token do."""
+    leave = service_of(request).places.take(maker(request, who), kind)
+    try:
+        yield
+    finally:
+        leave()
+
+
+def check_room(request: Request, is_operator: bool) -> None:
+    """Raises `Problem` where the places that are left are for health and for operators."""
+    why = request.scope[CROWDING]
+    if why and not is_operator and not request.scope["path"].startswith(ANY_TIME):
+        raise Problem(
+            "TooManyConnections", f"{why}: ask again in a while", headers={"Connection": "close"}
+        )
+
+
 def admit(request: Request, what: May) -> Who:
     """Who asks, by the headers. Raises `Problem` where they do not say that this may be done."""
     who = whose(request)
@@ -78,7 +116,10 @@ def admit(request: Request, what: May) -> Who:
         good = " or ".join(role for role, may in ROLES.items() if what in may)
         told = f"{who.name} ({', '.join(sorted(who.roles))}) may not {what.value}"
         raise Problem("Forbidden", f"{told}: take a token of the role {good}")
+    has_tokens = service_of(request).tokens is not None
+    check_room(request, is_operator=has_tokens and who.may(May.OPERATE))
     limited(request, who)
+    occupy(request, who)
     request.scope[OWNER] = who
     request.scope[CHECK] = functools.partial(check_still, request, who)
     return who
@@ -87,7 +128,8 @@ def admit(request: Request, what: May) -> Who:
 async def body_of(request: Request) -> bytes:
     """The whole body. Each route reads it by this, since it may take a while to come: raises
     `Problem` where whoever sends it may not do so any more."""
-    body = await request.body()
+    body = b"".join([part async for part in request.stream()])  # the request would keep it
+    request.scope[SIZE] = len(body)
     if CHECK in request.scope:
         request.scope[CHECK]()
     return body
@@ -115,6 +157,12 @@ def check_definition(who: Who, definition: str | None) -> None:
     """Raises `Problem` where sagas of this definition are not the token's to see."""
     if definition is not None and not who.sees(definition):
         raise Problem("Forbidden", f"{who.name} has no right to the definition {definition[:64]!r}")
+
+
+def check_key(who: Who, key: str) -> None:
+    """Raises `Problem` where sagas with this key are not the token's to start."""
+    if not who.scope.has_key(key):
+        raise Problem("Forbidden", f"{who.name} has no right to the key {key[:64]!r}")
 
 
 def check_steps(who: Who, steps: list[str]) -> None:

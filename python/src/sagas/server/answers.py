@@ -24,7 +24,7 @@ PHASES = "open", "completed", "recovered", "stuck", "resolved"
 STATES = (
     "waiting", "begun", "running", "committed", "failed", "undoing", "undone", "undo_failed",
 )  # fmt: skip
-KINDS = "stuck", "undo_failed", "unknown", "exhausted", "cannot_decode", "approval"
+KINDS = "stuck", "undo_failed", "unknown", "exhausted", "cannot_decode", "damaged", "approval"
 """What needs a person."""
 NAME = Text(most=32, pattern=DEFINITION.pattern)
 COUNT = Number(least=0, whole=True)

@@ -9,7 +9,7 @@ from starlette.routing import Route, Router
 from sagas.server import openapi, problems
 from sagas.server.connections import Connections
 from sagas.server.dashboard_session import refused
-from sagas.server.middleware import App, Guard, Receive, Scope, Send
+from sagas.server.middleware import DASHBOARD, LOGIN, App, Guard, Receive, Scope, Send
 from sagas.server.operations import Operation, not_found, resources
 from sagas.server.problems import Problem
 from sagas.server.routes import (
@@ -93,6 +93,13 @@ async def nothing(scope: Scope, receive: Receive, send: Send) -> None:
 
 def application(settings: Settings, connections: Connections | None = None) -> tuple[App, Service]:
     """The application over a store, which whoever serves it opens and closes."""
-    service = Service(settings)
-    paths = Paths(resources([*API, *PAGES], answered, refused))
-    return Guard(paths, service, connections), service
+    service, routes = Service(settings), resources([*API, *PAGES], answered, refused)
+    service.pages = [route.path_regex for route in routes if is_shown(route)]
+    return Guard(Paths(routes), service, connections), service
+
+
+def is_shown(route: Route) -> bool:
+    """Whether it is a page that a person looks at."""
+    is_page = route.path == DASHBOARD or route.path.startswith(f"{DASHBOARD}/")
+    is_aside = route.path in (LOGIN, f"{DASHBOARD}/events", f"{DASHBOARD}/static/{{name}}")
+    return is_page and not is_aside and "GET" in getattr(route.app, "operations", ())

@@ -7,24 +7,34 @@ import datetime
 import enum
 import hashlib
 import hmac
+import json
 import os
 import pathlib
 import re
 import secrets
 import time
 from collections import OrderedDict
-from collections.abc import Callable, Collection, Iterable
+from collections.abc import Callable, Collection, Iterable, Mapping
 from typing import Any
 
 import tomllib
 
+from sagas.base.events import Event
+from sagas.server import private_files
+from sagas.storage.filters import EVERYTHING, Scope
+
 MOST_SESSIONS = 1000
 LOOK = 1.0  # seconds between two looks at the token file
-KEYS = ("name", "roles", "sha256", "definitions", "steps", "expires")
+KEYS = (
+    "name", "roles", "sha256", "definitions", "keys", "steps", "expires", "open_sagas",
+    "open_bytes",
+)  # fmt: skip
 NAME = r"[a-z][a-z0-9_-]{0,31}"
 DEFINITION = re.compile(NAME)
 STEP = re.compile(rf"({NAME})/({NAME})(/undo)?")
 """A definition's step, or its compensation: as workers ask for it."""
+KEY = re.compile(r"(?!.*/:)[^*]{0,511}(?:[^*]|\*)")
+"""A key, or with a `*` at the end what keys begin with."""
 
 
 class May(enum.Enum):
@@ -56,12 +66,14 @@ class TokenFault(Exception):
 class Limits:
     """What a token is kept to. None: it is not.
 
-    `definitions`: the sagas that it sees; `steps`: those of workers that it takes tasks of;
-    `expires`: when it ends."""
+    `scope`: the sagas that it sees; `steps`: those of workers that it takes tasks of;
+    `expires`: when it ends; `open_sagas`, `open_bytes`: its quota, None: the service's."""
 
-    definitions: frozenset[str] | None = None
+    scope: Scope = EVERYTHING
     steps: frozenset[str] | None = None
     expires: datetime.datetime | None = None
+    open_sagas: int | None = None
+    open_bytes: int | None = None
 
 
 @dataclasses.dataclass(frozen=True, slots=True)
@@ -80,12 +92,21 @@ class Who:
     @property
     def definitions(self) -> frozenset[str] | None:
         """The definitions that it sees; None: all."""
-        return self.limits.definitions
+        return self.scope.definitions
+
+    @property
+    def scope(self) -> Scope:
+        """The sagas that it sees."""
+        return self.limits.scope
 
     def sees(self, definition: str | None) -> bool:
         """Whether sagas of this definition are its to see; what is of none is for those who see
         all."""
-        return self.definitions is None or definition in self.definitions
+        return self.scope.has_definition(definition)
+
+    def sees_event(self, event: Event) -> bool:
+        """Whether an event is of a saga that is its to see."""
+        return self.sees(event.saga) and self.scope.has_key(event.key)
 
     def does(self, step: str) -> bool:
         """Whether tasks of a step, `saga/step` or `saga/step/undo`, are its to take."""
@@ -123,6 +144,7 @@ def read(path: pathlib.Path) -> dict[str, Who]:
 def _text_of(path: pathlib.Path) -> str:
     """Raises `TokenFault`."""
     try:
+        private_files.check(path)
         return path.read_text(encoding="utf-8")
     except (OSError, UnicodeDecodeError) as error:
         raise TokenFault(f"{path}: cannot be read: {error}") from error
@@ -134,6 +156,8 @@ def _found(path: pathlib.Path, text: str) -> dict[str, Who]:
         told = tomllib.loads(text)
     except tomllib.TOMLDecodeError as error:
         raise TokenFault(f"{path}: cannot be read: {error}") from error
+    except RecursionError:
+        raise TokenFault(f"{path}: cannot be read: too many lists in one another") from None
     entries = told.get("token", [])
     if set(told) - {"token"} or not isinstance(entries, list):
         raise TokenFault(f"{path}: only [[token]] tables are allowed")
@@ -167,18 +191,22 @@ def _read_one(entry: Any) -> Who:
         raise ValueError(
             "sha256 must be a digest of 64 hexadecimal digits, as `sagas token` writes it"
         )
-    limits = limits_of(roles, entry.get("definitions"), entry.get("steps"), entry.get("expires"))
+    limits = limits_of(roles, entry)
     return Who(name, frozenset(roles), digest, limits)
 
 
-def limits_of(roles: Collection[str], definitions: Any, steps: Any, expires: Any) -> Limits:
+def limits_of(roles: Collection[str], told: Mapping[str, Any]) -> Limits:
     """What a token of these roles is kept to. Raises `ValueError`."""
-    names = _listed("definitions", definitions, DEFINITION, "names of definitions")
-    words = _listed("steps", steps, STEP, "DEFINITION/STEP or DEFINITION/STEP/undo")
-    found = Limits(names, words, _moment(expires))
+    names = _listed("definitions", told, DEFINITION, "names of definitions")
+    keys = _listed("keys", told, KEY, "keys, or beginnings of keys with * at the end, without /:")
+    words = _listed("steps", told, STEP, "DEFINITION/STEP or DEFINITION/STEP/undo")
+    quota = [_count(word, told, roles) for word in ("open_sagas", "open_bytes")]
+    found = Limits(Scope(names, keys), words, _moment(told.get("expires")), *quota)
+    if keys is not None and not {"caller", "approver"} >= set(roles):
+        raise ValueError("keys can only restrict a token with the roles caller and approver")
     if found.steps is not None and not {"worker", "operator"} & set(roles):
         raise ValueError("steps requires the role worker or operator")
-    if found.definitions is not None and "metrics" in roles:
+    if names is not None and "metrics" in roles:
         raise ValueError(
             "definitions cannot restrict a token with the role metrics, "
             "because metrics cover all definitions"
@@ -186,7 +214,10 @@ def limits_of(roles: Collection[str], definitions: Any, steps: Any, expires: Any
     return found
 
 
-def _listed(word: str, given: Any, form: re.Pattern[str], what: str) -> frozenset[str] | None:
+def _listed(
+    word: str, told: Mapping[str, Any], form: re.Pattern[str], what: str
+) -> frozenset[str] | None:
+    given = told.get(word)
     if given is None:
         return None
     if not (
@@ -196,6 +227,17 @@ def _listed(word: str, given: Any, form: re.Pattern[str], what: str) -> frozense
     ):
         raise ValueError(f"{word} must be a list of one or more {what}")
     return frozenset(given)
+
+
+def _count(word: str, told: Mapping[str, Any], roles: Collection[str]) -> int | None:
+    given = told.get(word)
+    if given is None:
+        return None
+    if type(given) is not int or given < 0:
+        raise ValueError(f"{word} must be an integer from 0")
+    if not {"caller", "operator"} & set(roles):
+        raise ValueError(f"{word} requires the role caller or operator")
+    return given
 
 
 def _moment(given: Any) -> datetime.datetime | None:
@@ -212,12 +254,15 @@ def _moment(given: Any) -> datetime.datetime | None:
 
 
 def make(path: pathlib.Path, name: str, roles: list[str], limits: Limits = Limits()) -> str:
-    """Makes a token, and puts its digest into the file, which nobody else may read. Gives the
-    token, which is kept nowhere.
+    """Makes a token, and puts its digest into the file. One that is made is its user's alone, and
+    no link is followed. Gives the token, which is kept nowhere.
 
-    Raises `TokenFault` where the file is invalid, or would be: then it is as it was.
+    Raises `TokenFault` where the file is invalid, or would be: then it is as it was. Raises
+    `OSError` where it cannot be written.
     """
     token = f"sagas_{secrets.token_urlsafe(32)}"
+    if path.is_symlink():
+        raise TokenFault(f"{path}: this is a symbolic link; name the file itself")
     text = _text_of(path) if path.exists() else ""
     quoted = name.replace("\\", "\\\\").replace('"', '\\"')
     lines = [
@@ -226,20 +271,25 @@ def make(path: pathlib.Path, name: str, roles: list[str], limits: Limits = Limit
         f"roles = {_list_of(roles)}",
         f'sha256 = "{digest_of(token)}"',
     ]
-    for word, some in (("definitions", limits.definitions), ("steps", limits.steps)):
+    scope = limits.scope
+    for word, some in (
+        ("definitions", scope.definitions), ("keys", scope.keys), ("steps", limits.steps)
+    ):  # fmt: skip
         lines += [f"{word} = {_list_of(sorted(some))}"] if some is not None else []
     lines += [f"expires = {limits.expires.isoformat()}"] if limits.expires else []
+    for word, count in (("open_sagas", limits.open_sagas), ("open_bytes", limits.open_bytes)):
+        lines += [f"{word} = {count}"] if count is not None else []
     end = "\n" if text and not text.endswith("\n") else ""  # editors may leave it out
     more = end + "\n".join(lines) + "\n\n"
     _found(path, text + more)
-    fd = os.open(path, os.O_WRONLY | os.O_CREAT | os.O_APPEND, 0o600)
+    fd = os.open(path, os.O_WRONLY | os.O_CREAT | os.O_APPEND | os.O_NOFOLLOW, 0o600)
     with os.fdopen(fd, "w", encoding="utf-8") as file:
         file.write(more)
     return token
 
 
 def _list_of(words: Iterable[str]) -> str:
-    return "[" + ", ".join(f'"{word}"' for word in words) + "]"
+    return json.dumps([*words], ensure_ascii=False)
 
 
 class Tokens:

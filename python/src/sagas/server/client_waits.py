@@ -11,7 +11,7 @@ from starlette.requests import Request
 from sagas.server.access import check_still, service_of
 from sagas.server.auth import Who
 from sagas.server.event_stream import CHECK
-from sagas.server.middleware import GONE
+from sagas.server.middleware import FOLLOWED, GONE
 
 
 async def first(
@@ -19,10 +19,10 @@ async def first(
     *ends: "asyncio.Future[None]",
 ) -> bool:  # fmt: skip
     """Waits for a piece of work, but no longer than the client, its token and the service are
-    there, and until one of the `ends` is done. Whether it is done; else it is cancelled, to its
-    end. Raises `Problem` where the token has ended."""
+    there, and until one of the `ends` is done, or the client sends something else. Whether it is
+    done; else it is cancelled, to its end. Raises `Problem` where the token has ended."""
     service, loop = service_of(request), asyncio.get_running_loop()
-    some = {work, request.scope[GONE], service.stopping, *ends}
+    some = {work, request.scope[GONE], request.scope[FOLLOWED], service.stopping, *ends}
     slice = seconds if service.tokens is None else min(seconds, CHECK)
     until = loop.time() + seconds
     try:

@@ -10,8 +10,9 @@ import argparse
 import asyncio
 import errno
 import gc
-import importlib
 import ipaddress
+import logging
+import os
 import pathlib
 import re
 import socket
@@ -20,23 +21,47 @@ from collections.abc import Iterable
 from typing import Any
 
 from sagas.api.store import Store
+from sagas.base import module_values
 from sagas.base.errors import DefinitionError, InvalidStore, SagasError
 from sagas.base.option_values import integer_from, positive
 from sagas.definition import payloads
 from sagas.definition.blobs import check as check_blobs
 from sagas.definition.saga import Saga
 from sagas.server import auth, definition_files, log_format
-from sagas.server.settings import LOOPBACK, Network, Settings, StoreSettings, is_loopback
+from sagas.server.quotas import Quota
+from sagas.server.settings import (
+    LOOPBACK,
+    Network,
+    PlaceSettings,
+    Settings,
+    StoreSettings,
+    StreamSettings,
+    WebhookSettings,
+    is_loopback,
+)
 from sagas.server.webhook_file import WebhookFault
 from sagas.storage import factory
 from sagas.storage.folder_blobs import FolderBlobStore
 
-GOOD, NO, USAGE, CANNOT, INTERRUPTED = 0, 1, 2, 4, 130
+GOOD, NO, USAGE, CANNOT, OVERDUE, INTERRUPTED = 0, 1, 2, 4, 5, 130
 GARBAGE = 5000
 """Objects that are made, beyond those that went, before Python looks for cycles: requests leave
 few, and to look at each 700 takes a sixth of the processor's time.
 """
+SWITCH = 0.0005
+"""Seconds after which a thread that computes lets the event loop go on. By default, 0.005, a small
+request waits for that several times."""
 PACKAGES = "python3-starlette, python3-uvicorn, python3-jinja2 and python3-prometheus-client"
+
+
+PLACES = (
+    ("--most-waits", 200, "requests of one token that wait for a saga"),
+    ("--most-claims", 200, "claims of one token at once"),
+    ("--most-streams", 50, "event streams of one token"),
+    ("--most-token-connections", 500, "connections of one token with a request"),
+    ("--most-address-connections", 1000, "connections of one address, except of trusted proxies"),
+)
+"""Options of what there may be at once. Without a token file they hold for each address."""
 
 
 class Trouble(Exception):
@@ -52,6 +77,7 @@ Exit status:
   1    a definition is invalid
   2    invalid arguments, the address is in use, or sagas[server] is not installed
   4    the store, the token file or the file of webhooks cannot be used
+  5    the stop took too long, and was cut short
   130  interrupted while it starts"""
 TOKEN_ENDING = """\
 Example:
@@ -119,7 +145,8 @@ def add_sagas(found: argparse.ArgumentParser) -> None:
     )  # fmt: skip
     found.add_argument(
         "--codec", metavar="MODULE:NAME",
-        help="codec that encodes stored inputs and results (default: none)",
+        help="codec that encodes stored inputs and results (default: that of a store of --app, or "
+        "none)",
     )  # fmt: skip
     found.add_argument(
         "--blobs", metavar="DIR|MODULE:NAME",
@@ -133,6 +160,10 @@ def add_sagas(found: argparse.ArgumentParser) -> None:
     found.add_argument(
         "--webhooks", type=pathlib.Path, metavar="FILE",
         help="file that says where to post events of sagas (default: none)",
+    )  # fmt: skip
+    found.add_argument(
+        "--local-webhooks", action="store_true",
+        help="allow --webhooks to post to loopback and link-local addresses (default: no)",
     )  # fmt: skip
 
 
@@ -164,10 +195,28 @@ def add_limits(found: argparse.ArgumentParser) -> None:
         "--most-connections", type=integer_from(1), default=2000, metavar="N",
         help="maximum number of connections (default: 2000)",
     )  # fmt: skip
+    for option, default, what in PLACES:
+        found.add_argument(
+            option, type=integer_from(1), default=default, metavar="N",
+            help=f"maximum number of {what} (default: {default})",
+        )  # fmt: skip
+    found.add_argument(
+        "--kept-connections", type=integer_from(0), default=50, metavar="N",
+        help="connections kept for health and operators, at most a quarter of all (default: 50)",
+    )  # fmt: skip
     found.add_argument(
         "--rate", type=positive, default=5000.0, metavar="N",
         help="maximum number of requests per second for each token, or for each address if there "
         "is no token file (default: 5000)",
+    )  # fmt: skip
+    found.add_argument(
+        "--open-sagas", type=integer_from(0), default=Quota().sagas, metavar="N",
+        help="maximum number of open sagas that each token started, unless the token file says "
+        "another one (default: 10000)",
+    )  # fmt: skip
+    found.add_argument(
+        "--open-bytes", type=integer_from(0), default=Quota().bytes, metavar="BYTES",
+        help="maximum size of their inputs as JSON, in all (default: 1073741824)",
     )  # fmt: skip
 
 
@@ -191,15 +240,10 @@ def listen_of(text: str) -> tuple[str, int]:
 
 def loaded(option: str, place: str) -> Any:
     """What a module has by a name. Raises `Trouble`."""
-    module, _, name = place.partition(":")
-    if not name or not module or module.startswith("."):
-        raise Trouble(f"invalid {option} {place!r}: use MODULE:NAME")
-    if "" not in sys.path:
-        sys.path.insert(0, "")
     try:
-        return getattr(importlib.import_module(module), name)
-    except (ImportError, AttributeError) as error:
-        raise Trouble(f"cannot load {option} {place}: {error}") from error
+        return module_values.loaded(option, place)
+    except ValueError as error:
+        raise Trouble(str(error)) from error
 
 
 def blobs_of(place: str | None) -> Any:
@@ -211,6 +255,14 @@ def blobs_of(place: str | None) -> Any:
     if pathlib.Path(place).exists() and not pathlib.Path(place).is_dir():
         raise Trouble(f"--blobs {place}: this is a file; pass a directory, or MODULE:NAME")
     return FolderBlobStore(place)
+
+
+def codec_of(words: argparse.Namespace) -> Any:
+    """The codec of `--codec`; without that option that of a store of `--app`. Raises `Trouble`."""
+    if words.codec:
+        return loaded("--codec", words.codec)
+    found = loaded("--app", words.app) if words.app else None
+    return found.codec if isinstance(found, Store) else None
 
 
 def sagas_of(place: str) -> list[Saga]:
@@ -257,7 +309,7 @@ def settings_of(words: argparse.Namespace) -> Settings:
             raise Trouble(f"{file} is a directory; pass the path of a file")
         if not file.absolute().parent.is_dir():
             raise Trouble(f"directory {file.parent} does not exist; create it first")
-    codec = loaded("--codec", words.codec) if words.codec else None
+    codec = codec_of(words)
     blobs = blobs_of(words.blobs)
     try:
         payloads.checked(codec)
@@ -270,11 +322,16 @@ def settings_of(words: argparse.Namespace) -> Settings:
         host,
         port,
         words.token_file,
-        words.webhooks,
+        WebhookSettings(words.webhooks, words.local_webhooks),
         concurrency=words.concurrency,
         most_body=words.most_body,
-        most_connections=words.most_connections,
+        streams=StreamSettings(most_each=words.most_streams),
+        places=PlaceSettings(
+            words.most_connections, words.most_waits, words.most_claims,
+            words.most_token_connections, words.most_address_connections, words.kept_connections,
+        ),
         rate=words.rate,
+        quota=Quota(words.open_sagas, words.open_bytes),
         trusted_proxies=words.trusted_proxies,
         store=StoreSettings(
             words.node, words.lease, codec, blobs, words.blob_threshold, words.record
@@ -318,8 +375,18 @@ def serve(words: argparse.Namespace) -> int:
             print(f"sagas serve: http://{f'[{host}]' if ':' in host else host}:{port}/", flush=True)
 
         gc.set_threshold(GARBAGE)
-        asyncio.run(run(settings, listening, opened))
+        sys.setswitchinterval(SWITCH)
+        asyncio.run(run(settings, listening, opened, overdue))
     return GOOD
+
+
+def overdue() -> None:
+    """Ends the process, whose stop has taken too long."""
+    logging.getLogger("sagas.server").critical(
+        "the stop has taken too long: the process ends without it. What was acknowledged is stored"
+    )
+    logging.shutdown()
+    os._exit(OVERDUE)
 
 
 def main(words: list[str]) -> int:
@@ -365,9 +432,22 @@ def token_parser() -> argparse.ArgumentParser:
         help="allow only this definition; repeat it for several (default: all)",
     )  # fmt: skip
     found.add_argument(
+        "--key", action="append", metavar="PATTERN",
+        help="of a caller or approver: allow only sagas with this key, or with * at the end with "
+        "keys that begin so, for example 'team-a-*'; repeat it for several (default: all)",
+    )  # fmt: skip
+    found.add_argument(
         "--step", action="append", metavar="DEFINITION/STEP",
         help="of a worker: allow only this step, or its compensation DEFINITION/STEP/undo; repeat "
         "it for several (default: all)",
+    )  # fmt: skip
+    found.add_argument(
+        "--open-sagas", type=integer_from(0), metavar="N",
+        help="maximum number of open sagas that it started (default: that of the service)",
+    )  # fmt: skip
+    found.add_argument(
+        "--open-bytes", type=integer_from(0), metavar="BYTES",
+        help="maximum size of their inputs as JSON, in all (default: that of the service)",
     )  # fmt: skip
     found.add_argument(
         "--expires", metavar="WHEN",
@@ -383,7 +463,9 @@ def token(words: list[str]) -> int:
         print("sagas token: invalid name: use 1 to 64 printable characters", file=sys.stderr)
         return USAGE
     try:
-        limits = auth.limits_of(given.roles, given.definition, given.step, given.expires)
+        told = {"definitions": given.definition, "keys": given.key, "steps": given.step}
+        told |= {"open_sagas": given.open_sagas, "open_bytes": given.open_bytes}
+        limits = auth.limits_of(given.roles, told | {"expires": given.expires})
     except ValueError as error:
         print(f"sagas token: {error}", file=sys.stderr)
         return USAGE

@@ -8,29 +8,74 @@ from __future__ import annotations
 
 import asyncio
 import contextlib
-from collections import OrderedDict
+import functools
+import json
+from collections import Counter, OrderedDict
+from collections.abc import Callable
 from typing import Any
+
+from sagas.server.problems import Problem, body
+from sagas.server.request_framing import Malformed, RequestFraming
+from sagas.server.settings import LOOPBACK, Network, PlaceSettings, is_among
 
 Peer = tuple[str, int]
 """The client's end of a connection: no two that are open have the same."""
+MOST_AHEAD = 1 << 16
+"""Bytes that are kept behind a request that is at work; then no more is read."""
+LINGER = 1.0
+"""Seconds for which what comes is read and dropped behind a last answer."""
+TURNS = 4
+"""Turns of the event loop in which a new connection does not give way: by then, what its client had
+sent is read, however many came with it."""
+SPARE = 200
+"""Connections above the maximum that only hear that there are too many."""
+
+
+def refusal(error: Malformed) -> bytes:
+    """The answer to what is no request."""
+    return answer("400 Bad Request", Problem("MalformedRequest", f"{error}: send HTTP/1.1"))
+
+
+def answer(status: str, problem: Problem) -> bytes:
+    """An answer that ends the connection, without the application."""
+    text = json.dumps(body(problem)).encode() + b"\n"
+    more = "Retry-After: 1\r\n" if problem.kind.status == 503 else ""
+    head = (
+        f"HTTP/1.1 {status}\r\nContent-Type: application/problem+json\r\n{more}"
+        f"Content-Length: {len(text)}\r\nConnection: close\r\n\r\n"
+    )
+    return head.encode() + text
 
 
 class Outlet:
     """A transport that can hold back what is written, to send it together: each part that is sent
     alone takes a call of the system, and wakes the client.
+
+    Attributes:
+        has_written: Whether something was written since the last request began.
     """
 
-    def __init__(self, transport: asyncio.Transport) -> None:
-        self._transport = transport
+    def __init__(self, connection: Connection) -> None:
+        self._connection, self._transport = connection, connection.transport
         self._held: list[bytes] | None = None
+        self.has_written = False
 
     def __getattr__(self, name: str) -> Any:
         return getattr(self._transport, name)
 
     def is_closing(self) -> bool:
-        return self._transport.is_closing()
+        return self._connection.is_over or self._transport.is_closing()
+
+    def pause_reading(self) -> None:
+        self._connection.pause("server")
+
+    def resume_reading(self) -> None:
+        self._connection.resume("server")
 
     def write(self, data: bytes) -> None:
+        if self._connection.is_over:
+            return
+        self.has_written = True
         if self._held is None:
             self._transport.write(data)
         else:
@@ -49,15 +94,21 @@ class Outlet:
 
     def close(self) -> None:
         self.flush()
-        self._transport.close()
+        self._connection.close()
 
 
 class Connection(asyncio.Protocol):
-    """One connection. `inner`: the server's protocol, which gets all that this one gets.
+    """One connection. `inner`: the server's protocol, which gets one request after the other: the
+    next one once the last one is answered.
 
     Attributes:
         gone: Done once the client is gone, or nothing more is said to it.
+        lost: Done once the server's protocol knows that, too.
+        followed: Done once something has come behind the request that is at work.
         outlet: By which the server's protocol answers.
+        is_unread: Whether more is to be sent than the client reads.
+        crowding: Why only health and operators are answered by this connection.
+        is_over: Whether nothing more is read or written.
     """
 
     transport: asyncio.Transport
@@ -65,55 +116,133 @@ class Connection(asyncio.Protocol):
 
     def __init__(self, inner: Any, connections: Connections) -> None:
         self._inner, self._connections = inner, connections
-        self.gone: asyncio.Future[None] = asyncio.get_running_loop().create_future()
+        self._loop = asyncio.get_running_loop()
+        self.gone: asyncio.Future[None] = self._loop.create_future()
+        self.lost: asyncio.Future[None] = self._loop.create_future()
+        self.followed: asyncio.Future[None] = self._loop.create_future()
         self.peer: Peer | None = None
-        self.at_work = False
+        self.at_work = self.is_over = self.is_unread = False
+        self.crowding: str | None = None
+        self._framing, self._is_open = RequestFraming(), False
+        self._paused: set[str] = set()
+        self._turns = TURNS
         self._unread: asyncio.TimerHandle | None = None
 
     def connection_made(self, transport: asyncio.BaseTransport) -> None:
         assert isinstance(transport, asyncio.Transport)
-        self.transport, self.outlet = transport, Outlet(transport)
+        self.transport = transport
+        self.outlet = Outlet(self)
         name = transport.get_extra_info("peername")
         self.peer = (str(name[0]), int(name[1])) if isinstance(name, tuple) else None
+        self._loop.call_soon(self._age)
         self._inner.connection_made(self.outlet)
         self._connections.came(self)
 
     def connection_lost(self, error: Exception | None) -> None:
+        self.is_over = True
         self._connections.went(self)
         self._reads()
         self.leave()
         self._inner.connection_lost(error)
+        if not self.lost.done():
+            self.lost.set_result(None)
 
     def data_received(self, data: bytes) -> None:
-        try:
-            self._inner.data_received(data)
-        except Exception:  # it is not HTTP, and an answer has begun: there is no other
-            self.transport.close()
-        if self.transport.is_closing():
+        if self.is_over:  # it is read to its end, so that the client gets the answer
+            return
+        self._framing.feed(data)
+        self._advance()
+        if self.is_over:
             self.leave()
-        elif not self.at_work:
+        elif not self.at_work and not self._is_open:
             self._connections.begins(self)
+
+    def _advance(self) -> None:
+        """Pass on what there is of a request, unless another one is at work."""
+        try:
+            while not self.is_over:
+                begins = self._framing.is_between
+                part = b"" if begins and self._is_open else self._framing.take()
+                if not part:
+                    break
+                if begins:
+                    self._is_open, self.outlet.has_written = True, False
+                self._inner.data_received(part)
+        except Malformed as error:
+            has_begun = self._is_open and self.outlet.has_written
+            self.finish(None if has_begun else refusal(error))
+        except Exception:  # it is not HTTP, and an answer has begun: there is no other
+            self.close()
+        ahead = len(self._framing) if self._is_open and self._framing.is_between else 0
+        if ahead and not self.followed.done():
+            self.followed.set_result(None)
+        (self.pause if ahead > MOST_AHEAD else self.resume)("ahead")
 
     def eof_received(self) -> bool | None:
         told: bool | None = self._inner.eof_received()
         if not told:  # the transport closes: what is written from now on is dropped
+            self.is_over = True
             self.leave()
         return told
 
     def pause_writing(self) -> None:
         self._inner.pause_writing()
+        self.is_unread = True
+        self._connections.unread(self)
         self._wait_for_reader()
 
     def resume_writing(self) -> None:
         self._inner.resume_writing()
+        self.is_unread = False
+        if self.at_work:
+            self._connections.works(self)
         self._reads()
+
+    def pause(self, who: str) -> None:
+        """Read nothing more, until all that have paused it resume it."""
+        self._paused.add(who)
+        self.transport.pause_reading()
+
+    def resume(self, who: str) -> None:
+        """As far as `who` knows, more may be read."""
+        if who in self._paused:
+            self._paused.discard(who)
+            if not self._paused and not self.transport.is_closing():
+                self.transport.resume_reading()
 
     def leave(self) -> None:
         """Nothing more is said to the client."""
         if not self.gone.done():
             self.gone.set_result(None)
 
+    def close(self) -> None:
+        """Send what is written, and end."""
+        self.is_over = True
+        self.transport.close()
+
+    def finish(self, text: bytes | None) -> None:
+        """End with this answer. What the client still sends is read for a moment: else it would
+        be told that the connection was reset, and not the answer."""
+        self.is_over = True
+        self.leave()
+        if text is not None and not self.transport.is_closing():
+            self.transport.write(text)
+        self._paused.clear()
+        with contextlib.suppress(OSError, RuntimeError):
+            self.transport.resume_reading()
+            self.transport.write_eof()
+        self._loop.call_later(LINGER, self.transport.close)
+
     # -- its requests
+
+    def is_new(self) -> bool:
+        """Whether it was made just now, so that its first request may be here and was not read."""
+        return self._turns > 0
+
+    def _age(self) -> None:
+        self._turns -= 1
+        if self._turns:
+            self._loop.call_soon(self._age)
 
     def starts(self, is_whole: bool) -> None:
         """A request's head is there. `is_whole`: and all of its body."""
@@ -130,8 +259,12 @@ class Connection(asyncio.Protocol):
     def ends(self) -> None:
         """The request is answered."""
         self.outlet.flush()
-        self.at_work = False
+        self.at_work = self._is_open = False
+        if self.followed.done():
+            self.followed = self._loop.create_future()
         self._connections.owes(self)
+        if not self.is_over and not self.transport.is_closing():
+            self._advance()
 
     # -- what it does not read
 
@@ -142,7 +275,7 @@ class Connection(asyncio.Protocol):
         if before is not None and left >= before:
             self.transport.abort()
         else:
-            self._unread = asyncio.get_running_loop().call_later(
+            self._unread = self._loop.call_later(
                 self._connections.send_time, self._wait_for_reader, left
             )
 
@@ -153,18 +286,28 @@ class Connection(asyncio.Protocol):
 
 
 class Connections:
-    """All of them. Where there are too many, one whose request has not come, or not all of it,
-    gives way: the one that has owed it longest.
+    """All of them, and in `requests` the tasks that answer. Where there are too many, one gives way
+    whose request has not come, or not all of it, or whose client does not read the answer: the one
+    for which that has been so longest. Where there is none, the new one is told so.
 
     A request's head has to come within `head_time`, and a client that takes nothing of its answer
-    for `send_time` is cut off."""
+    for `send_time` is cut off. `places` has how many one address may have, except for proxies among
+    the `trusted`, and how many are for health and operators alone."""
 
-    def __init__(self, most: int, head_time: float, send_time: float) -> None:
+    def __init__(
+        self, most: int, head_time: float, send_time: float,
+        places: PlaceSettings = PlaceSettings(), trusted: tuple[Network, ...] = LOOPBACK,
+    ) -> None:  # fmt: skip
         self.most, self.head_time, self.send_time = most, head_time, send_time
         self.all: dict[Connection, None] = {}
+        self._most_each, self._trusted = places.connections_of_address, trusted
+        self._kept = min(places.kept, most // 4)
+        self._addresses: Counter[str] = Counter()
         self._of: dict[Peer, Connection] = {}
         self._owing: OrderedDict[Connection, None] = OrderedDict()
         self._due: OrderedDict[Connection, float] = OrderedDict()  # the earliest first
+        self._at_work: set[Connection] = set()
+        self.requests: set[asyncio.Task[Any]] = set()
         self._timer: asyncio.TimerHandle | None = None
         self._is_stopping = False
 
@@ -172,19 +315,61 @@ class Connections:
         """The connection of a client, by its address and port."""
         return self._of.get((peer[0], peer[1])) if peer else None
 
+    def crowding(self, connection: Connection | None) -> str | None:
+        """Why a request is answered only if it is of health or of an operator; None where any is.
+        The request is at work by now."""
+        if connection is not None and connection.crowding:
+            return connection.crowding
+        limit = self.most - self._kept
+        if len(self._at_work) > limit:
+            return f"the service is at work on {limit} requests"
+        return None
+
+    def occupy(self, address: str) -> Callable[[], None]:
+        """A trusted proxy hands on a request of this address. Returns what ends it. Raises
+        `Problem` where the address has too many."""
+        if self._addresses[address] >= self._most_each:
+            why = f"your address has {self._most_each} connections: ask again in a while"
+            raise Problem("TooManyConnections", why)
+        self._addresses[address] += 1
+        return functools.partial(self._forget, address)
+
     def came(self, connection: Connection) -> None:
-        """A connection was made; where there are too many, another one ends, or this one."""
+        """A connection was made; where there are too many, another one ends, or this one hears
+        that."""
         self.all[connection] = None
         if connection.peer:
             self._of[connection.peer] = connection
+            self._count(connection, connection.peer[0])
         if self._is_stopping:
-            connection.transport.close()
-        elif len(self.all) > self.most:
-            other = next(iter(self._owing), connection)
-            self.went(other)
-            other.transport.abort()
+            connection.close()
+            return
+        if len(self.all) > self.most:
+            self._make_room(connection)
         if connection in self.all:
             self.begins(connection)
+
+    def _count(self, connection: Connection, address: str) -> None:
+        if is_among(address, self._trusted):
+            return
+        self._addresses[address] += 1
+        if self._addresses[address] > self._most_each:
+            connection.crowding = f"your address has {self._most_each} connections"
+
+    def _make_room(self, connection: Connection) -> None:
+        other = next(iter(self._owing), None)
+        if other is None or other.crowding or other.is_new():
+            other = None
+            connection.crowding = connection.crowding or f"there are {self.most} connections"
+            if len(self.all) > self.most + SPARE:
+                other = next(iter(self._owing), None)
+                if other is None:
+                    why = f"{connection.crowding}: ask again later"
+                    problem = Problem("TooManyConnections", why)
+                    connection.finish(answer("503 Service Unavailable", problem))
+        if other is not None:
+            self.went(other)
+            other.transport.abort()
 
     def begins(self, connection: Connection) -> None:
         """A request's head is to come, in time."""
@@ -197,29 +382,59 @@ class Connections:
         """Its last request was answered, or the body of this one is still to come; for either
         somebody else counts the time."""
         self._due.pop(connection, None)
+        (self._at_work.add if connection.at_work else self._at_work.discard)(connection)
         if connection in self.all:
             self._owing.setdefault(connection, None)
             if self._is_stopping and not connection.at_work:
-                connection.transport.close()
+                connection.close()
 
     def works(self, connection: Connection) -> None:
         """All of a request has come, and is not answered yet."""
         self._due.pop(connection, None)
+        if connection.is_unread:
+            self.unread(connection)
+            return
         self._owing.pop(connection, None)
+        if connection in self.all:
+            self._at_work.add(connection)
+
+    def unread(self, connection: Connection) -> None:
+        """Its client does not read what it asked for: it gives way as one that sends nothing."""
+        self._at_work.discard(connection)
+        if connection in self.all:
+            self._owing.setdefault(connection, None)
 
     def went(self, connection: Connection) -> None:
         """It is over."""
-        self.works(connection)
+        self._due.pop(connection, None)
+        self._owing.pop(connection, None)
+        self._at_work.discard(connection)
+        if connection in self.all and connection.peer:
+            self._forget(connection.peer[0])
         self.all.pop(connection, None)
         if connection.peer and self._of.get(connection.peer) is connection:
             del self._of[connection.peer]
+
+    def _forget(self, address: str) -> None:
+        if address in self._addresses:
+            self._addresses[address] -= 1
+            if not self._addresses[address]:
+                del self._addresses[address]
 
     def stop(self) -> None:
         """Ends those that are idle, and each other one behind its answer."""
         self._is_stopping = True
         for connection in list(self.all):
             if not connection.at_work:
-                connection.transport.close()
+                connection.close()
+
+    def abort(self) -> None:
+        """Ends all of them, whatever they are at."""
+        for connection in list(self.all):
+            connection.leave()
+            connection.transport.abort()
+        for request in list(self.requests):
+            request.cancel()
 
     def _look_later(self) -> None:
         if self._timer is None and self._due:

@@ -18,6 +18,7 @@ from sagas.server.access import (
     WHO,
     body_of,
     limited,
+    occupy,
     rights_changed,
     service_of,
 )
@@ -42,6 +43,7 @@ def session_of(request: Request) -> Session | None:
         request.scope[WHO], request.scope[OWNER] = session.who.name, session.who
         request.scope[CHECK] = functools.partial(check_still, request, session.who)
         limited(request, session.who)
+        occupy(request, session.who)
     return session
 
 

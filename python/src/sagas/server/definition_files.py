@@ -78,6 +78,9 @@ class File:
     def _parsed(self) -> Json:
         try:
             return tomllib.loads(self.text)
+        except RecursionError:
+            why = "too many lists in one another"
+            raise DefinitionError(f"{self.path}:1: invalid TOML: {why}") from None
         except tomllib.TOMLDecodeError as error:
             text, _, place = str(error).partition(" (at ")
             line = re.match(r"line (\d+)", place)

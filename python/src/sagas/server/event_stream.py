@@ -22,12 +22,12 @@ MISSED = "event: missed\ndata: {}\n\n"
 
 @dataclasses.dataclass(eq=False, slots=True)
 class Listener:
-    """One stream, of sagas that its maker `sees`. It is `lost` where it did not read what it was
+    """One stream, of events that its maker `sees`. It is `lost` where it did not read what it was
     sent."""
 
     key: str | None
     saga: str | None
-    sees: Callable[[str | None], bool]
+    sees: Callable[[Event], bool]
     queue: deque[tuple[int, str]] = dataclasses.field(default_factory=deque)
     awake: asyncio.Event = dataclasses.field(default_factory=asyncio.Event)
     lost: bool = False
@@ -36,7 +36,7 @@ class Listener:
         asked = (self.key is None or event.key == self.key) and (
             self.saga is None or event.saga == self.saga
         )
-        return asked and self.sees(event.saga)
+        return asked and self.sees(event)
 
 
 class Hub:

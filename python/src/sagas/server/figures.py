@@ -12,9 +12,8 @@ from collections.abc import Awaitable, Callable
 from sagas.inspection import lists
 from sagas.inspection.question import Question
 from sagas.server.event_stream import Hub
+from sagas.storage.filters import EVERYTHING, Scope
 
-Definitions = frozenset[str] | None
-"""The definitions of which sagas are counted; None: all."""
 Counts = tuple[dict[str, dict[str, int]], dict[str, int]]
 """How many sagas there are by name and phase, and what waits for a person."""
 QUIET = 20.0
@@ -22,7 +21,7 @@ QUIET = 20.0
 operator's command in another program makes no event here."""
 logger = logging.getLogger("sagas.server")
 MOST_KEPT = 100
-"""Lists of definitions of which the figures are kept."""
+"""Scopes of which the figures are kept."""
 
 
 @dataclasses.dataclass(frozen=True, slots=True)
@@ -37,17 +36,17 @@ class Counted:
 
 
 class Figures:
-    """The figures by definitions. They are counted again at most each second, and less often where
+    """The figures by scope. They are counted again at most each second, and less often where
     that takes long.
     """
 
     def __init__(self, hub: Hub, ask: Callable[[Question[Counts]], Awaitable[Counts]]) -> None:
         self._hub, self._ask = hub, ask
-        self._kept: dict[Definitions, Counted] = {}
-        self._counting: dict[Definitions, asyncio.Task[Counted]] = {}
+        self._kept: dict[Scope, Counted] = {}
+        self._counting: dict[Scope, asyncio.Task[Counted]] = {}
 
-    async def of(self, some: Definitions) -> Counts:
-        """The figures of the sagas of these definitions."""
+    async def of(self, some: Scope) -> Counts:
+        """The figures of these sagas."""
         counted = self._kept.get(some)
         if counted is None or time.monotonic() > self._until(counted):
             counted = await asyncio.shield(self._begin(some))
@@ -58,7 +57,7 @@ class Figures:
         of events."""
         return counted.until + (QUIET if counted.seen == self._hub.count else 0.0)
 
-    def _begin(self, some: Definitions) -> asyncio.Task[Counted]:
+    def _begin(self, some: Scope) -> asyncio.Task[Counted]:
         counting = self._counting.get(some)
         if counting is None:
             counting = asyncio.get_running_loop().create_task(self._count(some))
@@ -68,14 +67,15 @@ class Figures:
 
     def prime(self) -> None:
         """Count all sagas once, so that nobody waits for that: at the start of a service."""
-        self._begin(None)
+        self._begin(EVERYTHING)
 
-    async def _count(self, some: Definitions) -> Counted:
+    async def _count(self, some: Scope) -> Counted:
         began, seen = time.monotonic(), self._hub.count
 
         def question() -> Question[Counts]:
-            counts = yield from lists.counts()
-            by_name = {name: of for name, of in counts.items() if some is None or name in some}
+            every = some if some.keys is not None else EVERYTHING  # which has the indexes
+            counts = yield from lists.counts(every)
+            by_name = {name: of for name, of in counts.items() if some.has_definition(name)}
             return by_name, (yield from lists.asked(some))
 
         found = await self._ask(question())
@@ -86,12 +86,12 @@ class Figures:
         self._kept[some] = counted
         return counted
 
-    def _counted(self, some: Definitions, task: asyncio.Task[Counted]) -> None:
+    def _counted(self, some: Scope, task: asyncio.Task[Counted]) -> None:
         self._counting.pop(some, None)
         if not task.cancelled() and task.exception():
             logger.debug("the sagas could not be counted: %s", type(task.exception()).__name__)
 
-    def lag(self, some: Definitions) -> float | None:
+    def lag(self, some: Scope) -> float | None:
         """Seconds until these figures are counted anew, where something has happened since they
         were counted; else None.
         """

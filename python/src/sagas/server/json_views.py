@@ -214,6 +214,7 @@ CALLS = {
     "unknown": ["retry", "complete", "fail", "abort"],
     "exhausted": ["retry", "complete", "fail", "abort"],
     "cannot_decode": ["complete", "fail", "abort"],
+    "damaged": [],
     "approval": ["complete", "fail", "abort"],
 }
 """The calls that apply to what needs a person."""
@@ -223,6 +224,7 @@ WAITS_FOR = {
     "unknown": "somebody who finds out whether the step had its effect, and reports it",
     "exhausted": "somebody who has it attempted again, or reports it",
     "cannot_decode": "a program that can read what is stored, or somebody's report",
+    "damaged": "somebody who repairs or deletes the damaged shard of the saga",
     "approval": "somebody's decision",
 }
 

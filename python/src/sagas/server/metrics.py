@@ -15,6 +15,7 @@ from prometheus_client.exposition import CONTENT_TYPE_LATEST, generate_latest
 from sagas.base.events import Event
 from sagas.runtime.leased_tasks import Queue
 from sagas.server.durations import Durations
+from sagas.storage.filters import EVERYTHING
 
 if TYPE_CHECKING:
     from sagas.server.service import Service
@@ -25,7 +26,9 @@ TOLD = {
     "step_unknown": "unknown", "step_exhausted": "exhausted",
     "step_cannot_decode": "cannot_decode",
 }  # fmt: skip
-INTERNAL_ERRORS = ("engine_died", "commit_failed", "audit_failed", "lease_expired", "shard_lost")
+INTERNAL_ERRORS = (
+    "engine_died", "shard_damaged", "commit_failed", "audit_failed", "lease_expired", "shard_lost",
+)  # fmt: skip
 TYPE = CONTENT_TYPE_LATEST
 MOST_BEGUN = 100_000
 """Attempts of which it is known when they began."""
@@ -70,8 +73,7 @@ class Metrics:
         self.step_seconds = functools.cache(seconds.labels)
         self.internal_errors = self._counter(
             "sagas_internal_errors",
-            "What went wrong inside: engine_died, commit_failed, audit_failed, lease_expired, "
-            "shard_lost",
+            f"What went wrong inside: {', '.join(INTERNAL_ERRORS)}",
             "kind",
         )
         self.shards_taken_over = Counter(
@@ -135,7 +137,7 @@ class Metrics:
 
     async def text(self) -> bytes:
         """All figures, as Prometheus reads them."""
-        self.counts, self.asked = await self._service.figures.of(None)
+        self.counts, self.asked = await self._service.figures.of(EVERYTHING)
         self.queues = await self._service.store.workers.queues()
         return generate_latest(self.registry)
 
@@ -151,7 +153,7 @@ class Metrics:
         asked = GaugeMetricFamily(
             "sagas_attention_required",
             "Stuck sagas, compensations that failed permanently, unknown outcomes, exhausted "
-            "attempts, stored values that cannot be read, approvals",
+            "attempts, stored values that cannot be read, sagas of damaged shards, approvals",
             labels=["reason"],
         )
         for why, count in self.asked.items():

@@ -38,6 +38,13 @@ SERVICE = "sagas.service"
 """In a scope: the `Service`."""
 GONE = "sagas.gone"
 """In a scope: a future that is done once the client is gone."""
+FOLLOWED = "sagas.followed"
+"""In a scope: a future that is done once the client has sent something behind the request: what
+waits is answered then, so that it hides neither another request nor the end of the connection."""
+CROWDING = "sagas.crowding"
+"""In a scope: why only health and operators are answered now, or None."""
+LEAVE = "sagas.leave"
+"""In a scope: functions that are called when the request is over."""
 CONTENT = (
     "default-src 'none'; style-src 'self'; script-src 'self'; img-src 'self'; connect-src 'self'; "
     "form-action 'self'; frame-ancestors 'none'; base-uri 'none'"
@@ -162,17 +169,20 @@ class Guard:
 
     def __init__(self, app: App, service: Service, connections: Connections | None) -> None:
         self.app, self.service, self.settings = app, service, service.settings
-        self._connections = connections
+        self.connections = connections
 
     async def __call__(self, scope: Scope, receive: Receive, send: Send) -> None:
         if scope["type"] != "http":
             await self.app(scope, receive, send)
             return
         scope[SERVICE] = self.service
-        connection = self._connections.of(scope.get("client")) if self._connections else None
-        if connection and connection.transport.is_closing():  # what followed its head was no HTTP
+        connection = self.connections.of(scope.get("client")) if self.connections else None
+        if connection and connection.is_over:  # what followed its head was no HTTP
             connection.leave()
-        scope[GONE] = connection.gone if connection else asyncio.get_running_loop().create_future()
+        loop = asyncio.get_running_loop()
+        scope[GONE] = connection.gone if connection else loop.create_future()
+        scope[FOLLOWED] = connection.followed if connection else loop.create_future()
+        scope[LEAVE] = []
         await Passage(self, scope, receive, send, connection).run()
 
     def refusal(self, scope: Scope) -> Problem | None:
@@ -237,7 +247,12 @@ class Passage:
     async def run(self) -> None:
         if self._connection:
             self._connection.starts(self._whole)
+        connections, task = self.guard.connections, asyncio.current_task()
+        self.scope[CROWDING] = connections and connections.crowding(self._connection)
         refusal = self._refusal()
+        if connections and task:
+            connections.requests.add(task)
+            self.scope[LEAVE].append(functools.partial(connections.requests.discard, task))
         try:
             if refusal:
                 await self._refuse(refusal)
@@ -246,6 +261,8 @@ class Passage:
             if self.scope[GONE].done() and not self.status:
                 await self._lost()
         finally:
+            for leave in self.scope[LEAVE]:
+                leave()
             if self._connection:
                 self._connection.ends()
             self.guard.service.request(self.scope, self.status, time.monotonic() - self.began)
@@ -253,16 +270,29 @@ class Passage:
     async def _lost(self) -> None:
         """Until the connection is lost: before, uvicorn takes the end of a request without an
         answer for a fault, and answers itself."""
+        if self._connection:
+            await self._connection.lost
+            return
         while (await self._receive())["type"] != "http.disconnect":
             pass
 
     def _refusal(self) -> Problem | None:
         try:
-            return self.guard.refusal(self.scope)
+            refusal = self.guard.refusal(self.scope)
+            self._occupy(self.scope.get("client"))
+            return refusal
+        except Problem as problem:
+            return problem
         except ValueError:
             return Problem(
                 "MalformedRequest", "a header of the request cannot be read, or is there twice"
             )
+
+    def _occupy(self, client: Any) -> None:
+        """Count a request that a proxy hands on with those of its own address. Raises `Problem`."""
+        peer = self._connection and self._connection.peer
+        if self.guard.connections and client and peer and client[0] != peer[0]:
+            self.scope[LEAVE].append(self.guard.connections.occupy(client[0]))
 
     async def _through(self) -> None:
         try:

@@ -31,7 +31,10 @@ TAGS = {
     "operators": "What needs a person, deeds on many sagas, health and metrics.",
     "definitions": "The definitions that the service has.",
 }
-ALWAYS = ("MalformedRequest", "NotFound", "TooManyRequests", "InternalError")
+ALWAYS = (
+    "MalformedRequest", "NotFound", "TooManyRequests", "InternalError", "TooManyConnections",
+    "InvalidRequest",
+)  # fmt: skip
 """Problems that any call may have."""
 WITH_TOKEN = ("Unauthorized", "Forbidden", "Closed", "StoreUnavailable")
 WITH_BODY = (
@@ -39,7 +42,6 @@ WITH_BODY = (
     "RequestTimeout",
     "BodyTooLarge",
     "UnsupportedMediaType",
-    "InvalidRequest",
     "CrossOrigin",
 )
 routes = Routes("definitions")
@@ -48,7 +50,12 @@ routes = Routes("definitions")
 @routes.get(
     "/openapi.json",
     "getOpenApi",
-    answers={200: Answer("The document.", media_type="application/json")},
+    answers={
+        200: Answer(
+            "The document.", media_type="application/json",
+            headers={"ETag": "changes with the document"},
+        )
+    },
 )
 async def openapi(call: Call) -> Response:
     """Get this document."""
@@ -69,7 +76,7 @@ def problems_of(operation: Operation) -> dict[int, list[str]]:
     """The problems of an operation by their statuses."""
     names = [*ALWAYS, *operation.problems]
     names += WITH_TOKEN if operation.may else ()
-    names += WITH_BODY if operation.body else ("InvalidRequest",) if operation.query else ()
+    names += WITH_BODY if operation.body else ()
     found: dict[int, list[str]] = {}
     for name in sorted(set(names)):
         found.setdefault(PROBLEMS[name].status, []).append(name)
@@ -90,6 +97,8 @@ def answer_of(answer: Answer) -> dict[str, Any]:
     if answer.example is not None:
         content["examples"] = {"example": {"value": answer.example}}
     told["content"] = {answer.media_type: content}
+    if answer.or_text:
+        told["content"]["text/plain"] = {"schema": {"type": "string"}}
     return told
 
 

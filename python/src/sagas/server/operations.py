@@ -15,9 +15,10 @@ from starlette.routing import Route
 
 from sagas.base.errors import SagasError
 from sagas.definition.validation import meant
-from sagas.server import problems
-from sagas.server.access import admit, body_of, service_of, unslashed
+from sagas.server import json_texts, problems
+from sagas.server.access import admit, body_of, check_room, service_of, unslashed
 from sagas.server.auth import NOBODY, May, Who
+from sagas.server.dashboard_session import still_of
 from sagas.server.middleware import Receive, Scope, Send
 from sagas.server.problems import Problem
 from sagas.server.service import Service
@@ -65,13 +66,15 @@ Refuse = Callable[[Request, Problem], Response]
 
 @dataclasses.dataclass(frozen=True)
 class Answer:
-    """An answer of an operation: JSON of a shape, or another media type."""
+    """An answer of an operation: JSON of a shape, or another media type. `or_text`: by a parameter
+    also as plain text."""
 
     told: str
     shape: Shape | None = None
     media_type: str = "application/json"
     example: Any = None
     headers: Mapping[str, str] = dataclasses.field(default_factory=dict)
+    or_text: bool = False
 
 
 @dataclasses.dataclass(frozen=True)
@@ -164,28 +167,20 @@ async def read_body(shape: Record, request: Request) -> dict[str, Any]:
     text = await body_of(request)
     if is_empty and not text:
         return read_fields(shape.fields, {}, "")
-    read = functools.partial(_decoded, text)
+    read = functools.partial(json_texts.of_bytes, text)
     try:
         value = read() if len(text) < LARGE else await service_of(request).threads.answers.do(read)
-    except (ValueError, RecursionError) as error:
-        where = f" at line {error.lineno}" if isinstance(error, json.JSONDecodeError) else ""
-        raise Problem("InvalidJson", f"the body is not JSON{where}: send an object") from None
+    except json.JSONDecodeError as error:
+        why = f"the body is not JSON at line {error.lineno}: send an object"
+        raise Problem("InvalidJson", why) from None
+    except UnicodeDecodeError:
+        raise Problem("InvalidJson", "the body is not UTF-8: send an object as JSON") from None
+    except ValueError as error:
+        raise Problem("InvalidJson", f"the body is not JSON that can be taken: {error}") from None
     try:
         return shape.read(value, "")
     except Invalid as error:
         raise invalid(error) from None
-
-
-def _decoded(text: bytes) -> Any:
-    return _decoder.decode(text.decode(json.detect_encoding(text), "surrogatepass"))
-
-
-def _no_constant(text: str) -> None:
-    raise ValueError(text)
-
-
-_decoder = json.JSONDecoder(parse_constant=_no_constant)
-"""As `json.loads` makes one for each text."""
 
 
 def invalid(error: Invalid) -> Problem:
@@ -222,6 +217,9 @@ class Resource:
             return self._refuse(request, problem)
         except SagasError as error:
             return self._refuse(request, problems.of(error))
+        except RecursionError:
+            why = "a stored value has too many levels of lists and objects to be shown"
+            return self._refuse(request, Problem("InternalError", why))
 
     async def _carried_out(self, request: Request) -> Response:
         """The answer. Whoever may not is refused before a byte of the body is read. Raises
@@ -232,7 +230,11 @@ class Resource:
             raise Problem(
                 "MethodNotAllowed", f"this path has {self.allowed}", headers={"Allow": self.allowed}
             )
-        who = NOBODY if operation.may is None else admit(request, operation.may)
+        if operation.may is None:
+            who = NOBODY
+            check_room(request, is_operator=self._is_page and still_of(request) is not None)
+        else:
+            who = admit(request, operation.may)
         call = await operation.call(request, who, self._is_page)
         if method == "HEAD" and operation.streams:
             return Response(media_type="text/event-stream")

@@ -3,6 +3,7 @@
 from __future__ import annotations
 
 import dataclasses
+import logging
 from typing import Any
 
 from sagas.base.errors import SagasError
@@ -12,6 +13,7 @@ PREFIX = "urn:sagas:problem:"
 """Before the name of a problem: its `type`, which never changes."""
 MEDIA_TYPE = "application/problem+json"
 MOST_DETAIL = 1000
+logger = logging.getLogger("sagas.server")
 
 
 @dataclasses.dataclass(frozen=True, slots=True)
@@ -57,7 +59,10 @@ PROBLEMS = {
     "NotSerializable": Kind(422, "A value cannot be stored as JSON"),
     "TooLarge": Kind(422, "The saga has too many steps or needs for its input"),
     "TooManyRequests": Kind(429, "Too many requests", repeat=True),
+    "QuotaExceeded": Kind(429, "The token has too many open sagas", repeat=True),
     "InternalError": Kind(500, "The service has a fault", repeat=True),
+    "TooManyConnections": Kind(503, "There are too many connections", repeat=True),
+    "TooManyWaits": Kind(503, "There are too many requests that wait", repeat=True),
     "TooManyStreams": Kind(503, "There are too many event streams", repeat=True),
     "Stopping": Kind(503, "The service is about to stop", repeat=True),
     "Closed": Kind(503, "The store is closed", repeat=True),
@@ -69,6 +74,14 @@ PROBLEMS = {
 RENAMED = {"DefinitionError": "NoSuchDefinition"}
 REPEAT = sorted({kind.status for kind in PROBLEMS.values() if kind.repeat} | {502, 504})
 """Statuses of requests that are worth repeating; two of them are of proxies alone."""
+SILENT = {
+    "StoreUnavailable": "the store cannot be read or written now: send the same request again in a "
+    "while. An operator finds the cause in the service's log",
+    "Closed": "the service is about to stop: send the same request again in a while",
+    "OwnerUnavailable": "the node that executes the saga has not answered yet. What was asked may "
+    "still happen: look at the saga, and send the same request again in a while",
+}
+"""What is told of errors whose text has names of hosts, roles, files or nodes: that is logged."""
 HEADERS = {
     401: {"WWW-Authenticate": "Bearer"},
     429: {"Retry-After": "1"},
@@ -101,7 +114,10 @@ def of(error: SagasError) -> Problem:
     """An error of the package: by its own name, or the nearest that there is."""
     names = (RENAMED.get(kind.__name__, kind.__name__) for kind in type(error).__mro__)
     name = next((name for name in names if name in PROBLEMS), "InternalError")
-    return Problem(name, str(error))
+    if name not in SILENT:
+        return Problem(name, str(error))
+    logger.warning("%s: %s", type(error).__name__, error)
+    return Problem(name, SILENT[name])
 
 
 def body(problem: Problem) -> dict[str, Any]:

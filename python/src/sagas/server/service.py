@@ -6,6 +6,7 @@ import asyncio
 import dataclasses
 import functools
 import logging
+import re
 import time
 from collections import OrderedDict
 from collections.abc import Awaitable, Callable
@@ -14,7 +15,14 @@ from typing import TYPE_CHECKING, Any, TypeVar
 from sagas.api import opening
 from sagas.api.run import Run
 from sagas.api.store import Store
-from sagas.base.errors import DefinitionError, KeyConflict, NoSuchSaga, OwnerUnavailable, SagasError
+from sagas.base.errors import (
+    DefinitionError,
+    KeyConflict,
+    NoSuchSaga,
+    OwnerUnavailable,
+    SagasError,
+    StoreUnavailable,
+)
 from sagas.base.events import Event
 from sagas.core.results import ActiveAttempt
 from sagas.definition import tokens
@@ -27,12 +35,14 @@ from sagas.inspection.question import Question
 from sagas.inspection.stored_values import stored
 from sagas.inspection.views import SagaView
 from sagas.runtime.leased_tasks import Queue
-from sagas.server import declared_steps, webhook_file
+from sagas.server import declared_steps, private_files, webhook_file
 from sagas.server.auth import Rates, Sessions, Tokens, Who
 from sagas.server.event_stream import Hub
 from sagas.server.figures import Figures
 from sagas.server.metrics import Metrics
-from sagas.server.middleware import SLASH
+from sagas.server.middleware import SLASH, parted
+from sagas.server.places import Places
+from sagas.server.quotas import Quotas
 from sagas.server.settings import Settings
 from sagas.server.stream_limits import Streams
 from sagas.server.threads import Threads
@@ -77,6 +87,8 @@ class Service:
         self.sessions = Sessions(settings.session_time)
         self.rates = Rates(settings.rate)
         self.refusals = Rates(5.0)
+        self.quotas = Quotas(settings.quota, self.look)
+        self.places = Places(settings.places)
         streams = settings.streams
         self.streams = Streams(streams.most, streams.most_each, streams.kept)
         self.store: Store = opening.open(
@@ -92,12 +104,17 @@ class Service:
             record=settings.store.record,
         )
         self.store.leased = True
-        hooks = webhook_file.read(settings.webhooks) if settings.webhooks else []
-        self.webhooks = Webhooks(hooks, self.store.deliveries)
+        for path in (settings.tokens, settings.webhooks.file):
+            if warning := path and private_files.warning(path):
+                logger.warning("%s", warning)
+        file, allow = settings.webhooks.file, settings.webhooks.allow_local
+        hooks = webhook_file.read(file, allow) if file else []
+        self.webhooks = Webhooks(hooks, self.store.deliveries, allow)
         self._peers: Peers | None = None
         self._there: dict[
             str, tuple[float, list[ActiveAttempt]]
         ] = {}  # what other nodes said of sagas, and until when that is told again
+        self.pages: list[re.Pattern[str]] = []
         self.workers: OrderedDict[str, Seen] = OrderedDict()
         self.claims = WaitingClaims()
         self.unwritten: float | None = None
@@ -130,6 +147,7 @@ class Service:
         self.stop()
         await self.webhooks.end()
         await self.figures.rest()
+        await self.quotas.rest()
         if self._peers:
             await self._peers.close()
         await self.store.close(self.settings.shutdown_timeout)
@@ -255,8 +273,10 @@ class Service:
     # -- what is whose to see
 
     async def check_sees(self, who: Who, key: str) -> None:
-        """Raises `NoSuchSaga` where the saga is of a definition that is not theirs to see: in the
-        words for a key that nobody has."""
+        """Raises `NoSuchSaga` where the saga is of a definition, or has a key, that is not theirs
+        to see: in the words for a key that nobody has."""
+        if not who.scope.has_key(key):
+            raise NoSuchSaga(f"no saga has the key {key!r}")
         if who.definitions is not None:
             row = await self.look(one_saga.find(key))
             if row is None or not who.sees(row.saga):
@@ -285,17 +305,29 @@ class Service:
         )
 
     async def start(
-        self, who: Who, saga: Saga, key: str, given: Any, labels: Labels | None = None,
-        deadline: float | None = None, traceparent: str | None = None,
+        self, who: Who, size: int, saga: Saga, key: str, given: Any,
+        labels: Labels | None = None, deadline: float | None = None,
+        traceparent: str | None = None,
     ) -> Run:  # fmt: skip
-        """Starts a saga. Raises what `Store.start` raises; of a key's saga that is not theirs to
-        see nothing is told."""
+        """Starts a saga, of which `size` bytes were sent. Raises what `Store.start` raises, and
+        `StoreUnavailable` where that takes too long; of a key's saga that is not theirs to see
+        nothing is told. Raises `Problem` where the token has too many open sagas."""
+        token = None if self.tokens is None else who.name
+        place = token and await self.quotas.take(who, size, lambda: self._is_there(key))
+        is_new = False
         try:
-            run = await self.store.start(
-                saga, key, given, labels=labels, deadline=deadline, traceparent=traceparent
-            )
+            async with asyncio.timeout(self.settings.patience):
+                run = await self.store._start(
+                    token, saga, key, given, labels, deadline, traceparent
+                )
+            is_new = run.new
             self.store._replies(key)
             return run
+        except TimeoutError:
+            raise StoreUnavailable(
+                f"the store has not kept the start of {key!r} in {self.settings.patience:g} s, and "
+                "may still do so. Send the same request again"
+            ) from None
         except KeyConflict:
             if who.definitions is None:
                 raise
@@ -304,8 +336,22 @@ class Service:
             except NoSuchSaga:
                 raise KeyConflict(f"the key {key!r} is another saga's: take another key") from None
             raise
+        finally:
+            if place:
+                self.quotas.done(place, is_new)
+
+    async def _is_there(self, key: str) -> bool:
+        return await self.look(one_saga.find(key)) is not None
 
     # -- names
+
+    def is_page(self, address: str) -> bool:
+        """Whether an address is one of the dashboard's own pages, with its query."""
+        path = address.partition("#")[0].partition("?")[0]
+        if not address.isascii() or not address.isprintable() or "\\" in address:
+            return False
+        name = parted(path.encode())
+        return name is not None and any(page.fullmatch(name) for page in self.pages)
 
     def saga_named(self, who: Who, name: str, version: int | None) -> Saga:
         """The definition of a name; without a version its newest. Raises `DefinitionError`, which

@@ -11,6 +11,7 @@ from typing import Union
 from sagas.definition.blobs import BlobStore
 from sagas.definition.payloads import Codec
 from sagas.definition.saga import Saga
+from sagas.server.quotas import Quota
 
 Network = Union[ipaddress.IPv4Network, ipaddress.IPv6Network]
 LOOPBACK: tuple[Network, ...] = (
@@ -27,6 +28,29 @@ class StreamSettings:
     most: int = 200
     most_each: int = 50
     kept: int = 40
+
+
+@dataclasses.dataclass(frozen=True, slots=True)
+class PlaceSettings:
+    """How many connections and requests there may be at once: in all; that wait for a saga or for
+    tasks, of one token; with a request at work, of one token; of one address. `kept`: of all
+    connections, those for health and operators alone, at most a quarter.
+    """
+
+    connections: int = 2000
+    waits: int = 200
+    claims: int = 200
+    connections_of_token: int = 500
+    connections_of_address: int = 1000
+    kept: int = 50
+
+
+@dataclasses.dataclass(frozen=True, slots=True)
+class WebhookSettings:
+    """The file of webhooks, if there is one, and whether they may post to this machine."""
+
+    file: pathlib.Path | None = None
+    allow_local: bool = False
 
 
 @dataclasses.dataclass(frozen=True, slots=True)
@@ -49,7 +73,8 @@ class Settings:
     everything.
 
     Sizes are in bytes, times in seconds. `rate`: requests a second that each token (without
-    tokens: each address) may make on the average; it may save up two seconds' worth.
+    tokens: each address) may make on the average; it may save up two seconds' worth. `quota`: what
+    each token may have open.
     `trusted_proxies`: the networks whose word is taken for whose request it is.
     """
 
@@ -58,13 +83,14 @@ class Settings:
     host: str = "127.0.0.1"
     port: int = 8080
     tokens: pathlib.Path | None = None
-    webhooks: pathlib.Path | None = None
+    webhooks: WebhookSettings = WebhookSettings()
     concurrency: int = 16
     most_body: int = 1 << 20
-    most_connections: int = 2000
     streams: StreamSettings = StreamSettings()
+    places: PlaceSettings = PlaceSettings()
     trusted_proxies: tuple[Network, ...] = LOOPBACK
     rate: float = 5000.0
+    quota: Quota = Quota()
     head_time: float = 10.0
     body_time: float = 30.0
     send_time: float = 30.0

@@ -13,6 +13,9 @@ from sagas.definition.validation import meant
 
 Schema = dict[str, Any]
 MOST_SHOWN = 80
+WHOLE = re.compile("-?[0-9]{1,20}")
+DECIMAL = re.compile(r"-?[0-9]{1,20}(\.[0-9]{1,20})?([eE][+-]?[0-9]{1,3})?")
+"""Numbers of a query as JSON has them: no underscores, and no digits beyond ASCII."""
 
 
 class Invalid(ValueError):
@@ -118,11 +121,9 @@ class Number(Shape):
         return int(value) if self.whole else float(value)
 
     def of_text(self, text: str, field: str) -> float:
-        try:
-            found = int(text) if self.whole else float(text)
-        except ValueError:
-            raise Invalid(field, f"it is a {'whole ' if self.whole else ''}number") from None
-        return self.read(found, field)
+        if not (WHOLE if self.whole else DECIMAL).fullmatch(text):
+            raise Invalid(field, f"it is a {'whole ' if self.whole else ''}number")
+        return self.read(int(text) if self.whole else float(text), field)
 
     def schema(self) -> Schema:
         words = {"minimum": self.least, "maximum": self.most}

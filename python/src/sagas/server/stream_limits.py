@@ -2,11 +2,15 @@
 
 from __future__ import annotations
 
+import asyncio
+import contextlib
 from collections import Counter
 from collections.abc import Callable
 from typing import Any
 
 from starlette.responses import StreamingResponse
+
+from sagas.server.middleware import FOLLOWED, Receive, Scope, Send
 
 
 class Streams:
@@ -49,8 +53,14 @@ class Stream(StreamingResponse):
         )
         self._leave = leave
 
-    async def __call__(self, *words: Any) -> None:
+    async def __call__(self, scope: Scope, receive: Receive, send: Send) -> None:
+        """Sends it, until the client sends something behind its request."""
+        sending = asyncio.ensure_future(super().__call__(scope, receive, send))
         try:
-            await super().__call__(*words)
+            await asyncio.wait({sending, scope[FOLLOWED]}, return_when=asyncio.FIRST_COMPLETED)
         finally:
+            if not sending.done():
+                sending.cancel()
+            with contextlib.suppress(asyncio.CancelledError):
+                await sending
             self._leave()

@@ -18,11 +18,13 @@ import uvicorn  # type: ignore[import]
 from uvicorn.protocols.http.auto import AutoHTTPProtocol  # type: ignore[import]
 
 from sagas.server.app import application
-from sagas.server.connections import Connection, Connections
+from sagas.server.connections import SPARE, Connection, Connections
 from sagas.server.service import Service
 from sagas.server.settings import Settings
 
-SPARE = 200  # descriptors that connections leave to the store and its children
+FOR_STORE = 200  # descriptors that connections leave to the store and its children
+FOR_REQUESTS = 10.0  # seconds that requests at work have, once it is asked to stop
+FOR_CLOSE = 15.0  # seconds that a stop may take in addition to requests and functions
 STARTED = 0.005  # seconds between two looks whether uvicorn has started: it makes no event of it
 SIGNALS = signal.SIGTERM, signal.SIGINT
 
@@ -40,11 +42,13 @@ def protocol(connections: Connections) -> type[asyncio.Protocol]:
 def most_connections(wanted: int) -> int:
     """As many as are wanted, or as descriptors allow; their limit is raised as far as it may be."""
     soft, hard = resource.getrlimit(resource.RLIMIT_NOFILE)
-    need = wanted + SPARE
+    need = wanted + SPARE + FOR_STORE
     if soft != resource.RLIM_INFINITY and soft < need:
         soft = need if hard == resource.RLIM_INFINITY else min(need, hard)
         resource.setrlimit(resource.RLIMIT_NOFILE, (soft, hard))
-    return wanted if soft == resource.RLIM_INFINITY else max(16, min(wanted, soft - SPARE))
+    if soft == resource.RLIM_INFINITY:
+        return wanted
+    return max(16, min(wanted, soft - SPARE - FOR_STORE))
 
 
 def config_of(app: Any, connections: Connections) -> uvicorn.Config:
@@ -68,8 +72,12 @@ def config_of(app: Any, connections: Connections) -> uvicorn.Config:
 class Serving:
     """A server at work, which ends streams and long waits when it is asked to stop."""
 
-    def __init__(self, server: uvicorn.Server, service: Service, connections: Connections) -> None:
+    def __init__(
+        self, server: uvicorn.Server, service: Service, connections: Connections,
+        overdue: Callable[[], None] | None,
+    ) -> None:  # fmt: skip
         self._server, self._service, self._connections = server, service, connections
+        self._overdue, self._deadline = overdue, list[asyncio.TimerHandle]()
 
     async def run(self, listening: socket.socket, opened: Callable[[], None]) -> None:
         """Serves until a signal; `opened` is called once it answers."""
@@ -81,6 +89,8 @@ class Serving:
                 opened()
                 await work
         finally:
+            for timer in self._deadline:
+                timer.cancel()
             work.cancel()
             with contextlib.suppress(asyncio.CancelledError):
                 await work
@@ -101,23 +111,46 @@ class Serving:
                 loop.remove_signal_handler(number)
 
     def stop(self) -> None:
-        """Takes no further request, and ends what waits. A second time it waits for nothing."""
-        self._server.force_exit = self._service.stopping.done()
+        """Takes no further request, and ends what waits. What is at work has its time; if it is
+        asked again, none."""
+        is_first = not self._service.stopping.done()
         self._server.should_exit = True
         self._service.stop()
         self._connections.stop()
+        if not is_first:
+            self._abort()
+            return
+        settings = self._service.settings
+        loop = asyncio.get_running_loop()
+        self._deadline.append(loop.call_later(FOR_REQUESTS, self._abort))
+        if self._overdue:
+            seconds = FOR_REQUESTS + settings.shutdown_timeout + FOR_CLOSE
+            last = threading.Timer(seconds, self._overdue)
+            last.daemon = True
+            last.start()
+
+    def _abort(self) -> None:
+        """Ends each request and its connection."""
+        self._server.force_exit = True
+        self._connections.abort()
 
 
-async def run(settings: Settings, listening: socket.socket, opened: Callable[[], None]) -> None:
+async def run(
+    settings: Settings, listening: socket.socket, opened: Callable[[], None],
+    overdue: Callable[[], None] | None = None,
+) -> None:  # fmt: skip
     """Serves at a socket until it is asked to stop; `opened` is called once it answers. Raises
     what `Store` raises.
-    """
-    most = most_connections(settings.most_connections)
-    connections = Connections(most, settings.head_time, settings.send_time)
+
+    `overdue` is called in a thread where a stop takes longer than all of its parts may."""
+    connections = Connections(
+        most_connections(settings.places.connections), settings.head_time, settings.send_time,
+        settings.places, settings.trusted_proxies,
+    )  # fmt: skip
     app, service = application(settings, connections)
     await service.begin()
     try:
         server = uvicorn.Server(config_of(app, connections))
-        await Serving(server, service, connections).run(listening, opened)
+        await Serving(server, service, connections, overdue).run(listening, opened)
     finally:
         await service.end()

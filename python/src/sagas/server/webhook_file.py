@@ -5,6 +5,7 @@ from __future__ import annotations
 import base64
 import binascii
 import dataclasses
+import ipaddress
 import pathlib
 import re
 from typing import Any
@@ -13,6 +14,7 @@ from urllib.parse import urlsplit
 import tomllib
 
 from sagas.core.announcements import TYPES
+from sagas.server import private_files
 
 KEYS = ("name", "url", "secret", "types", "definitions")
 PREFIX = "whsec_"
@@ -40,19 +42,35 @@ class Webhook:
         return kind in self.types and (self.definitions is None or saga in self.definitions)
 
 
-def read(path: pathlib.Path) -> list[Webhook]:
-    """The tables `[[webhook]]` of a file. Raises `WebhookFault`."""
+def is_local(host: str) -> bool:
+    """Whether an address, or `localhost`, is this machine or on its link. Other names are resolved
+    when something is posted."""
     try:
+        address = ipaddress.ip_address(host.partition("%")[0])
+    except ValueError:
+        return host == "localhost" or host.endswith(".localhost")
+    if isinstance(address, ipaddress.IPv6Address) and address.ipv4_mapped:
+        address = address.ipv4_mapped
+    return address.is_loopback or address.is_link_local or address.is_unspecified
+
+
+def read(path: pathlib.Path, allow_local: bool = False) -> list[Webhook]:
+    """The tables `[[webhook]]` of a file. `allow_local`: whether they may post to this machine.
+    Raises `WebhookFault`."""
+    try:
+        private_files.check(path)
         told = tomllib.loads(path.read_text(encoding="utf-8"))
     except (OSError, UnicodeDecodeError, tomllib.TOMLDecodeError) as error:
         raise WebhookFault(f"{path}: cannot be read: {error}") from error
+    except RecursionError:
+        raise WebhookFault(f"{path}: cannot be read: too many lists in one another") from None
     entries = told.get("webhook", [])
     if set(told) - {"webhook"} or not isinstance(entries, list):
         raise WebhookFault(f"{path}: only [[webhook]] tables are allowed")
     found: dict[str, Webhook] = {}
     for place, entry in enumerate(entries, 1):
         try:
-            one = _read_one(entry)
+            one = _read_one(entry, allow_local)
         except ValueError as error:
             raise WebhookFault(f"{path}: webhook {place}: {error}") from None
         if one.name in found:
@@ -61,7 +79,7 @@ def read(path: pathlib.Path) -> list[Webhook]:
     return list(found.values())
 
 
-def _read_one(entry: Any) -> Webhook:
+def _read_one(entry: Any, allow_local: bool) -> Webhook:
     """One of them. Raises `ValueError`."""
     unknown = sorted(set(entry) - set(KEYS)) if isinstance(entry, dict) else ["?"]
     if unknown:
@@ -70,6 +88,11 @@ def _read_one(entry: Any) -> Webhook:
     if not (isinstance(name, str) and 0 < len(name) <= 64 and name.isprintable()):
         raise ValueError("name must be a text of 1 to 64 printable characters")
     url = _url(entry.get("url"))
+    if not allow_local and is_local(urlsplit(url).hostname or ""):
+        raise ValueError(
+            "url must not be an address of this machine or its link; start the service with "
+            "--local-webhooks if it is meant"
+        )
     types = _texts(entry.get("types", list(TYPES)), "types")
     if beyond := sorted(types - set(TYPES)):
         raise ValueError(f"unknown type {beyond[0]!r}; the types are {', '.join(TYPES)}")

@@ -7,16 +7,9 @@ tells of: so it is posted at least once, and after an end of this program by the
 from __future__ import annotations
 
 import asyncio
-import base64
 import contextlib
-import hashlib
-import hmac
-import http.client
 import logging
 import random
-import time
-from concurrent.futures import ThreadPoolExecutor
-from urllib.parse import urlsplit
 
 from sagas.api.deliveries import Deliveries
 from sagas.base.errors import Closed, SagasError
@@ -24,10 +17,12 @@ from sagas.base.events import Event
 from sagas.core.announcements import TYPES
 from sagas.definition.compiled import Hooks
 from sagas.server.webhook_file import Webhook
+from sagas.server.webhook_post import post
 from sagas.storage.deliveries import Claimed, DeliveryState, Posted
 
 AT_ONCE, PATIENCE = 4, 10.0
-"""Posts at once to a webhook, and seconds that each may take."""
+"""Posts at once to a webhook, and seconds that each may take, from the name of its receiver to the
+status of the answer."""
 LEASE = 3 * PATIENCE
 """Seconds behind which a delivery is posted again whose program has ended."""
 PAUSES = (1.0, 5.0, 25.0, 125.0, 600.0, 600.0, 600.0, 600.0, 600.0)
@@ -47,35 +42,14 @@ TOLD = (
 logger = logging.getLogger("sagas.webhooks")
 
 
-def signed(secret: bytes, id: str, at: int, body: bytes) -> str:
-    """The signature of a post: `v1,` and an HMAC in base64."""
-    code = hmac.new(secret, f"{id}.{at}.".encode() + body, hashlib.sha256).digest()
-    return f"v1,{base64.b64encode(code).decode()}"
-
-
-def post(hook: Webhook, delivery: Claimed) -> int:
-    """Posts once; gives the status. Redirects are not followed. Raises whatever comes between."""
-    parts, at, body = urlsplit(hook.url), int(time.time()), delivery.body.encode()
-    kind = http.client.HTTPSConnection if parts.scheme == "https" else http.client.HTTPConnection
-    headers = {
-        "Content-Type": "application/json",
-        "User-Agent": "sagas",
-        "webhook-id": delivery.id,
-        "webhook-timestamp": str(at),
-        "webhook-signature": signed(hook.secret, delivery.id, at, body),
-    }
-    with contextlib.closing(kind(parts.hostname or "", parts.port, timeout=PATIENCE)) as link:
-        path = (parts.path or "/") + (f"?{parts.query}" if parts.query else "")
-        link.request("POST", path, body, headers)
-        return int(link.getresponse().status)
-
-
 class Webhooks:
     """Posts the deliveries of a store. Each webhook has posts of its own, so that one that does not
     answer holds up no other."""
 
-    def __init__(self, hooks: list[Webhook], deliveries: Deliveries) -> None:
-        self._hooks, self._deliveries = hooks, deliveries
+    def __init__(
+        self, hooks: list[Webhook], deliveries: Deliveries, allow_local: bool = False
+    ) -> None:
+        self._hooks, self._deliveries, self._allow_local = hooks, deliveries, allow_local
         self._lanes: list[asyncio.Task[None]] = []
         self._awake: list[asyncio.Event] = []
         if hooks:
@@ -93,8 +67,7 @@ class Webhooks:
         """Posts from now on. In the loop, with the store open."""
         if not self._hooks:
             return
-        loop, most = asyncio.get_running_loop(), AT_ONCE * len(self._hooks)
-        self._threads = ThreadPoolExecutor(min(most, 64), "sagas-webhook")
+        loop = asyncio.get_running_loop()
         self._awake = [asyncio.Event() for _ in self._hooks]
         self._lanes = [
             loop.create_task(self._lane(hook, awake))
@@ -107,7 +80,6 @@ class Webhooks:
             lane.cancel()
         if self._lanes:
             await asyncio.wait(self._lanes)
-            self._threads.shutdown(wait=False, cancel_futures=True)
 
     def event(self, event: Event) -> None:
         """Something happened to a saga that this service executes."""
@@ -149,8 +121,9 @@ class Webhooks:
         """Posts one, and stores how that went. Raises `StoreUnavailable`, `Closed`."""
         status, error = None, None
         try:
-            loop = asyncio.get_running_loop()
-            status = await loop.run_in_executor(self._threads, post, hook, one)
+            status = await post(hook, one, PATIENCE, self._allow_local)
+        except TimeoutError:
+            error = f"TimeoutError: it did not answer within {PATIENCE:g} s"
         except Exception as fault:
             error = f"{type(fault).__name__}: {fault}"[:MOST_SAID]
         posted = outcome(status, error, one.attempts)

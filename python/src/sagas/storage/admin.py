@@ -311,8 +311,10 @@ class Base:
             return self.link.execute(text.replace("?", "%s"), cleaned(words)).rowcount
 
     def tell(self, what: str) -> None:
+        from sagas.storage.postgresql import notifications
+
         with self._faults():
-            self.link.execute("SELECT pg_notify('sagas_nodes', %s)", (what,))
+            self.link.execute(notifications.SAY, {"words": [what]})
 
     def is_driven(self) -> bool:
         return bool(self.ask("SELECT 1 FROM nodes WHERE lease > now() LIMIT 1"))
@@ -345,7 +347,10 @@ class Base:
         return [key for (key,) in rows]
 
     def withdraw(self, key: str) -> bool:
-        return bool(self.ask(WITHDRAW, key))
+        messages = [message for (message,) in self.ask(WITHDRAW, key)]
+        for message in messages:
+            self.tell(message)
+        return bool(messages)
 
     def start_of(self, key: str) -> int | None:
         rows = self.ask("SELECT id FROM pending_starts WHERE key = ?", key)

@@ -15,13 +15,15 @@ import tomllib
 
 from sagas.core.history import Projection
 from sagas.core.protocol import HEADER
+from sagas.core.states import saga_phase
 from sagas.definition.capacity import SHARD_CAPACITY
 from sagas.storage import queries
 from sagas.storage.admin import Row, Source
 
 Json = dict[str, Any]
 SAGAS = f"""
-SELECT {queries.SAGA}, {queries.LABELS} FROM sagas s WHERE id >= ? AND id < ? ORDER BY id
+SELECT {queries.SAGA}, s.recovered, {queries.LABELS} FROM sagas s
+WHERE id >= ? AND id < ? ORDER BY id
 """
 RESULTS = """
 SELECT id, step, action, number, event, value, at FROM attempts
@@ -94,7 +96,7 @@ def _files(link: Source, log: int, name: str, audit: str | None) -> dict[str, st
         "about.json": json.dumps({"log": log, "name": name, "sagas": len(rows), "audit": audit})
         + "\n",
         "sagas.jsonl": _jsonl(_sagas(link, log, rows)),
-        "plans.jsonl": _jsonl(_plans(lines, rows, definitions)),
+        "plans.jsonl": _plans_of(lines, rows, definitions),
     }
     return files | {f"definition-{place:02}.toml": text for place, text in enumerate(definitions)}
 
@@ -105,7 +107,7 @@ def _sagas(link: Source, log: int, rows: list[Row]) -> Iterator[Json]:
         of: dict[int, list[Json]] = more.setdefault(word, {})
         for id, *columns in link.ask(query, log * SHARD_CAPACITY, (log + 1) * SHARD_CAPACITY):
             of.setdefault(id, []).append(_parsed(dict(zip(NAMES[word], columns))))
-    for id, key, saga, place, text, at, phase, end, ended, note, labels in rows:
+    for id, key, saga, place, text, at, phase, end, ended, note, recovered, labels in rows:
         told = {
             "number": id % SHARD_CAPACITY,
             "key": key,
@@ -113,12 +115,13 @@ def _sagas(link: Source, log: int, rows: list[Row]) -> Iterator[Json]:
             "definition": place,
             "input": json.loads(text),
             "started": at,
-            "phase": phase,
+            "phase": saga_phase(phase, bool(recovered), note).value,
             "ended": ended,
             "note": note,
             "labels": queries.labels_of(labels),
         }
-        yield told | {"end": json.loads(end)} | {word: of.get(id, []) for word, of in more.items()}
+        parsed = None if end is None else json.loads(end)  # of a damaged shard, it may be open
+        yield told | {"end": parsed} | {word: of.get(id, []) for word, of in more.items()}
 
 
 def _parsed(told: Json) -> Json:
@@ -141,6 +144,14 @@ def _plans(lines: str, rows: list[Row], texts: list[str]) -> Iterator[Json]:
             case, answer = history.adopted
             told = {"number": number, "key": key, "definition": place}
             yield told | {"case": case, "answer": answer}
+
+
+def _plans_of(lines: str, rows: list[Row], texts: list[str]) -> str:
+    """The plans; none of a log that cannot be read, as of a damaged shard."""
+    try:
+        return _jsonl(_plans(lines, rows, texts))
+    except (ValueError, LookupError, TypeError):
+        return ""
 
 
 def _jsonl(rows: Iterator[Json]) -> str:

@@ -19,7 +19,7 @@ from sagas.base.errors import StoreUnavailable
 from sagas.base.logger import logger
 from sagas.core.batch import Batch, Born, Known, Loaded, SagaRow
 from sagas.definition.blobs import HEAD, BlobStore, Reference
-from sagas.definition.payloads import Payloads
+from sagas.definition.payloads import ABSENT, Payloads
 
 if TYPE_CHECKING:
     from sagas.storage.interface import Database, Then
@@ -31,6 +31,8 @@ AGE = 86_400.0
 INPUT, RESULT, SHAPE = 4, 5, 1
 """The places of the texts in the rows of sagas, attempts and shapes."""
 DONE = ("commit", "ok")
+EVENT, HELD = 4, ("commit", "undone")
+"""Of results, those that no report needs any more."""
 PATTERN = HEAD + "%"
 REFERRED = (
     "SELECT input FROM sagas WHERE id >= ? AND id < ? AND input LIKE ? "
@@ -38,6 +40,13 @@ REFERRED = (
     "UNION ALL SELECT shape FROM shapes WHERE id >= ? AND id < ? AND shape LIKE ?"
 )
 Row = tuple[Any, ...]
+
+
+def _without(row: Row) -> Row:
+    """A row in which values that are elsewhere are absent."""
+    return tuple(
+        ABSENT if isinstance(cell, str) and Reference.of(cell) else cell for cell in row
+    )  # fmt: skip
 
 
 def referred(rows: Iterable[Row]) -> list[str]:
@@ -229,11 +238,12 @@ class BlobDatabase:
             self._inner.commit(batches, then, True)
 
     async def load(self, log: int, epoch: int, born: Born | None) -> Loaded | None:
-        """As of the database, with the values of open sagas."""
+        """As of the database: large values of open sagas are read when a function needs them."""
         loaded = await self._inner.load(log, epoch, born)
         if loaded is not None:
-            loaded.open = cast(Any, await self.blobs.rows(loaded.open))
-            loaded.results = cast(Any, await self.blobs.rows(loaded.results))
+            loaded.open = cast(Any, [_without(row) for row in loaded.open])
+            held = [_without(row) if row[EVENT] in HELD else row for row in loaded.results]
+            loaded.results = cast(Any, await self.blobs.rows(held))
         return loaded
 
     async def find(self, key: str) -> SagaRow | None:

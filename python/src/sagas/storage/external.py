@@ -46,6 +46,10 @@ TAKES = """(
 place of a failure that is not settled yet, and *unknown* gives way to it."""
 
 
+UNCLAIMED = f"lease IS NULL AND ({OPEN} OR outcome = 'withdrawn')"
+"""Whether an attempt may be withdrawn. Also one that is withdrawn: that answer may be lost."""
+
+
 def earlier(since: float, worker: str, lease: int, until: float | None) -> str:
     """The spans of a lease that ended without a report, and of the wait for the next worker."""
     ended = [] if until is None else [["external", until, None]]
@@ -154,14 +158,14 @@ class ExternalAttempts(Protocol):
     async def find(self, attempt: str) -> Row | None:
         """What is kept of an attempt."""
 
+    async def outcomes(self, attempts: Sequence[str]) -> dict[str, str | None]:
+        """The outcomes of these attempts, as far as they have rows; None of open ones."""
+
     async def reported(self, shards: Sequence[int]) -> list[Report]:
         """What was reported of attempts of these shards, and is not settled."""
 
     async def waiting(self) -> list[Waiting]:
         """What waits for workers, or is leased, by task."""
-
-    async def withdraw(self, attempt: str) -> bool:
-        """Takes back what nobody has claimed; whether it was so."""
 
     async def tell(self) -> None:
         """Wakes the node that drives a shard of which something was reported."""

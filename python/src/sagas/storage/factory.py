@@ -97,7 +97,7 @@ def make(
                 f"{step.where}: saga {step.saga.name!r}, step {step.name!r}: transaction=True "
                 f"needs PostgreSQL, and {name} is a SQLite file"
             )
-        return Sqlite(name)
+        return Sqlite(name, shelf.payloads.codec is not None)
     try:
         from sagas.storage.postgresql.storage import PostgreSQL
     except ImportError as error:
@@ -119,4 +119,5 @@ def make(
         version=shelf.shelf,
         transactions=transactions,
         record=told_path(record),
+        encodes=shelf.payloads.codec is not None,
     )

@@ -5,10 +5,10 @@ from __future__ import annotations
 import dataclasses
 import json
 import re
-from collections.abc import Collection
 from typing import Any
 
 from sagas.definition import labels as labels_module
+from sagas.definition.arguments import BELOW, root_of
 from sagas.definition.labels import Labels
 from sagas.storage.queries import IN_OPEN_LOGS, PHASES
 from sagas.storage.sqlite.schema import PLANNED
@@ -45,11 +45,62 @@ def part(text: str) -> str:
     return "%" + re.sub(r"([!%_])", r"!\1", text) + "%"
 
 
-def among(sagas: Collection[str] | None) -> str:
-    """A condition: the saga's definition is one of these, each a word of the query; None: any."""
-    if sagas is None:
-        return "1 = 1"
-    return f"s.saga IN ({', '.join('?' * len(sagas))})" if sagas else "1 = 0"
+@dataclasses.dataclass(frozen=True, slots=True)
+class Scope:
+    """The sagas that a caller may see.
+
+    Attributes:
+        definitions: The names of their definitions; None: all.
+        keys: Their keys, or with `*` at the end what these begin with; None: all. A child has the
+            key of its root.
+    """
+
+    definitions: frozenset[str] | None = None
+    keys: frozenset[str] | None = None
+
+    def has_definition(self, name: str | None) -> bool:
+        """Whether sagas of a definition are in it; what is of none is only in that of all."""
+        return self.definitions is None or name in self.definitions
+
+    def has_key(self, key: str | None) -> bool:
+        """Whether a saga's key is in it; what is of no saga is only in that of all."""
+        if self.keys is None:
+            return True
+        if key is None:
+            return False
+        root = root_of(key)
+        return any(
+            root.startswith(one[:-1]) if one.endswith("*") else root == one for one in self.keys
+        )
+
+    def where(self) -> tuple[str, list[Any]]:
+        """Return a condition on rows of `sagas`, which has the name `s`, and its words."""
+        wheres, words = ["1 = 1"], list[Any]()
+        if self.definitions is not None:
+            marks = ", ".join("?" * len(self.definitions))
+            wheres.append(f"s.saga IN ({marks})" if marks else "1 = 0")
+            words += sorted(self.definitions)
+        if self.keys is not None:
+            some = [_keyed(one) for one in sorted(self.keys)]
+            wheres.append(f"({' OR '.join(condition for condition, _ in some)})")
+            words += [word for _, more in some for word in more]
+        return " AND ".join(wheres), words
+
+
+def _keyed(pattern: str) -> tuple[str, list[Any]]:
+    """A condition that a saga, or its root, has a key, and its words. A prefix may end within what
+    is between a root's key and a step."""
+    text = pattern.removesuffix("*")
+    if pattern == text:
+        below = text + BELOW
+        return f"(s.key = ? OR substr(s.key, 1, {len(below)}) = ?)", [text, below]
+    begins = f"substr(s.key, 1, {len(text)}) = ?"
+    if not text.endswith(BELOW[0]):
+        return begins, [text]
+    return f"({begins} AND substr(s.key, {len(text)}, {len(BELOW)}) <> ?)", [text, BELOW]
+
+
+EVERYTHING, NOTHING = Scope(), Scope(definitions=frozenset())
 
 
 @dataclasses.dataclass(frozen=True, slots=True)
@@ -61,7 +112,7 @@ class Filter:
         saga: The name of their definition.
         labels: Their labels, as far as they are asked for.
         search: What their keys contain.
-        sagas: The definitions of which sagas are looked at; None: all.
+        scope: The sagas that are looked at.
         started_after: Seconds of wall time, and they were started then or later.
         started_before: They were started earlier.
         error: A part of what an attempt raised.
@@ -71,7 +122,7 @@ class Filter:
     saga: str | None = None
     labels: Labels = dataclasses.field(default_factory=lambda: labels_module.NONE)
     search: str | None = None
-    sagas: Collection[str] | None = None
+    scope: Scope = EVERYTHING
     started_after: float | None = None
     started_before: float | None = None
     error: str | None = None
@@ -91,7 +142,8 @@ class Filter:
         have a label than are found otherwise. A + keeps the databases from the index of the starts,
         which leads to more sagas than others."""
         of_few = of_few or in_order
-        wheres, words = [among(self.sagas)], list[Any](self.sagas or ())
+        within, words = self.scope.where()
+        wheres = [within]
         if self.phase is not None:
             wheres.append((IN_ORDER if in_order else PHASES)[self.phase])
         if self.saga is not None:
@@ -121,5 +173,5 @@ class Filter:
     @property
     def has_times_alone(self) -> bool:
         """Whether nothing but the starts selects them."""
-        is_of_any = self.phase is None and self.saga is None and self.sagas is None
+        is_of_any = self.phase is None and self.saga is None and self.scope == EVERYTHING
         return is_of_any and not (self.labels or self.search or self.error)

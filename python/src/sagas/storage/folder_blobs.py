@@ -16,7 +16,8 @@ PART, TRIES = ".part", 3
 class FolderBlobStore:
     """Keep large values as files of a folder, which all nodes and clients reach.
 
-    A value is written under another name, synced, and renamed; then its folder is synced.
+    A value is written under another name, synced, and renamed; then its folder is synced. The files
+    have the mode 0600: all programs run as one user.
     """
 
     def __init__(self, path: str | os.PathLike[str]) -> None:
@@ -47,7 +48,7 @@ class FolderBlobStore:
         self._make(path.parent)
         part = path.with_name(f"{path.name}.{secrets.token_hex(4)}{PART}")
         try:
-            with part.open("xb") as file:
+            with open(part, "xb", opener=_private) as file:
                 file.write(data)
                 file.flush()
                 os.fsync(file.fileno())
@@ -94,6 +95,11 @@ class FolderBlobStore:
                         else:
                             found.append(path.relative_to(self._folder).as_posix())
         return iter(found)
+
+
+def _private(path: str, flags: int) -> int:
+    """Make a file that no other user may read."""
+    return os.open(path, flags, 0o600)
 
 
 def _sync(folder: pathlib.Path) -> None:

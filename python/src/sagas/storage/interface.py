@@ -18,7 +18,7 @@ from __future__ import annotations
 
 from collections.abc import Awaitable, Callable, Sequence
 from concurrent.futures import Executor
-from typing import TYPE_CHECKING, Any, Protocol
+from typing import TYPE_CHECKING, Any, Optional, Protocol
 
 from sagas.core.batch import (  # fmt: skip
     Batch,
@@ -30,6 +30,7 @@ from sagas.core.batch import (  # fmt: skip
     Request,
     SagaRow,
     Start,
+    Tail,
 )
 from sagas.core.step_transactions import StepTransactions
 from sagas.storage.external import ExternalAttempts
@@ -38,6 +39,7 @@ from sagas.storage.record_file import RecordFile
 if TYPE_CHECKING:
     from sagas.core.model import Attempt
     from sagas.core.outcomes import Outcome
+    from sagas.definition.payloads import Payloads
     from sagas.definition.step import Bounds, Manner
     from sagas.definition.task import Task
     from sagas.storage.blob_layer import Blobs
@@ -270,6 +272,10 @@ class Database(CommitWriter, StoreReader, Protocol):
         until a commit is known to hold it: then it may not be there, and is empty.
         """
 
+    def forget(self, log: int) -> None:
+        """What is known of a log does not count any more: its data is damaged, and an operator may
+        delete it."""
+
     async def spare(self, log: int) -> bool:
         """Gives a log back, of which this program cannot read something, for another node to take.
         False where none has come since that was tried.
@@ -304,8 +310,11 @@ class Database(CommitWriter, StoreReader, Protocol):
                 again until it is started anew. With None, another node may take it.
         """
 
-    async def ask(self, row: SagaRow, what: str, value: str) -> Any:
+    async def ask(self, row: SagaRow, what: str, value: str, payloads: Payloads) -> Any:
         """Leaves a request for the node that has this very saga; waits for its answer, parsed."""
+
+    async def replicated(self) -> None:
+        """Returns once what was read is on the synchronous standbys, where there are any."""
 
     async def news(self, id: int, turn: int) -> None:
         """Returns when the saga may have ended elsewhere, or after a while, which is longer each
@@ -335,6 +344,8 @@ class StepCaller(StepTransactions, Protocol):
         """Ends all of them."""
 
 
-MakesTransactions = Callable[[str, str, str, Callable[[], str], int], StepCaller]
-"""Of the URL, its name in messages, the node, what gives the server's timeline, and how many calls
-there may be at once."""
+MakesTransactions = Callable[
+    [str, str, str, Callable[[], str], Callable[[int], Optional[Tail]], int], StepCaller
+]
+"""Of the URL, its name in messages, the node, what gives the server's timeline, what gives a log's
+last chunk, and how many calls there may be at once."""

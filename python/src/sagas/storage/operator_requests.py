@@ -14,12 +14,12 @@ from sagas.definition.capacity import SHARD_CAPACITY
 
 WITHDRAW = """
 WITH gone AS (DELETE FROM pending_starts WHERE key = ? AND node IS NULL RETURNING id, commands)
-SELECT pg_notify('sagas_nodes', 'begun ' || id) FROM gone
-UNION ALL SELECT pg_notify('sagas_nodes', 'answered ' || (one ->> 0))
-  FROM gone, jsonb_array_elements(commands) one
+SELECT 'begun ' || id FROM gone
+UNION ALL SELECT 'answered ' || (one ->> 0) FROM gone, jsonb_array_elements(commands) one
 """
-"""Takes a client's start back, with what was asked of it; whoever waits for either looks at
-once. No row where no start has the key, or a node has taken it.
+"""Takes a client's start back, with what was asked of it. The rows are words to be told behind it
+(`notifications.SAY`), so that whoever waits for either looks at once. No row where no start has the
+key, or a node has taken it.
 
 Of one that a node has taken the saga may be in a log in the next moment, though the node is not
 heard of any more: that is aborted as a saga.

@@ -13,19 +13,30 @@ from typing import Any
 
 from sagas.base.errors import NoSuchSaga
 from sagas.core.batch import Known, LogRow, SagaRow
+from sagas.core.held_values import LARGE
 from sagas.definition.capacity import SHARD_CAPACITY
+from sagas.definition.labels import TOKEN
+from sagas.definition.payloads import ABSENT
 from sagas.storage.sqlite.schema import PLANNED, UNDO_FAILED
 
 SAGA = "id, key, saga, definition_index, input, at, phase, outcome, ended, note"
 RESULT = "r.id, r.step, r.action, r.number, r.event, r.value, r.at"
 HELD = "h.id, h.step, h.action, h.number, h.reason, h.count, h.since, h.until, h.detail"
+
+
+def small(column: str) -> str:
+    """A stored value, unless it is large: of open sagas such values are read when a function needs
+    them."""
+    return f"CASE WHEN length({column}) > {LARGE} THEN '{ABSENT}' ELSE {column} END"
+
+
 OPEN = "s.id >= ? AND s.id < ? AND s.phase IS NULL"
 
 OPENED = (
     "SELECT count(*) FROM sagas "
     f"WHERE id >= shard * {SHARD_CAPACITY} AND id < (shard + 1) * {SHARD_CAPACITY}"
 )
-LOGS = f"SELECT shard, name, ({OPENED}), ({OPENED} AND phase IS NULL) FROM shards"
+LOGS = f"SELECT shard, name, audit, ({OPENED}), ({OPENED} AND phase IS NULL) FROM shards"
 TEXTS = """
 SELECT shard, text FROM shard_definitions JOIN definitions USING (definition)
 WHERE shard >= ? AND shard <= ? ORDER BY shard, place
@@ -33,13 +44,18 @@ WHERE shard >= ? AND shard <= ? ORDER BY shard, place
 """The definitions of logs, each by its place."""
 DEFINITIONS = "SELECT count(*) FROM shard_definitions WHERE shard = ?"
 LINES = "SELECT first_seq, text FROM event_log WHERE shard = ? ORDER BY first_seq"
+SMALL_INPUT, SMALL_SHAPE = small("s.input"), small("p.shape")
+SMALL_RESULT = RESULT.replace(
+    "r.value", f"CASE WHEN r.event IN ('commit', 'undone') THEN {small('r.value')} ELSE r.value END"
+)
+"""What has failed is looked at, and of a transaction the result is reported yet."""
 OPEN_SAGAS = (
-    "SELECT s.id, s.key, s.definition_index, s.input, s.deadline, s.traceparent, "
-    "(SELECT p.shape FROM shapes p WHERE p.id = s.id) "
+    f"SELECT s.id, s.key, s.definition_index, {SMALL_INPUT}, s.deadline, s.traceparent, "
+    f"(SELECT {SMALL_SHAPE} FROM shapes p WHERE p.id = s.id) "
     f"FROM sagas s WHERE {OPEN} ORDER BY s.id"
 )
 OPEN_RESULTS = f"""
-SELECT {RESULT} FROM sagas s CROSS JOIN attempts r WHERE {OPEN} AND r.id = s.id
+SELECT {SMALL_RESULT} FROM sagas s CROSS JOIN attempts r WHERE {OPEN} AND r.id = s.id
 ORDER BY s.id, r.step, r.action, r.number
 """
 OPEN_HELD = f"SELECT {HELD} FROM sagas s CROSS JOIN suspensions h WHERE {OPEN} AND h.id = s.id"
@@ -72,6 +88,13 @@ step
 had failed or they were aborted; `undo_failed`: those of these of which a compensation failed for
 good. Once a person has resolved such a saga it is `resolved`, as one that was stuck.
 """
+DAMAGED = f"""FROM shards l CROSS JOIN sagas s
+LEFT JOIN shard_definitions d ON d.shard = l.shard AND d.place = s.definition_index
+WHERE l.closed = 0 AND l.audit IS NOT NULL AND s.phase IS NULL
+AND s.id >= l.shard * {SHARD_CAPACITY} AND s.id < (l.shard + 1) * {SHARD_CAPACITY}"""
+"""The open sagas `s` of shards that no program can open. Their definitions may be missing."""
+LAST_COMMIT = "SELECT max(committed_at) FROM event_log e WHERE e.shard = l.shard"
+DAMAGED_SINCE = f"coalesce(({LAST_COMMIT}), s.at)"
 SORTED_AT = "+(s.at)"
 """The start of a saga `s` where no index leads to few. SQLite does better to sort than to go by the
 index of the starts, which it would choose; PostgreSQL knows how many they are."""
@@ -81,7 +104,7 @@ RESOLVE = f"UPDATE sagas SET note = ? WHERE key = ? AND {RESOLVABLE} AND note IS
 """The first note stays."""
 LABELS = """CAST((SELECT json_group_object(b.name, b.value) FROM labels b WHERE b.id = s.id)
 AS TEXT)"""
-"""The labels of a saga `s`, as a JSON object or null."""
+"""The labels of a saga `s`, as a JSON object or null: `labels_of` reads it."""
 PHASE = f"""CASE WHEN phase IS NULL THEN 'open' WHEN note IS NOT NULL THEN 'resolved'
 WHEN {PLANNED} THEN 'recovered' WHEN phase = 'ended' THEN 'completed' ELSE phase END"""
 OF_SHARD = f"""JOIN shard_definitions d ON d.shard = s.id / {SHARD_CAPACITY}
@@ -131,8 +154,9 @@ def for_postgresql(query: str, mark: str = "%s") -> str:
 
 
 def labels_of(told: str | None) -> dict[str, str]:
-    """The labels that `LABELS` gave, by their names."""
-    return dict(sorted(json.loads(told or "{}").items()))
+    """The labels that `LABELS` gave, by their names; who started the saga is none."""
+    found: dict[str, str] = json.loads(told or "{}")
+    return {name: found[name] for name in sorted(found) if name != TOKEN}
 
 
 def named(query: str, *names: str) -> str:
@@ -161,6 +185,14 @@ def joined(chunks: list[tuple[Any, ...]]) -> tuple[str, int]:
     return "".join(text for _, text in chunks), events
 
 
+def damage_of(text: str, end: int) -> str | None:
+    """What is wrong with a log of these lines whose last chunk ends behind `end` events."""
+    events = text.count("\n")
+    if events == end:
+        return None
+    return f"its event log has a gap: the last commit ends at event {end}, and {events} are there"
+
+
 class Rows:
     """The questions over `rows`, which are answered at once."""
 
@@ -172,7 +204,10 @@ class Rows:
         """The logs that are not closed, in order."""
         found = self.rows(f"{LOGS} WHERE closed = 0 ORDER BY shard")
         texts = texts_of(self.rows(TEXTS, found[0][0], found[-1][0]) if found else [])
-        return [LogRow(log, name, texts[log], *counts) for log, name, *counts in found]
+        return [
+            LogRow(log, name, texts.get(log, []), opened, open, note=note)
+            for log, name, note, opened, open in found
+        ]
 
     def places(self, log: int) -> list[int]:
         """The places of the definitions of a log's open sagas."""

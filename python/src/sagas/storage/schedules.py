@@ -9,6 +9,7 @@ from typing import Any
 from sagas.base.errors import CannotDecode, NoSuchSchedule
 from sagas.definition.payloads import PLAIN, Payloads
 from sagas.definition.timing import CatchUp, Timing
+from sagas.storage import codec_note
 from sagas.storage.admin import Row, Source
 
 COLUMNS = """
@@ -96,11 +97,13 @@ class Schedules:
         self, name: str, saga: tuple[str, int], input: str, labels: str, timing: Timing, now: float,
         payloads: Payloads = PLAIN,
     ) -> None:  # fmt: skip
-        """Declare one, or change it; as it is, it keeps its next time. Raises `NotSerializable`."""
+        """Declare one, or change it; as it is, it keeps its next time. Raises `NotSerializable`
+        and `MissingCodec`."""
         stored = payloads.encode(input)
         when = timing.cron, timing.every, timing.timezone, timing.catch_up.value
         words = (name, *saga, stored, labels, *when, timing.next_after(now))
         with self._link.transaction():
+            codec_note.check(self._link, payloads)
             if payloads.codec is not None:
                 self._encode_again(name, input, stored, payloads)
             self._link.changed(PUT, *words)

@@ -12,6 +12,7 @@ from typing import Any, Protocol
 from sagas.base.errors import WrongStore
 from sagas.core.dispatch import Begun, Order, Position, id_of
 from sagas.core.outcomes import Outcome
+from sagas.definition.payloads import PLAIN
 from sagas.definition.step import Function
 from sagas.storage import queries
 from sagas.storage.factory import is_url
@@ -76,12 +77,15 @@ def fetched(
     id = id_of(shard, order.number)
 
     def whole(text: str | Position) -> str:
-        return one(RESULT, id, text.step) if isinstance(text, Position) else text
+        return stored(RESULT, id, text.step) if isinstance(text, Position) else text
+
+    def stored(*query: Any) -> str:
+        return PLAIN.decode(one(*query))
 
     results = {name: whole(text) for name, text in order.results.items()}
     return Begun(
-        one(INPUT, id) if order.input is None else order.input,
+        stored(INPUT, id) if order.input is None else order.input,
         results,
         None if order.result is None else whole(order.result),
-        None if order.declared is None else (one(DEFINITION, id), one(SHAPE, id)),
+        None if order.declared is None else (one(DEFINITION, id), stored(SHAPE, id)),
     )

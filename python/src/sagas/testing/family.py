@@ -43,7 +43,7 @@ class Family:
             InvalidInput: The first steps cannot read the input.
             NotSerializable: The input is not JSON.
         """
-        text, kept = serialization.write(given, "input"), None
+        text, kept = serialization.write_value(given, "input"), None
         if saga.is_shaped:
             shape = Shape(saga, text)
             definition, kept = shape_text.write(shape), self._payloads.encode(shape.values.text())

@@ -141,7 +141,7 @@ def early_of(saga: Saga, early: Answers | None) -> dict[str, Outcome]:
             text = f"{type(answer).__name__}: {answer}"
             found[name] = outcomes.failure(text, final=True)
         else:
-            text = serialization.write(answer, f"early[{name!r}]")
+            text = serialization.write_value(answer, f"early[{name!r}]")
             found[name] = Outcome(OutcomeKind.SUCCEEDED, text)
     return found
 

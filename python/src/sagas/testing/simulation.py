@@ -193,8 +193,6 @@ class Simulation:
             found = driver.replies(engine.ask(lines), "", self._clock())
             while isinstance(found, list):
                 found = driver.replies(engine.ask(found), "", self._clock())
-            for saga in found.rare.draining:
-                self._drain(saga)
             self._commit(found)
 
     def _free(self) -> int:
@@ -218,6 +216,8 @@ class Simulation:
                 self._driver.abort(Abort(self._saga))
         for attempt in effects.rare.suspended:
             self._stored(attempt)
+        for saga in effects.rare.draining:
+            self._drain(saga)
         for abort in effects.rare.aborted:
             if abort.done:
                 self._drain(abort.saga)
@@ -333,7 +333,8 @@ class Simulation:
         except Exception as error:
             text = f"{type(error).__name__}: {error}"
             return outcomes.failure(text, final=isinstance(error, Fail))
-        return Outcome(OutcomeKind.SUCCEEDED, serialization.write(answer, f"answers[{name!r}]"))
+        text = serialization.write_value(answer, f"answers[{name!r}]")
+        return Outcome(OutcomeKind.SUCCEEDED, text)
 
     @staticmethod
     def _waits(attempt: Attempt) -> str:

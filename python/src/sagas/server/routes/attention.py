@@ -68,8 +68,8 @@ async def listed(call: Call) -> Response:
     """List what needs a person.
 
     Stuck sagas, compensations that failed permanently, attempts with an unknown outcome, attempts
-    that are exhausted, stored values that cannot be read, and approvals: one kind after the
-    other."""
+    that are exhausted, stored values that cannot be read, sagas of damaged shards, and approvals:
+    one kind after the other."""
     query = call.query
     kind, after = place_of(query["after"])
     kinds = [query["kind"]] if query["kind"] else list(KINDS)
@@ -78,7 +78,7 @@ async def listed(call: Call) -> Response:
     found = await call.service.look(
         pages(left, of, query["step"], after, query["order"] == "newest", limit)
     )
-    _, counts = await call.service.figures.of(call.who.definitions)
+    _, counts = await call.service.figures.of(call.who.scope)
     last = found[-1] if len(found) == limit else None
     more = last and cursor_of(last)
 

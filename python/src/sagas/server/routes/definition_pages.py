@@ -33,7 +33,7 @@ async def listed(call: Call) -> Response:
         return answer
     service, who = call.service, looker(call.request)
     since = service.hub.now
-    counts, _ = await service.figures.of(who.definitions)
+    counts, _ = await service.figures.of(who.scope)
     none = dict.fromkeys(COUNTED, 0)
     found = {name: counts.get(name, none) for name in sorted({*counts, *service.names(who)})}
     return shows(
@@ -52,14 +52,14 @@ async def one(call: Call) -> Response:
     service, who = call.service, looker(request)
     some = [saga for saga in service.settings.sagas if saga.name == name and who.sees(name)]
     since = service.hub.now
-    counts, _ = await service.figures.of(who.definitions)
+    counts, _ = await service.figures.of(who.scope)
     if not some and name not in counts:
         told: dict[str, Any] = {"title": "There is no such definition", "back": "/ui/definitions"}
         return shows(request, "fault.html", 404, text=f"No definition is named {name}.", **told)
 
     def question() -> Question[tuple[dict[str, AtStep], list[tuple[float, int, int]]]]:
-        return (yield from definitions.at_steps(name)), (
-            yield from definitions.costs(name, time.time())
+        return (yield from definitions.at_steps(name, who.scope)), (
+            yield from definitions.costs(name, time.time(), who.scope)
         )
 
     at, costs = await service.look(question())

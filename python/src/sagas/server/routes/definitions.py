@@ -49,7 +49,7 @@ async def listed(call: Call) -> Response:
     """List definitions.
 
     Those that the token may see, with their steps and how many sagas there are."""
-    counts, _ = await call.service.figures.of(call.who.definitions)
+    counts, _ = await call.service.figures.of(call.who.scope)
     none = dict.fromkeys(COUNTED, 0)
     some = [saga for saga in call.service.settings.sagas if call.who.sees(saga.name)]
     some.sort(key=lambda saga: (saga.name, saga.version))

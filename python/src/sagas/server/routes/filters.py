@@ -11,7 +11,17 @@ from sagas.definition.labels import checked
 from sagas.inspection.pages import Position
 from sagas.server.access import check_definition
 from sagas.server.auth import Who
-from sagas.server.shapes import Field, Invalid, Mapped, Number, Schema, Several, Shape, Text
+from sagas.server.shapes import (
+    DECIMAL,
+    Field,
+    Invalid,
+    Mapped,
+    Number,
+    Schema,
+    Several,
+    Shape,
+    Text,
+)
 from sagas.storage.filters import Filter
 
 LIMIT = Field(Number(1, 1000, whole=True), "how many at most", default=100)
@@ -27,7 +37,8 @@ class Moment(Shape):
         if isinstance(value, (int, float)) and not isinstance(value, bool):
             return Number(0, 1e11).read(value, field)
         try:
-            found = datetime.datetime.fromisoformat(str(value))
+            text = str(value)
+            found = datetime.datetime.fromisoformat(text if text.isascii() else "")
         except ValueError:
             raise Invalid(field, "it is a time, as 2027-01-31T12:00:00Z") from None
         if found.tzinfo is None:
@@ -35,10 +46,9 @@ class Moment(Shape):
         return found.timestamp()
 
     def of_text(self, text: str, field: str) -> float:
-        try:
+        if DECIMAL.fullmatch(text):
             return self.read(float(text), field)
-        except ValueError:
-            return self.read(text.replace(" ", "+"), field)  # a + that was not escaped
+        return self.read(text.replace(" ", "+"), field)  # a + that was not escaped
 
     def schema(self) -> Schema:
         return {"oneOf": [{"type": "string", "format": "date-time"}, {"type": "number"}]}
@@ -62,9 +72,7 @@ def of(who: Who, told: Mapping[str, Any], phase: str | None = None) -> Filter:
     check_definition(who, told["definition"])
     words = {name: told[name] for name in ("search", "started_after", "started_before", "error")}
     labels = checked(told.get("labels") or labels_of(told.get("label") or ()))
-    return Filter(
-        phase=phase, saga=told["definition"], labels=labels, sagas=who.definitions, **words
-    )
+    return Filter(phase=phase, saga=told["definition"], labels=labels, scope=who.scope, **words)
 
 
 def labels_of(told: Iterable[str]) -> dict[str, str]:

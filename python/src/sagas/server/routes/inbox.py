@@ -4,7 +4,6 @@ from __future__ import annotations
 
 import dataclasses
 import functools
-import json
 from typing import Any
 from urllib.parse import urlencode
 
@@ -14,6 +13,7 @@ from starlette.responses import Response
 from sagas.inspection import attention_pages
 from sagas.inspection.attention_pages import KINDS, Entry
 from sagas.inspection.question import Question
+from sagas.server import json_texts
 from sagas.server.access import service_of
 from sagas.server.dashboard_session import closed, looker, sent_fields, shows
 from sagas.server.operations import Call, Routes
@@ -65,7 +65,7 @@ def filter_of(request: Request, told: dict[str, Any]) -> Filter:
     return Filter(
         saga=told.get("definition") or None,
         search=told.get("search") or None,
-        sagas=looker(request).definitions,
+        scope=looker(request).scope,
     )
 
 
@@ -114,7 +114,7 @@ async def inbox(call: Call) -> Response:
         return answer
     service, who = call.service, looker(request)
     since = service.hub.now
-    counts, asked = await service.figures.of(who.definitions)
+    counts, asked = await service.figures.of(who.scope)
     is_filtered = bool(query["definition"] or query["search"])
     if is_filtered:
         asked = await service.look(counts_of(filter_of(request, query)))
@@ -137,7 +137,7 @@ async def inbox(call: Call) -> Response:
     }
     work = functools.partial(listed, found, query["group"], query["page"])
     told |= {"is_filtered": is_filtered, **await service.threads.pages.do(work)}
-    told |= work_of(await service.queues(who)) | {"again": service.figures.lag(who.definitions)}
+    told |= work_of(await service.queues(who)) | {"again": service.figures.lag(who.scope)}
     told |= {"kind": kind, "titles": TITLES, "said": SAID[kind], "verbs": VERBS[kind], "url": url}
     told |= {"id_of": id_of, "place_of": place_of, "names": counts}
     told |= {"cut": asked[kind] if len(found) >= MOST_GROUPED else None, "grouped": MOST_GROUPED}
@@ -174,7 +174,7 @@ async def deed(call: Call) -> Response:
     if fault := fault_of(form):
         return asked_again(request, form, selection, fault)
     words = {"by": session.who.name, "note": form.get("note", "").strip()[:2000] or None}
-    result = json.loads(form.get("result") or "null")
+    result = json_texts.read(form.get("result") or "null")
     error = form.get("failed", "").strip()[:2000]
     work = bulk.deed_of(service_of(request), verb, words, result, error)
     targets = selection.targets(verb)
@@ -208,7 +208,7 @@ def fault_of(form: dict[str, str]) -> str | None:
     if form["verb"] == "failed" and not form.get("failed", "").strip():
         return "Say why."
     try:
-        json.loads(form.get("result") or "null")
-    except (ValueError, RecursionError):
+        json_texts.read(form.get("result") or "null")
+    except ValueError:
         return "The result is not valid JSON. Write a text in quotation marks."
     return None

@@ -12,6 +12,7 @@ TITLES = {
     "unknown": "Unknown",
     "exhausted": "Exhausted",
     "cannot_decode": "Unreadable",
+    "damaged": "Damaged",
     "approval": "Approvals",
 }
 SAID = {
@@ -20,6 +21,7 @@ SAID = {
     "unknown": "The outcome of the step is unknown. Check the external system, then report it.",
     "exhausted": "The attempts of the step are used up. Fix the cause, then retry it.",
     "cannot_decode": "No program can read a stored value. Open the store with a program that can.",
+    "damaged": "The stored data of their shard is damaged. Repair the shard, or delete it.",
     "approval": "The step waits for a decision.",
 }
 REPORTS = {"done": "They are done…", "failed": "They had no effect…", "abort": "Abort…"}
@@ -29,6 +31,7 @@ VERBS: dict[str, dict[str, str]] = {
     "unknown": REPORTS,
     "exhausted": {"retry": "Retry…", **REPORTS},
     "cannot_decode": REPORTS,
+    "damaged": {},
     "approval": {"done": "Approve…", "failed": "Refuse…", "abort": "Abort…"},
 }
 WHOLE = ("resolve", "abort")

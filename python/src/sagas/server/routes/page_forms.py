@@ -4,7 +4,6 @@ from __future__ import annotations
 
 import contextlib
 import functools
-import json
 import time
 from typing import Any
 
@@ -13,7 +12,7 @@ from starlette.responses import RedirectResponse, Response
 
 from sagas.base.errors import DefinitionError, NoSuchSaga, NoSuchSchedule, SagasError
 from sagas.inspection.views import SagaView
-from sagas.server import step_waits
+from sagas.server import json_texts, problems, step_waits
 from sagas.server.access import service_of
 from sagas.server.auth import Who
 from sagas.server.dashboard_session import closed, looker, sent, shows
@@ -166,7 +165,7 @@ async def abort(call: Call) -> Response:
             service.store.abort(key, by=session.who.name, note=form.get("note") or None)
         )
     except SagasError as error:
-        return asked(request, key, ABORT, 409, fault=str(error), note=form.get("note"))
+        return asked(request, key, ABORT, 409, fault=str(problems.of(error)), note=form.get("note"))
     return back(request, key)
 
 
@@ -186,7 +185,7 @@ async def resolve(call: Call) -> Response:
         await service_of(request).check_sees(session.who, key)
         await service_of(request).store.resolve(key, note, by=session.who.name)
     except SagasError as error:
-        return asked(request, key, RESOLVE, 409, fault=str(error), note=note)
+        return asked(request, key, RESOLVE, 409, fault=str(problems.of(error)), note=note)
     return back(request, key)
 
 
@@ -215,13 +214,13 @@ def result_of(form: dict[str, str]) -> Any:
     if kind == "text":
         return text
     if kind == "number":
-        found = json.loads(text)
+        found = json_texts.read(text)
         if isinstance(found, bool) or not isinstance(found, (int, float)):
             raise ValueError(text)
         return found
     if kind == "yes":
         return {"yes": True, "true": True, "no": False, "false": False}[text.strip().lower()]
-    return json.loads(text or "null")
+    return json_texts.read(text or "null")
 
 
 @routes.post("/ui/sagas/{key}/steps/{step}/{outcome}", parts={"outcome": OUTCOME}, query=UNDO)
@@ -238,12 +237,12 @@ async def step_said(call: Call) -> Response:
         return await again(422, fault="Say why.")
     try:
         result = result_of(form)
-    except (ValueError, KeyError, RecursionError):
+    except (ValueError, KeyError):
         return await again(422, fault=FAULTS.get(form.get("type", ""), FAULTS["json"]))
     try:
         await report(call, session.who, form, result)
     except SagasError as error:
-        return await again(409, fault=str(error))
+        return await again(409, fault=str(problems.of(error)))
     return back(call.request, call.key)
 
 
@@ -306,7 +305,7 @@ async def schedule_changed(call: Call) -> Response:
     try:
         await schedules.change(service_of(call.request), session.who, name, what)
     except SagasError as error:
-        return await shown_schedules(call.request, session.who, 409, str(error))
+        return await shown_schedules(call.request, session.who, 409, str(problems.of(error)))
     return RedirectResponse("/ui/schedules", 303)
 
 

@@ -41,7 +41,7 @@ from sagas.server.routes.filters import CURSOR
 from sagas.server.routes.sagas import stream
 from sagas.server.shapes import Field, Text
 from sagas.server.table_rows import FEW, folded
-from sagas.storage.filters import Filter
+from sagas.storage.filters import NOTHING, Filter
 
 routes = Routes("pages", is_page=True)
 logger = logging.getLogger("sagas.server")
@@ -104,9 +104,7 @@ async def login(call: Call) -> Response:
             else "Too many wrong tokens from this address; wait a while."
         )
         return page(request, "login.html", None, 403, next=wanted, fault=fault)
-    response = RedirectResponse(
-        wanted if wanted.startswith("/ui") and "\\" not in wanted else "/ui", 303
-    )
+    response = RedirectResponse(wanted if service.is_page(wanted) else "/ui", 303)
     begin(request, response, who)
     logger.info("%s has logged in", who.name)
     return response
@@ -152,13 +150,13 @@ async def listed(call: Call) -> Response:
     given = {name: call.query[name] for name in FILTERED}
     given["phase"] = given["phase"] if given["phase"] in words.PHASES else None
     phase, fault = given["phase"], None
-    counts, needing = await service.figures.of(who.definitions)
+    counts, needing = await service.figures.of(who.scope)
     asked: dict[str, Any] = {"most": LISTED + 1}
     asked |= {"before": filters.position_of(before), "after": filters.position_of(after)}
     try:
         of = filter_of(given, who)
     except (ValueError, SagasError) as error:
-        fault, of = f"{error}.", Filter(phase, sagas=())
+        fault, of = f"{error}.", Filter(phase, scope=NOTHING)
     found = await service.look(pages_module.page(of=of, **asked))
     more, found = len(found) > LISTED, found[:LISTED]
     if after is not None:
@@ -204,7 +202,7 @@ def filter_of(given: dict[str, Any], who: Who) -> Filter:
         saga=given["definition"],
         labels=checked({label[0]: label[2]} if label[1] else None),
         search=given["search"],
-        sagas=who.definitions,
+        scope=who.scope,
         started_after=days[0],
         started_before=days[1],
         error=given["error"],
@@ -224,7 +222,7 @@ async def workers(call: Call) -> Response:
     service, who = service_of(request), looker(request)
     since = service.hub.now
     claimed = await service.look(
-        lists.waits(MOST_CLAIMED, person=False, why="external", sagas=who.definitions)
+        lists.waits(MOST_CLAIMED, person=False, why="external", scope=who.scope)
     )
     now, seen = time.time(), (await service.seen(who))[:200]
     queues = []
@@ -267,4 +265,4 @@ async def events(call: Call) -> Response:
         now = still_of(request)
         return now is not None and now.who == who
 
-    return stream(request, who, Listener(key, None, who.sees), since, still, dashboard=True)
+    return stream(request, who, Listener(key, None, who.sees_event), since, still, dashboard=True)

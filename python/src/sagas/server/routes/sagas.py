@@ -20,13 +20,24 @@ from sagas.engine.plan import certificate_text
 from sagas.inspection import families, pages
 from sagas.inspection import picture as picture_module
 from sagas.inspection import what_if as what_if_module
+from sagas.inspection.stored_values import StoredValue
 from sagas.inspection.views import SagaView
 from sagas.server import answers, json_views, renderer, unfolding
-from sagas.server.access import check_definition, is_still, maker, service_of
+from sagas.server.access import (
+    SIZE,
+    check_definition,
+    check_key,
+    is_still,
+    maker,
+    service_of,
+    waiting,
+)
 from sagas.server.auth import May, Who
 from sagas.server.client_waits import first
 from sagas.server.event_stream import Listener
 from sagas.server.operations import Answer, Call, Routes
+from sagas.server.middleware import GONE
+from sagas.server.places import Kind
 from sagas.server.problems import Problem
 from sagas.server.responses import Json, parted, tagged
 from sagas.server.routes import filters
@@ -46,6 +57,8 @@ from sagas.server.stream_limits import Stream
 
 routes = Routes("sagas", "/v1")
 LONGEST = 60.0  # seconds that a wait may take
+FEW = 16
+"""Steps of a saga whose answer is made at once, if none of its values is large."""
 KEY = Text(most=512, least=1)
 LABELS = Mapped(Text(most=256))
 VERSION = Nullable(Number(1, 1_000_000_000, whole=True))
@@ -60,7 +73,11 @@ START = Record(
     "StartRequest",
     {
         "definition": Field(Text(most=64), "its name"),
-        "key": Field(KEY, "the name of the saga: the same key with the same input is one saga"),
+        "key": Field(
+            KEY,
+            "the name of the saga: the same key with the same input is one saga; `/:` is only in "
+            "keys of children",
+        ),
         "input": Field(Anything(), "what its steps are handed", default=None),
         "labels": Field(LABELS, "texts by name, by which lists find it", default=None),
         "version": Field(VERSION, "by default the newest", default=None),
@@ -119,7 +136,13 @@ async def answered(call: Call) -> Response:
     def told() -> Response:
         return tagged(call.request, parted(json_views.saga(view), "results"))
 
-    return await call.service.threads.answers.do(told)
+    return told() if is_small(view) else await call.service.threads.answers.do(told)
+
+
+def is_small(view: SagaView) -> bool:
+    """Whether its answer is made in less time than a thread takes to begin with it."""
+    values = (view.input, *view.results.values())
+    return len(view.steps) <= FEW and not any(isinstance(value, StoredValue) for value in values)
 
 
 def there(view: SagaView | None, key: str) -> SagaView:
@@ -137,7 +160,7 @@ def there(view: SagaView | None, key: str) -> SagaView:
     },
     problems=(
         "NoSuchDefinition", "KeyConflict", "InvalidKey", "InvalidLabel", "InvalidInput",
-        "NotSerializable", "TooLarge", "OwnerUnavailable",
+        "NotSerializable", "TooLarge", "QuotaExceeded", "OwnerUnavailable",
     ),
 )  # fmt: skip
 async def start(call: Call) -> Response:
@@ -148,10 +171,12 @@ async def start(call: Call) -> Response:
     if key in (".", ".."):
         raise Problem("InvalidKey", f"the key {key!r} has no address: take another key", "key")
     check_definition(call.who, name)
+    check_key(call.who, key)
     saga = call.service.saga_named(call.who, name, call.body["version"])
     words = [call.body[word] for word in ("input", "labels", "deadline")]
     words.append(trace_of(call.request))
-    run = await call.service.start(call.who, saga, key, *words)
+    size: int = call.request.scope[SIZE]
+    run = await call.service.start(call.who, size, saga, key, *words)
     told = {"key": key, "definition": saga.name, "version": saga.version, "new": run.new}
     return Json(told, 201 if run.new else 200, {"Location": f"/v1/sagas/{quote(key, safe='')}"})
 
@@ -193,16 +218,21 @@ async def get(call: Call) -> Response:
 @routes.get(
     "/sagas/{key}/wait", "waitForSaga", may=May.LOOK,
     query={"seconds": Field(Number(0.0, LONGEST), "how long at most", default=30.0)},
-    answers={200: SAGA}, problems=("NoSuchSaga", "Unauthorized", "RightsChanged"),
+    answers={200: SAGA},
+    problems=("NoSuchSaga", "Unauthorized", "RightsChanged", "TooManyWaits"),
 )  # fmt: skip
 async def wait(call: Call) -> Response:
     """Wait until a saga is over.
 
-    Answers as `getSaga`, once it is over or the time has passed; `over` says which."""
+    Answers as `getSaga`, once it is over or the time has passed; `over` says which. Whatever the
+    client sends behind the request ends the wait."""
     await call.service.check_sees(call.who, call.key)
-    ending = asyncio.ensure_future(call.service.store.over(call.key))
-    if await first(call.request, call.who, ending, call.query["seconds"]):
-        ending.result()  # raises, where there is no such saga
+    with waiting(call.request, call.who, Kind.WAIT):
+        ending = asyncio.ensure_future(call.service.store.over(call.key))
+        if await first(call.request, call.who, ending, call.query["seconds"]):
+            ending.result()  # raises, where there is no such saga
+    if call.request.scope[GONE].done():
+        return Response()  # nobody hears it
     return await answered(call)
 
 
@@ -272,7 +302,7 @@ async def picture(call: Call) -> Response:
     "/sagas/{key}/certificate", "getCertificate", may=May.LOOK, problems=("NoSuchSaga", "NoPlan"),
     query={"form": Field(Choice(("json", "text")), "of the answer", default="json")},
     answers={200: Answer("Definition, case and answer; with `form=text` as plain text.",
-        answers.CERTIFICATE)},
+        answers.CERTIFICATE, or_text=True)},
 )  # fmt: skip
 async def certificate(call: Call) -> Response:
     """Get what `sagas check` needs to verify the plan.
@@ -316,7 +346,9 @@ async def decided(call: Call, outcome: str, value: Any) -> Response:
 @routes.post(
     "/sagas/{key}/steps/{step}/complete", "completeStep", may=May.APPROVE, body=COMPLETE,
     answers=DECIDED,
-    problems=("NoSuchSaga", "StepNotWaiting", "ConflictingReport", "OwnerUnavailable"),
+    problems=(
+        "NoSuchSaga", "StepNotWaiting", "ConflictingReport", "NotSerializable", "OwnerUnavailable",
+    ),
 )  # fmt: skip
 async def complete(call: Call) -> Response:
     """Report that a step is done.
@@ -363,7 +395,7 @@ async def events(call: Call) -> Response:
     From now on, or behind the header `Last-Event-ID`, of the definitions that the token may see.
     An event `missed` says that some are no longer stored: look at the sagas themselves."""
     check_definition(call.who, call.query["definition"])
-    listener = Listener(call.query["key"], call.query["definition"], call.who.sees)
+    listener = Listener(call.query["key"], call.query["definition"], call.who.sees_event)
     return stream(call.request, call.who, listener, None, lambda: is_still(call.request, call.who))
 
 

@@ -2,12 +2,15 @@
 
 from __future__ import annotations
 
+import dataclasses
 import logging
 from collections.abc import Awaitable, Callable
 
 from starlette.responses import Response
 
 from sagas.base.errors import NoSuchSchedule
+from sagas.definition.payloads import shown
+from sagas.definition.timing import key_of
 from sagas.inspection import lists
 from sagas.server import answers, json_views
 from sagas.server.auth import May, Who
@@ -24,8 +27,13 @@ DONE = {"pause": "paused", "resume": "resumed", "remove": "removed"}
 
 
 async def seen(service: Service, who: Who) -> list[Schedule]:
-    """The schedules of definitions that are theirs to see."""
-    return [one for one in await service.look(lists.schedules()) if who.sees(one.saga)]
+    """The schedules whose sagas are theirs to see."""
+    found = await service.look(lists.schedules())
+    return [
+        dataclasses.replace(one, input=shown(one.input))
+        for one in found
+        if who.sees(one.saga) and who.scope.has_key(key_of(one.name, 0.0))
+    ]
 
 
 async def change(service: Service, who: Who, name: str, what: str) -> None:

@@ -2,12 +2,12 @@
 
 from __future__ import annotations
 
-import json
 
 from starlette.requests import Request
 from starlette.responses import RedirectResponse, Response
 
 from sagas.base.errors import SagasError
+from sagas.server import json_texts, problems
 from sagas.server.access import check_definition, service_of
 from sagas.server.dashboard_session import closed, looker, sent, shows
 from sagas.server.operations import Call, Routes
@@ -45,8 +45,9 @@ async def start(call: Call) -> Response:
             422,
         )
     try:
-        given = json.loads(form.get("input") or "null")
-    except (ValueError, RecursionError) as error:
+        size = len(form.get("input", ""))
+        given = json_texts.read(form.get("input") or "null")
+    except ValueError as error:
         return asked(
             request,
             form,
@@ -57,8 +58,8 @@ async def start(call: Call) -> Response:
     check_definition(session.who, definition)
     try:
         saga = service.saga_named(session.who, definition, None)
-        await service.in_time(service.start(session.who, saga, key, given))
+        await service.start(session.who, size, saga, key, given)
     except SagasError as error:
-        return asked(request, form, str(error), 409)
+        return asked(request, form, str(problems.of(error)), 409)
     service.figures.forget()
     return RedirectResponse(address_of(key), 303)

@@ -12,12 +12,15 @@ from typing import Any
 
 from starlette.responses import Response
 
-from sagas.base.errors import SagasError
+from sagas.base.errors import CannotDecode, SagasError
+from sagas.definition.serialization import is_deeper
 from sagas.runtime.leased_tasks import LeasedTask, Word
 from sagas.server import json_views, problems
+from sagas.server.access import waiting
 from sagas.server.client_waits import first
 from sagas.server.middleware import GONE
 from sagas.server.operations import Call
+from sagas.server.places import Kind
 from sagas.server.problems import Problem
 from sagas.server.responses import Json, parted
 from sagas.server.threads import LARGE
@@ -26,6 +29,9 @@ NAME = "[a-z][a-z0-9_-]{0,31}"
 WORD = re.compile(rf"({NAME})/((?:{NAME}/)*?{NAME})(/undo)?\Z")
 HEARTBEATS = 3
 """How many heartbeats fit into a lease, so that two of them may be lost."""
+MOST_WRITTEN = 512
+"""Levels of a stored value that an answer can have: the ends of children, which have the results of
+children, may have more than what comes in."""
 PATIENCE = 25.0
 """Seconds that a claim may take, in addition to those that it waits for tasks."""
 
@@ -63,17 +69,17 @@ class Claimed:
     @property
     def is_large(self) -> bool:
         """Whether its values take long to be read and written."""
-        return sum(map(_size, self.tasks)) > LARGE
+        return sum(one.size for one in self.tasks) > LARGE
 
     def told(self) -> dict[str, Any]:
         """The answer as JSON has it."""
         return {"tasks": [json_views.task(one, self.now) for one in self.tasks], **self.more}
 
 
-def _size(one: LeasedTask) -> int:
+def _texts(one: LeasedTask) -> list[str]:
+    """The values of a task, as they are stored."""
     texts = one.task.texts
-    own = (one.given, texts["input"], texts["result"] or "")
-    return sum(map(len, own)) + sum(map(len, texts["results"].values()))
+    return [one.given, texts["input"], texts["result"] or "", *texts["results"].values()]
 
 
 async def claimed(call: Call, body: dict[str, Any]) -> Claimed:
@@ -85,13 +91,45 @@ async def claimed(call: Call, body: dict[str, Any]) -> Claimed:
 async def answered(
     call: Call, made: Callable[[Any], Any], found: Claimed | None, *path: str
 ) -> Response:
-    """The answer, `made` of what is told of a claim, which is where the path leads."""
-    if found is None or not found.is_large:
-        return Json(made(found and found.told()))
+    """The answer, `made` of what is told of a claim, which is where the path leads. A task that
+    cannot be written is set aside, so that it keeps no other from its worker."""
+    if found is None:
+        return Json(made(None))
+    if not any(map(_is_too_deep, found.tasks)):
+        with contextlib.suppress(CannotDecode):
+            return await _written(call, made, found, *path)
+    return await _written(call, made, await _writable(call, found), *path)
+
+
+def _is_too_deep(task: LeasedTask) -> bool:
+    """Whether an answer cannot have it, whatever is around it."""
+    return any(is_deeper(text, MOST_WRITTEN) for text in _texts(task))
+
+
+async def _written(
+    call: Call, made: Callable[[Any], Any], found: Claimed, *path: str
+) -> Response:
+    if not found.is_large:
+        return Json(made(found.told()))
     told = found.told
     return await call.service.threads.answers.do(
         lambda: parted(made(told()), *path, "tasks", "*", "results")
     )
+
+
+async def _writable(call: Call, found: Claimed) -> Claimed:
+    """The claim without the tasks that no answer can have, which are set aside."""
+    tasks: list[LeasedTask] = []
+    for task in found.tasks:
+        try:
+            if _is_too_deep(task):
+                raise CannotDecode(f"it has more than {MOST_WRITTEN} levels of lists and objects")
+            json_views.task(task, found.now)
+            tasks.append(task)
+        except CannotDecode as error:
+            workers = call.service.store.workers
+            await workers.set_aside(task, str(error), holder=call.who.name)
+    return dataclasses.replace(found, tasks=tasks)
 
 
 class NextClaim:
@@ -139,7 +177,13 @@ class NextClaim:
             claiming, self._claiming = self._claiming, None
             self._found = claiming.result()
         if not self._found:
-            self._found = await _claimed(call, body, body["limit"], body["wait"])
+            with contextlib.ExitStack() as stack:
+                wait = body["wait"]
+                try:
+                    stack.enter_context(waiting(call.request, call.who, Kind.CLAIM))
+                except Problem:  # the report is stored: it is answered now
+                    wait = 0.0
+                self._found = await _claimed(call, body, body["limit"], wait)
         elif len(self._found) < body["limit"]:
             with contextlib.suppress(SagasError):  # the client gets those that it has
                 self._found += await _claimed(call, body, body["limit"] - len(self._found), 0.0)

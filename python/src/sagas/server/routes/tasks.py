@@ -7,9 +7,10 @@ from typing import Any
 from starlette.responses import Response
 
 from sagas.server import answers, problems
-from sagas.server.access import check_steps
+from sagas.server.access import check_steps, waiting
 from sagas.server.auth import May
 from sagas.server.operations import Answer, Call, Routes
+from sagas.server.places import Kind
 from sagas.server.problems import Problem
 from sagas.server.responses import Json, times
 from sagas.server.routes.task_claims import NextClaim, answered, claimed, words_of, worker_of
@@ -91,7 +92,7 @@ OWN = ("NoSuchTask", "InvalidLease", "LeaseLost", "OwnerUnavailable")
 @routes.post(
     "/claim", "claimTasks", may=May.WORK, body=CLAIM_REQUEST,
     answers={200: Answer("The tasks.", answers.CLAIMED, example=CLAIMED_EXAMPLE)},
-    problems=("Stopping", "RightsChanged"),
+    problems=("Stopping", "RightsChanged", "TooManyWaits"),
 )  # fmt: skip
 async def claim(call: Call) -> Response:
     """Claim tasks.
@@ -102,7 +103,9 @@ async def claim(call: Call) -> Response:
     check_steps(call.who, call.body["steps"])
     if call.service.is_stopping:
         raise Problem("Stopping", "the service is about to stop: ask again in a while")
-    return await answered(call, lambda told: told, await claimed(call, call.body))
+    with waiting(call.request, call.who, Kind.CLAIM):
+        found = await claimed(call, call.body)
+    return await answered(call, lambda told: told, found)
 
 
 @routes.post(

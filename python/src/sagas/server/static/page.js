@@ -195,7 +195,7 @@ if (live) {
     if (seconds) again = setTimeout(renew, 1000 * seconds + 100);
   };
   againLater();
-  const names = ["saga_started", "step_started", "step_succeeded", "step_retrying", "step_failed", "step_exhausted", "step_unknown", "step_cannot_decode", "step_suspended", "plan_adopted", "saga_overdue", "saga_aborted", "saga_ended", "saga_stuck", "saga_resolved", "step_overdue", "lease_expired", "missed"];
+  const names = ["saga_started", "step_started", "step_succeeded", "step_retrying", "step_failed", "step_exhausted", "step_unknown", "step_cannot_decode", "step_suspended", "step_offered_again", "plan_adopted", "saga_overdue", "saga_aborted", "saga_ended", "saga_stuck", "saga_resolved", "step_overdue", "lease_expired", "missed"];
   let source = null, since = document.body.dataset.since, later = 0;
   const opened = () => { // what happened while there was no stream is on a new page
     if (isCut) renew();

@@ -40,24 +40,24 @@ class Announcer:
     def kept(self, commit: Commit) -> None:
         """A commit is in the store: the others hear of it."""
         if ended := commit.ended:
-            self._say(notifications.payloads("ended", ended))
+            self.say(notifications.payloads("ended", ended))
         if commit.rare:
             self._kept_rare(commit)
 
     def _kept_rare(self, commit: Commit) -> None:
         has = {part for _, rare in commit.rare for part in rare.parts}
         if "offers" in has and any(row[6] for _, rare in commit.rare for row in rare.offers):
-            self._say(["tasks"])
-        if "notes" in has:  # parents wait for that
-            self._say(["requests"])
+            self.say(["tasks"])
+        if "notes" in has or commit.has_moved:  # parents wait for the former
+            self.say(["requests"])
         if "begun" in has:
             begun = [id for _, rare in commit.rare for id, _ in rare.begun]
-            self._say(notifications.payloads("begun", begun))
+            self.say(notifications.payloads("begun", begun))
         if "answers" in has:
             answered = [id for _, rare in commit.rare for _, id in rare.answers]
-            self._say(notifications.payloads("answered", answered))
+            self.say(notifications.payloads("answered", answered))
 
-    def _say(self, words: list[str]) -> None:
+    def say(self, words: list[str]) -> None:
         """Tells the other nodes and the clients, behind the commit: a commit that tells takes a
         lock over the whole server.
         """
@@ -73,4 +73,4 @@ class Announcer:
     def _told(self) -> None:
         """They were told; what came meanwhile is next."""
         self._saying = False
-        self._say([])
+        self.say([])

@@ -63,9 +63,7 @@ class PostgresBlobStore:
 
         from sagas.storage.postgresql import connections
 
-        link = psycopg.connect(connections.address(self._url), autocommit=True)
-        for setting in (connections.DURABLE, LIMITED):
-            link.execute(setting)
+        link = connections.connect_now(self._url, f"{connections.DURABLE}; {LIMITED}")
         with self._lock:
             if self._is_made:
                 return link
@@ -103,8 +101,8 @@ class PostgresBlobStore:
 
     def put(self, key: str, data: bytes, /) -> None:
         """Store a value. See `BlobStore.put`."""
-        text = "INSERT INTO {}(key, data) VALUES(%s, %s) ON CONFLICT (key) DO NOTHING"
-        self._do(text, key, data)
+        text = "INSERT INTO {}(key, data) VALUES(%s, %s) ON CONFLICT (key) DO UPDATE SET data = "
+        self._do(text + "excluded.data", key, data)  # also the second time it waits for a standby
 
     def get(self, key: str, /) -> bytes:
         """Return a value. See `BlobStore.get`."""

@@ -3,14 +3,15 @@
 from __future__ import annotations
 
 import contextlib
-from collections.abc import Iterator
+from collections.abc import AsyncIterator, Iterator
 from typing import Any, Union
 
 import psycopg
+from psycopg import pq
 from psycopg.rows import tuple_row
 
 from sagas.base.errors import StoreUnavailable
-from sagas.storage.postgresql import connections
+from sagas.storage.postgresql import connections, replication
 
 Given = Union["psycopg.AsyncConnection[Any]", "psycopg.Connection[Any]"]
 HERE = (
@@ -18,6 +19,9 @@ HERE = (
     "datname = current_database()"
 )
 """Which database of which server this is. A standby that takes over gives the same."""
+BEGIN = "SELECT 1"
+"""Before this psycopg begins the caller's transaction: else a savepoint would be a transaction of
+its own, and commit. In a failed one it raises."""
 
 
 async def rows(
@@ -34,6 +38,35 @@ def rows_now(
 ) -> list[connections.Row]:
     """As `rows`, where it stands."""
     return psycopg.Cursor(link, row_factory=tuple_row).execute(query, words).fetchall()
+
+
+@contextlib.asynccontextmanager
+async def savepoint(link: psycopg.AsyncConnection[Any]) -> AsyncIterator[None]:
+    """All of what is done within is in the caller's transaction, or nothing: if it raises, that
+    transaction is as before, and can go on. A connection that commits each statement commits it as
+    a whole.
+    """
+    if not _is_ready(link):
+        await psycopg.AsyncCursor(link).execute(BEGIN)
+    with replication.heeded(link):
+        async with link.transaction():
+            yield
+
+
+@contextlib.contextmanager
+def savepoint_now(link: psycopg.Connection[Any]) -> Iterator[None]:
+    """As `savepoint`, where it stands."""
+    if not _is_ready(link):
+        psycopg.Cursor(link).execute(BEGIN)
+    with replication.heeded(link), link.transaction():
+        yield
+
+
+def _is_ready(link: Given) -> bool:
+    """Whether a transaction is open and sound, or each statement is one."""
+    status = link.pgconn.transaction_status
+    is_open = status == pq.TransactionStatus.INTRANS
+    return is_open or (link.autocommit and status == pq.TransactionStatus.IDLE)
 
 
 def check_kind(connection: object, plain: bool) -> None:

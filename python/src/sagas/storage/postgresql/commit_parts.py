@@ -1,4 +1,4 @@
-"""The parts of a commit: their columns, and what becomes of their rows."""
+"""The parts of a commit: their columns and statements."""
 
 from __future__ import annotations
 
@@ -45,8 +45,9 @@ ROWS = {
         "attempt text, shard bigint, id bigint, step integer, action text, number integer, task "
         "text, concurrency integer, lease bigint, offered_at double precision, cancelled text"
     ),
-    "cancelled": "cancelled text, id bigint",
+    "cancelled": "cancelled text, id bigint, others text[]",
     "suspended": "attempt text, shard bigint, outcome text",
+    "withdrawn": "attempt text, shard bigint",
     "settled": "attempt text, shard bigint, came text",
     "deliveries": (
         "id text, webhook text, type text, saga bigint, key text, body text, at double precision"
@@ -59,6 +60,7 @@ ROWS = {
     "begun": "shard bigint, id bigint, saga bigint",
     "notes": "note text, id bigint",
     "closed": "shard bigint, closed smallint, audit text",
+    "set_aside": "shard bigint, audit text",
 }
 """The columns of the rows of each part. Most sagas are opened without a deadline and a trace
 context, and end without a plan: such rows are written without them, since psycopg handles each
@@ -118,10 +120,13 @@ PARTS = {
     "extract(epoch FROM clock_timestamp()), v.cancelled FROM {rows} JOIN mine USING (shard) "
     f"ON CONFLICT (attempt) DO UPDATE SET {external.OFFERED_AGAIN}",
     "cancelled": f"UPDATE external_attempts e SET cancelled = v.cancelled FROM {{rows}} {OF_LOG} "
-    "WHERE e.id = v.id AND e.action = 'run' AND e.outcome IS NULL",
+    "WHERE e.id = v.id AND e.action = 'run' AND e.outcome IS NULL AND e.attempt <> ALL(v.others)",
     "suspended": "UPDATE external_attempts e SET outcome = v.outcome, until = NULL "
     "FROM {rows} JOIN mine USING (shard) WHERE e.attempt = v.attempt AND (e.outcome IS NULL OR "
     "e.outcome IN ('unknown', 'suspended', 'failed', 'failed_permanently'))",
+    "withdrawn": "UPDATE external_attempts e SET outcome = 'withdrawn' FROM {rows} "
+    f"JOIN mine USING (shard) WHERE e.attempt = v.attempt AND {external.UNCLAIMED} "
+    "RETURNING e.attempt",
     "settled": "UPDATE external_attempts e SET outcome = 'settled', value = NULL, "
     "shard = CASE WHEN e.outcome IS DISTINCT FROM 'succeeded' OR v.came = 'succeeded' "
     "THEN e.shard END "
@@ -147,8 +152,15 @@ PARTS = {
         "UPDATE shards SET closed = v.closed, audit = v.audit FROM {rows} JOIN mine USING (shard) "
         "WHERE shards.shard = v.shard"
     ),
+    "set_aside": (
+        "UPDATE shards SET audit = v.audit FROM {rows} JOIN mine USING (shard) "
+        "WHERE shards.shard = v.shard AND shards.closed = 0"
+    ),
 }
 """What becomes of them.
+
+`cancelled`: of all attempts of a saga, except those of which another part of the commit has the
+last word.
 
 `settled`: a worker's *done* gives way to nothing else. The row's shard would be null, which is
 refused, and with it all of the statement: also where the worker's transaction was open as this

@@ -14,27 +14,46 @@ from __future__ import annotations
 import functools
 import itertools
 import json
-from collections.abc import Callable, Iterable, Sequence
+from collections.abc import Callable, Iterable, Mapping, Sequence
 from typing import Any
 
-from sagas.core.batch import Batch, Ended, HeldRow, Opened, Rare
+from sagas.core.batch import Batch, Ended, HeldRow, Opened, Rare, Tail
+from sagas.definition import tokens
+from sagas.definition.capacity import SHARD_CAPACITY
 from sagas.definition.serialization import clean
 from sagas.storage.postgresql import connections
 from sagas.storage.postgresql.commit_parts import COLUMNS, PARTS
+from sagas.storage.postgresql.prepared import array
 
 MOVED = """
 moved AS (INSERT INTO operator_commands(id, key, command, value, at, saga) OVERRIDING SYSTEM VALUE
   SELECT (one ->> 0)::bigint, key, one ->> 1, one ->> 2, (one ->> 3)::double precision, saga
-  FROM begun_, jsonb_array_elements(commands) one WHERE saga IS NOT NULL
-  RETURNING pg_notify('sagas_nodes', 'requests'))"""
+  FROM begun_, jsonb_array_elements(commands) one WHERE saga IS NOT NULL RETURNING id)"""
 """What was asked of a start is asked of its saga. As the row that goes away has it in the end: a
 part of the statement that looked for rows would not see what was asked since it began."""
+HAS_MOVED = -1
+"""A row of the answer, in place of a shard's number: requests moved, of which the nodes are told
+behind the commit."""
 KEPT = "SELECT shard FROM shards WHERE {mine}{free} FOR SHARE"
-ALONE = "shard = $3::bigint AND owner = $2 AND epoch = $4::bigint"
-LISTED = (
-    "shard = ANY($3::bigint[]) AND owner = $2 AND epoch = ($4::bigint[])[array_position($3, shard)]"
+CONTINUED = (
+    "({first} IS NULL OR EXISTS (SELECT 1 FROM event_log e WHERE e.shard = {shard} "
+    "AND e.first_seq = {first} AND e.committed_at = {at}))"
 )
-"""Whether a log is this node's still: the only one of a commit, or one of several."""
+"""Whether a log's last chunk is there, as far as this node knows of one: a database that was
+restored from a backup may lack it, and has the same owner and epoch."""
+ALONE = "shard = $3::bigint AND owner = $2 AND epoch = $4::bigint AND " + CONTINUED.format(
+    shard="$3::bigint", first="$5::integer", at="$6::double precision"
+)
+LISTED = (
+    "shard = ANY($3::bigint[]) AND owner = $2 "
+    "AND epoch = ($4::bigint[])[array_position($3, shard)] AND "
+) + CONTINUED.format(
+    shard="shards.shard",
+    first="($5::integer[])[array_position($3, shards.shard)]",
+    at="($6::double precision[])[array_position($3, shards.shard)]",
+)
+"""Whether a log is this node's still, and goes on from what this node knows: the only one of a
+commit, or one of several."""
 BORN = (
     "INSERT INTO shards(shard, name, owner, epoch) SELECT v.shard, v.name, $2, 1 "
     "FROM {rows}{free} ON CONFLICT DO NOTHING RETURNING shard, epoch"
@@ -47,6 +66,8 @@ TAKEN = (
 """The logs whose guess was wrong: a saga has the key, or a client's start that no log has yet.
 (`EXISTS .. OR EXISTS ..` may be planned as a look at all sagas.)
 """
+WITHDRAWN = ", (SELECT json_agg(attempt)::text FROM withdrawn_)"
+"""Which attempts were withdrawn."""
 MOST = 100 << 20
 """Bytes of rows that PostgreSQL takes apart at once: more than some 200 MiB it does only piece
 by piece, which takes longer.
@@ -60,11 +81,11 @@ WORDS = "words"
 
 @functools.lru_cache(maxsize=None)
 def statement(parts: tuple[str, ...], form: str = "jsonb", alone: bool = False) -> str:
-    """The statement with these parts. $1: the rows of each, by its name; $2: the node; $3 and
-    $4: its logs and their epochs, or where it is `alone` the log and its epoch, which the server
-    looks up in less time.
+    """The statement with these parts. $1: the rows of each, by its name; $2: the node; $3 to $6:
+    its logs, their epochs and the two parts of their tails, or where it is `alone` those of the
+    log, which the server looks up in less time.
 
-    As words, where each part has one row: $1, $5 and so on are the values, part by part.
+    As words, where each part has one row: $1, $7 and so on are the values, part by part.
     """
     rows = _rows_of_words(parts) if form == WORDS else _rows_of_json(form)
     guessed, texts = "guessed" in parts, []
@@ -84,12 +105,32 @@ def statement(parts: tuple[str, ...], form: str = "jsonb", alone: bool = False) 
     if "begun" in parts:
         texts.append(MOVED)
     asked = "" if parts else f" WHERE $1::{form} IS NOT NULL"  # each word has a type
-    return f"WITH {', '.join(texts)} SELECT shard FROM mine{asked}"
+    withdrawn = WITHDRAWN if "withdrawn" in parts else ""
+    moved = ""
+    if "begun" in parts:
+        moved = f" UNION ALL SELECT {HAS_MOVED}{', NULL' if withdrawn else ''} FROM moved"
+    return f"WITH {', '.join(texts)} SELECT shard{withdrawn} FROM mine{asked}{moved}"
 
 
 def _free(name: str) -> str:
     """Whether no guess of that log was wrong."""
     return f"NOT EXISTS (SELECT 1 FROM taken WHERE taken.shard = {name}.shard)"
+
+
+def _attempts(rare: Rare, part: str) -> Sequence[Sequence[Any]]:
+    """The rows of a part, each of which is about an attempt that others do."""
+    if part not in EXTERNAL:
+        return ()
+    if part == "withdrawn":
+        return [(one.attempt, one.shard) for one in rare.withdrawn]
+    rows: Sequence[Sequence[Any]] = getattr(rare, part)
+    return rows
+
+
+def _saga_of(log: int, attempt: str) -> int:
+    """The id of the saga of an attempt."""
+    name = tokens.parse(attempt)
+    return log * SHARD_CAPACITY + name.number if name else -1
 
 
 def _rows_of_json(form: str) -> Callable[[str], str]:
@@ -104,7 +145,7 @@ def _rows_of_json(form: str) -> Callable[[str], str]:
 
 
 def _rows_of_words(parts: tuple[str, ...]) -> Callable[[str], str]:
-    places = itertools.chain([1], itertools.count(5))
+    places = itertools.chain([1], itertools.count(7))
     cells = {
         part: ", ".join(f"${next(places)}::{kind} AS {name}" for name, kind in COLUMNS[part])
         for part in parts
@@ -112,8 +153,10 @@ def _rows_of_words(parts: tuple[str, ...]) -> Callable[[str], str]:
     return lambda part: f"(SELECT {cells[part]}) v"
 
 
-EXTERNAL = ("offers", "cancelled", "suspended", "settled")
-"""The parts of what others do: what one says of an attempt depends on the others."""
+EXTERNAL = ("offers", "suspended", "withdrawn", "settled")
+"""The parts of what others do, each row of which is about one attempt: the last one counts, since a
+statement changes a row once, whatever the order of its parts. `settled` is always the last.
+"""
 PLAIN: dict[str, Callable[[int, Rare], Iterable[Any]]] = {
     "shapes": lambda log, rare: rare.shapes,
     "labels": lambda log, rare: rare.labels,
@@ -125,6 +168,7 @@ PLAIN: dict[str, Callable[[int, Rare], Iterable[Any]]] = {
     "begun": lambda log, rare: [(log, *one) for one in rare.begun],
     "notes": lambda log, rare: [(clean(note), id) for note, id in rare.notes],
     "closed": lambda log, rare: [(log, *rare.closed)] if rare.closed else [],
+    "set_aside": lambda log, rare: [(log, *rare.set_aside)] if rare.set_aside else [],
 }
 """The rows of parts that stand by themselves, by the number of the log."""
 
@@ -137,21 +181,35 @@ class Commit:
         batches: The batches.
         epochs: The epoch of each log.
         events: How many events each log has after it that gains some.
+        tails: The last chunk of each log before it, where the log has any.
         parts: The rows of each part that has any.
         rare: What most batches have nothing of, with the log.
+        has_moved: Whether requests moved from starts to sagas, once it is answered.
     """
 
-    def __init__(self, batches: Sequence[Batch], events: Callable[[int], int]) -> None:
+    def __init__(
+        self, batches: Sequence[Batch], events: Callable[[int], int], tails: Mapping[int, Tail]
+    ) -> None:
         self.batches = batches
+        self.tails = tails
         self.epochs = {batch.log: batch.epoch for batch in batches if batch.log >= 0}
         self.events: dict[int, int] = {}
         self._before = events
         self.parts: dict[str, Sequence[Any]] = {}
         self.rare: list[tuple[int, Rare]] = []
+        self.has_moved = False
         if len(batches) == 1:
             self._put_one(batches[0])
         else:
             self._put_many(batches)
+
+    def answer(self, withdrawn: str | bytes | None) -> None:
+        """Tell each withdrawal whether it was done."""
+        attempts = set(json.loads(withdrawn or "[]"))
+        for _, rare in self.rare:
+            if "withdrawn" in rare.parts:
+                for one in rare.withdrawn:
+                    one.is_done = one.attempt in attempts
 
     @property
     def ended(self) -> list[int]:
@@ -253,7 +311,7 @@ class Commit:
             self._held()
         if "defined" in has or any(batch.born for batch in self.batches):
             self._definitions()
-        if not has.isdisjoint(EXTERNAL):
+        if "cancelled" in has or not has.isdisjoint(EXTERNAL):
             self._external()
         if "progress" in has:
             last = {row[:4]: row for _, rare in self.rare for row in rare.progress}
@@ -277,34 +335,42 @@ class Commit:
 
     def _external(self) -> None:
         """What becomes of attempts that others do."""
-        over = {row[0] for _, rare in self.rare for row in rare.settled}
+        last: dict[str, tuple[str, Any]] = {}
+        others: dict[int, list[str]] = {}
+        for log, rare in self.rare:
+            for part in rare.parts:
+                for row in _attempts(rare, part):
+                    if row[0] not in last:
+                        others.setdefault(_saga_of(log, row[0]), []).append(row[0])
+                    if part == "settled" or last.get(row[0], ("",))[0] != "settled":
+                        last[row[0]] = part, row
         ended = {id: why for _, rare in self.rare for why, id in rare.cancelled}
-        offers = {
-            row[0]: (*row[:-1], ended[row[2]]) if row[2] in ended and row[4] == "run" else row
-            for _, rare in self.rare
-            for row in rare.offers
-            if row[0] not in over
-        }
-        self._put("offers", [*offers.values()])
-        self._put("cancelled", [(why, id) for id, why in ended.items()])
-        suspended = (row for _, rare in self.rare for row in rare.suspended)
-        self._put("suspended", [row for row in suspended if row[0] not in over])
-        self._put("settled", [row for _, rare in self.rare for row in rare.settled])
+        for part in EXTERNAL:
+            self._put(part, [row for of, row in last.values() if of == part])
+        offers = [
+            (*row[:-1], ended[row[2]]) if row[2] in ended and row[4] == "run" else row
+            for row in self.rows("offers")
+        ]
+        self._put("offers", offers)
+        cancelled = (
+            (why, id, array(others.get(id, ())).decode()) for id, why in ended.items()
+        )
+        self._put("cancelled", [*cancelled])
 
     def words(self, node: bytes) -> tuple[str, list[bytes | None]]:
         """The statement and its words."""
         parts, alone = tuple(sorted(self.parts)), len(self.epochs) == 1
+        mine: list[bytes | None]
         if alone:
             ((log, epoch),) = self.epochs.items()
-            mine = [node, b"%d" % log, b"%d" % epoch]
+            tail = self.tails.get(log)
+            mine = [node, b"%d" % log, b"%d" % epoch, None, None]
+            if tail is not None:
+                mine[3:] = b"%d" % tail.first_seq, repr(tail.committed_at).encode()
         else:
-            mine = [
-                node,
-                *(
-                    f"{{{','.join(map(str, numbers))}}}".encode()
-                    for numbers in (self.epochs, self.epochs.values())
-                ),
-            ]
+            tails = [self.tails.get(log) or ("NULL", "NULL") for log in self.epochs]
+            lists = self.epochs, self.epochs.values(), *(zip(*tails) if tails else ((), ()))
+            mine = [node, *(f"{{{','.join(map(str, words))}}}".encode() for words in lists)]
         if parts and max(map(len, self.parts.values())) == 1 and (words := self._cells(parts)):
             return statement(parts, WORDS, alone), [words[0], *mine, *words[1:]]
         rows = dumps(self.parts).encode()

@@ -4,8 +4,10 @@ from __future__ import annotations
 
 import asyncio
 import contextlib
+import functools
 import re
-from collections.abc import Awaitable, Callable, Coroutine, Iterator, Mapping, Sequence
+from collections.abc import AsyncIterator, Awaitable, Callable, Coroutine, Iterator, Mapping
+from collections.abc import Sequence
 from typing import Any, Protocol, TypeVar
 
 import psycopg
@@ -14,6 +16,13 @@ from psycopg_pool import AsyncConnectionPool, PoolTimeout
 
 from sagas.base.errors import InvalidStore, StoreUnavailable
 from sagas.storage.factory import FORM, is_url
+from sagas.storage.postgresql import hosts, pooler, replication
+from sagas.storage.postgresql.hosts import Hosts
+from sagas.storage.postgresql.replication import (
+    NotReplicated,
+    PlainStoreConnection,
+    StoreConnection,
+)
 
 PATIENCE = 20.0
 """Seconds that a statement may take: what takes longer is given up, and what it did is looked
@@ -70,11 +79,7 @@ RIGHTS = "have the owner of the database run `sagas store URL init --role {role}
 FAULTS = (psycopg.Error, PoolTimeout, OSError, TimeoutError)
 """What is raised where the server does not answer as it should."""
 
-LINE = "left(pg_walfile_name(pg_current_wal_lsn()), 8)"
-"""The server's timeline: another one once a standby has taken over, which may lack what was
-committed last.
-"""
-
+LINE = hosts.LINE
 TAKEOVER = (
     "INSERT INTO takeovers(shard, epoch, node, last_seq, timeline) "
     f"SELECT shard, epoch, {{node}}, {{last}}, {LINE} FROM {{taken}}"
@@ -96,7 +101,7 @@ CUT = ("08", "57P0")
 
 T = TypeVar("T")
 Row = tuple[Any, ...]
-Link = psycopg.AsyncConnection[Row]
+Link = StoreConnection
 
 
 def read(url: str) -> dict[str, Any]:
@@ -145,30 +150,40 @@ def has_stray_at(url: str) -> bool:
 
 def address(url: str) -> str:
     """The URL with what it leaves open: how soon a dead connection is noticed, and that the
-    server has to take writes.
+    server has to take writes. Of `Hosts` in the order in which they are tried.
     """
     told = read(url)
-    return conninfo.make_conninfo(
-        url, **{word: value for word, value in DEFAULTS.items() if word not in told}
-    )
+    more = {word: value for word, value in DEFAULTS.items() if word not in told}
+    if isinstance(url, Hosts) and url.are_several:
+        more |= url.parameters()
+    return conninfo.make_conninfo(url, **more)
+
+
+def hosts_of(url: str) -> Hosts:
+    """The URL, whose hosts are tried in an order of this program's own. Raises `InvalidStore`."""
+    read(url)
+    return Hosts(url)
 
 
 def named(url: str) -> str:
     """The URL for messages: without its password."""
     told = read(url)
-    hosts = zip(
+    pairs = zip(
         str(told.get("host", "")).split(","), (str(told.get("port", "")) + "," * 8).split(",")
     )
-    places = ",".join(f"{host}:{port}" if port else host for host, port in hosts)
+    places = ",".join(f"{host}:{port}" if port else host for host, port in pairs)
     user = f"{told['user']}@" if told.get("user") else ""
     return f"postgresql://{user}{places}/{told.get('dbname', '')}"
 
 
 @contextlib.contextmanager
 def faults(where: str) -> Iterator[None]:
-    """What PostgreSQL and its connections raise, as `StoreUnavailable`."""
+    """What PostgreSQL and its connections raise, as `StoreUnavailable`; that they are a pooler's,
+    as `InvalidStore`."""
     try:
         yield
+    except pooler.TransactionPooled as error:
+        raise InvalidStore(f"{where}: {error}") from error
     except FAULTS as error:
         raise unwritable(where, error) from error
 
@@ -189,7 +204,9 @@ async def tried(ask: Callable[[], Awaitable[T]]) -> T:
         try:
             return await ask()
         except StoreUnavailable as error:
-            if turn == 4 or not isinstance(error.__cause__, psycopg.OperationalError):
+            cause = error.__cause__
+            is_cut = isinstance(cause, psycopg.OperationalError)
+            if turn == 4 or not is_cut or isinstance(cause, NotReplicated):
                 raise
     raise AssertionError
 
@@ -198,17 +215,21 @@ def was_cut(error: StoreUnavailable) -> bool:
     """Whether a connection had ended, as all do where the server starts again: another one may
     do."""
     cause = error.__cause__
-    if not isinstance(cause, psycopg.OperationalError):
+    if not isinstance(cause, psycopg.OperationalError) or isinstance(cause, NotReplicated):
         return False
     return cause.sqlstate is None or cause.sqlstate.startswith(CUT)
 
 
 async def connect(url: str, settings: str = SETTINGS) -> Link:
     """A connection of the store's own, that commits each statement."""
-    link: Link = await psycopg.AsyncConnection.connect(
-        address(url), autocommit=True, prepare_threshold=1
-    )
-    await link.execute(settings, prepare=False)
+    link = await Link.connect(address(url), autocommit=True, prepare_threshold=1)
+    assert isinstance(link, Link)
+    try:
+        await pooler.check(link, address(url))
+        await link.execute(settings, prepare=False)
+    except BaseException:
+        await link.close()
+        raise
     return link
 
 
@@ -219,6 +240,8 @@ async def knock(url: str, where: str) -> None:
     try:
         async with asyncio.timeout(KNOCK):
             await (await connect(url)).close()
+    except pooler.TransactionPooled as error:
+        raise InvalidStore(f"{where}: {error}") from error
     except FAULTS as error:
         if (
             isinstance(error, psycopg.Error) and error.pgconn
@@ -235,14 +258,21 @@ async def line_of(link: Link) -> str:
     return str(rows[0][0])
 
 
-def connect_now(url: str) -> psycopg.Connection[Row]:
+def connect_now(url: str, settings: str = f"{SETTINGS}; {LIMITED}") -> PlainStoreConnection:
     """As `connect`, for who waits where he stands."""
-    link: psycopg.Connection[Row] = psycopg.Connection.connect(address(url), autocommit=True)
-    link.execute(f"{SETTINGS}; {LIMITED}", prepare=False)
+    link = PlainStoreConnection.connect(address(url), autocommit=True)
+    assert isinstance(link, PlainStoreConnection)
+    try:
+        pooler.check_now(link, address(url))
+        link.execute(settings, prepare=False)
+    except BaseException:
+        link.close()
+        raise
     return link
 
 
-async def _configure(link: Link) -> None:
+async def _configure(address: str, link: psycopg.AsyncConnection[Any]) -> None:
+    await pooler.check(link, address)
     await link.execute(f"{SETTINGS}; {LIMITED}; {ABANDONED}", prepare=False)
 
 
@@ -256,11 +286,12 @@ def pool(url: str, most: int) -> AsyncConnectionPool:
     words = {"autocommit": True, "prepare_threshold": 2}
     return AsyncConnectionPool(
         address(url),
+        connection_class=Link,
         min_size=1,
         max_size=most,
         open=False,
         kwargs=words,
-        configure=_configure,
+        configure=functools.partial(_configure, address(url)),
         timeout=PATIENCE / 4,
         reconnect_timeout=2.0,
         name="sagas",
@@ -285,6 +316,10 @@ class Asker:
         self.pool = pool(url, most)
         self._attached: list[Attached] = []
         self._under_way: set[asyncio.Task[Any]] = set()
+        self._used: set[Link] = set()
+        self._barrier = replication.Barrier(self.ask)
+        self.late: Callable[[], object] = lambda: None
+        """Called where a statement took too long, as at a server that was replaced."""
 
     async def open(self) -> None:
         """Connects. Raises `StoreUnavailable`."""
@@ -299,14 +334,18 @@ class Asker:
         """Renew and close these connections with the pool."""
         self._attached += some
 
-    async def renew(self) -> None:
+    async def renew(self, cuts: bool = False) -> None:
         """Connect again, since another server has taken over. Attached connections end at once, and
-        those of the pool after what is under way.
+        those of the pool after what is under way; with `cuts` at once too, since the server before
+        may never answer.
         """
         for one in self._attached:
             one.cut()
         old, self.pool = self.pool, pool(self._url, self._most)
+        used = [*self._used] if cuts else []
         await self.pool.open()
+        for link in used:
+            replication.shut(link)
         await old.close(timeout=CONNECT)
 
     async def close(self) -> None:
@@ -331,10 +370,14 @@ class Asker:
         """What comes of something that takes a connection of the pool. Who is cancelled leaves it
         to its end: the pool loses the connection that comes to a caller who is gone.
         """
+        return await asyncio.shield(self.spawn(work))
+
+    def spawn(self, work: Coroutine[Any, Any, T]) -> asyncio.Task[T]:
+        """As `whole`, for who does not wait; `close` does."""
         job = asyncio.get_running_loop().create_task(work)
         self._under_way.add(job)
         job.add_done_callback(self._done)
-        return await asyncio.shield(job)
+        return job
 
     def _done(self, work: asyncio.Task[Any]) -> None:
         self._under_way.discard(work)
@@ -342,12 +385,32 @@ class Asker:
             work.exception()  # whoever asked, and was not cancelled, has it
 
     async def _ask(self, text: str, words: Mapping[str, Any] | Sequence[Any]) -> list[Row]:
+        async with self.connection() as link:
+            cursor = await link.execute(text, words)
+            return await cursor.fetchall() if cursor.pgresult and cursor.pgresult.nfields else []
+
+    @contextlib.asynccontextmanager
+    async def connection(self) -> AsyncIterator[Link]:
+        """A connection of the pool, for as long as a statement may take. Raises
+        `StoreUnavailable`; then nobody knows what was done. Only within what is a task of its own
+        (`whole`).
+        """
         with faults(self.where):
-            async with asyncio.timeout(PATIENCE + 1), self.pool.connection() as link:
-                cursor = await link.execute(text, words)
-                return (
-                    await cursor.fetchall() if cursor.pgresult and cursor.pgresult.nfields else []
-                )
+            async with self.pool.connection() as link:
+                assert isinstance(link, Link)
+                self._used.add(link)
+                try:
+                    async with replication.limited(link, PATIENCE + 1):
+                        yield link
+                except (TimeoutError, errors.QueryCanceled):  # or it waits for one that is late
+                    self.late()
+                    raise
+                finally:
+                    self._used.discard(link)
+
+    async def replicated(self) -> None:
+        """Wait until the synchronous standbys have what is visible. Raises `StoreUnavailable`."""
+        await self._barrier.passed()
 
     async def read(self, text: str, **words: Any) -> list[Row]:
         """As `ask`, for what may be asked twice: connections that broke unnoticed are tried

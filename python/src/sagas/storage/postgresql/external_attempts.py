@@ -28,7 +28,7 @@ from sagas.storage.external import (
     earlier,
 )
 from sagas.storage.lots import Lots
-from sagas.storage.postgresql import connections, prepared
+from sagas.storage.postgresql import connections, notifications, prepared
 from sagas.storage.postgresql.connections import Asker
 from sagas.storage.postgresql.deliveries import PostgreSQLDeliveries
 
@@ -140,6 +140,9 @@ BOTH_WIRED = prepared.numbered(
 )  # fmt: skip
 """The rows of claims, and the shards of the reports that count."""
 FIND = "SELECT lease, outcome, value, reported FROM external_attempts WHERE attempt = %(attempt)s"
+OUTCOMES = (
+    "SELECT attempt, outcome FROM external_attempts WHERE attempt = ANY(%(attempts)s::text[])"
+)
 ALL_REPORTED = (
     "SELECT attempt, outcome, value FROM external_attempts WHERE shard = "
     f"ANY(%(shards)s::bigint[]) AND {external.REPORTED}"
@@ -150,11 +153,6 @@ SELECT task, count(*) FILTER (WHERE until IS NULL OR until <= now),
   min(offered_at) FILTER (WHERE until IS NULL OR until <= now), count(*) FILTER (WHERE until > now)
 FROM external_attempts, clock WHERE {OPEN} AND task > '' GROUP BY task ORDER BY task
 """
-WITHDRAW = (
-    "UPDATE external_attempts SET outcome = 'withdrawn' WHERE attempt = %(attempt)s "
-    f"AND lease IS NULL AND ({OPEN} OR outcome = 'withdrawn') RETURNING 1"
-)
-"""Also of what is withdrawn already: the first answer may have been lost."""
 ADVANCE = """
 INSERT INTO progress SELECT id, step, action, number, %(fraction)s, %(detail)s, %(at)s
 FROM external_attempts WHERE attempt = %(attempt)s
@@ -162,7 +160,7 @@ ON CONFLICT (id, step, action, number) DO UPDATE SET fraction = excluded.fractio
   detail = excluded.detail, at = excluded.at
 RETURNING 1
 """
-TELL = f"SELECT pg_notify('{CHANNEL}', 'reported')"
+TELL = notifications.saying(CHANNEL).replace("%(words)s", "'{reported}'")
 
 
 _Told = Union[list[list[Any]], Optional[int]]
@@ -319,12 +317,11 @@ class PostgreSQLExternalAttempts:
         """The rows of a claim of tasks with a concurrency. No other node claims them meanwhile."""
         workers = [wanted.worker] * wanted.most
         words = {"tasks": [*wanted.tasks], "most": wanted.most, "workers": workers}
-        with connections.faults(self._asker.where):
-            async with self._locking, self._asker.pool.connection() as link, link.transaction():
-                await link.execute(LOCK, {"limited": list(limited)})
-                seconds = {"seconds": [wanted.seconds] * wanted.most}
-                row = await (await link.execute(CLAIM, words | seconds)).fetchone()
-                return rows_of(row[0]) if row else []
+        async with self._locking, self._asker.connection() as link, link.transaction():
+            await link.execute(LOCK, {"limited": list(limited)})
+            seconds = {"seconds": [wanted.seconds] * wanted.most}
+            row = await (await link.execute(CLAIM, words | seconds)).fetchone()
+            return rows_of(row[0]) if row else []
 
     async def heartbeat(self, attempt: str, lease: int, seconds: float) -> Beat | None:
         rows = await self._asker.ask(HEARTBEAT, attempt=attempt, lease=lease, seconds=seconds)
@@ -346,15 +343,16 @@ class PostgreSQLExternalAttempts:
         rows = await self._asker.read(FIND, attempt=attempt)
         return Row(*rows[0]) if rows else None
 
+    async def outcomes(self, attempts: Sequence[str]) -> dict[str, str | None]:
+        rows = await self._asker.read(OUTCOMES, attempts=list(attempts))
+        return {attempt: outcome for attempt, outcome in rows}
+
     async def reported(self, shards: Sequence[int]) -> list[Report]:
         rows = await self._asker.read(ALL_REPORTED, shards=list(shards))
         return [Report(*row) for row in rows]
 
     async def waiting(self) -> list[Waiting]:
         return [Waiting(*row) for row in await self._asker.read(WAITING)]
-
-    async def withdraw(self, attempt: str) -> bool:
-        return bool(await self._asker.ask(WITHDRAW, attempt=attempt))
 
     async def tell(self) -> None:
         await self._asker.ask(TELL)

@@ -6,7 +6,7 @@ in one statement, by the server's clock.
 
 from __future__ import annotations
 
-from collections.abc import Sequence
+from collections.abc import Callable, Sequence
 
 from sagas.core.batch import Grant
 from sagas.definition.step import Bounds
@@ -29,8 +29,6 @@ WITH clock AS MATERIALIZED (SELECT extract(epoch FROM clock_timestamp())::double
 back AS (UPDATE limit_slots SET node = NULL
   WHERE name = %(name)s AND kind = 'limit' AND node = %(node)s
     AND slot <> ALL(%(have)s::integer[]) RETURNING slot),
-told AS MATERIALIZED (SELECT pg_notify('sagas_nodes', 'places')
-  FROM (SELECT 1 FROM back LIMIT 1) one),
 room AS MATERIALIZED (SELECT slot FROM limit_slots p
   WHERE name = %(name)s AND kind = 'limit' AND slot <= %(limit)s
     AND (node IS NULL OR NOT {LIVE.format('p.node')})
@@ -49,7 +47,7 @@ taken AS (UPDATE limit_slots p SET until = now + %(seconds)s::double precision
   FROM (SELECT slot FROM times ORDER BY slot LIMIT (SELECT most FROM most)) r, clock
   WHERE p.name = %(name)s AND p.kind = 'rate' AND p.slot = r.slot RETURNING p.slot)
 SELECT (SELECT most FROM most), ARRAY(SELECT slot FROM mine ORDER BY slot),
-  (SELECT count(*) FROM told),
+  (SELECT count(*) FROM back),
   (SELECT min(until) - min(now) FROM limit_slots, clock
     WHERE name = %(name)s AND kind = 'rate' AND slot <= %(calls)s AND until > now),
   CASE WHEN (SELECT most FROM most) < %(want)s THEN (
@@ -68,8 +66,9 @@ any number of keys."""
 class Places:
     """Takes them for one node."""
 
-    def __init__(self, asker: Asker, node: str) -> None:
-        self._asker, self._node = asker, node
+    def __init__(self, asker: Asker, node: str, say: Callable[[list[str]], object]) -> None:
+        """`say`: tells the other nodes, once places are given back."""
+        self._asker, self._node, self._say = asker, node, say
 
     async def take(
         self, name: str, bounds: Bounds, want: int, have: Sequence[int], look: float
@@ -80,6 +79,8 @@ class Places:
         more = {"seconds": seconds, "node": self._node, "want": want, "have": list(have)}
         take = TAKE_KEYED if bounds.is_keyed else TAKE
         (row,) = await self._asker.ask(take, **words, **more)
+        if row[2]:
+            self._say(["places"])
         if row[-1]:
             await self._asker.ask(MAKE, **words)
             (row,) = await self._asker.ask(take, **words, **more)

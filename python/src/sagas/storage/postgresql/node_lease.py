@@ -25,6 +25,9 @@ from sagas.base.wording import number
 from sagas.core.batch import LogRow
 from sagas.definition.capacity import SHARD_CAPACITY
 from sagas.definition.compiled import version_of
+from sagas.storage.codec_note import NOTED, missing
+from sagas.storage.postgresql import codec_note, notifications
+from sagas.storage.postgresql.codec_note import ALLOWS
 from sagas.storage.postgresql.connections import LINE, RAISED, Asker
 from sagas.storage.queries import OPENED
 
@@ -52,15 +55,16 @@ at where `own`: it takes long where it has many).
 """
 UNTAKEN = f"(i.refused IS NULL AND NOT {LIVE.format('i.node')})"
 
-SAY = """
+SAY = f"""
 WITH said AS (UPDATE nodes SET lease = now() + make_interval(secs => %(lease)s)
-  WHERE node = %(node)s RETURNING 1),
+  WHERE node = %(node)s AND {ALLOWS} RETURNING 1),
 entered AS (INSERT INTO nodes(node, name, version, kinds, since, lease)
   SELECT %(node)s, %(name)s, %(version)s, %(kinds)s, now(), now() + make_interval(secs => %(lease)s)
-  WHERE %(enters)s AND NOT EXISTS (SELECT 1 FROM said) RETURNING 1)
+  WHERE %(enters)s AND NOT EXISTS (SELECT 1 FROM said) AND {ALLOWS} RETURNING 1)
 """
-RENEW = """
-UPDATE nodes SET lease = now() + make_interval(secs => %(lease)s) WHERE node = %(node)s RETURNING 1
+RENEW = f"""
+UPDATE nodes SET lease = now() + make_interval(secs => %(lease)s)
+WHERE node = %(node)s AND {ALLOWS} RETURNING 1
 """
 LOOK = f"""
 SELECT {LINE}, EXISTS (SELECT 1 FROM said UNION ALL SELECT 1 FROM entered),
@@ -92,7 +96,7 @@ SELECT shard FROM mine
 """
 TAKEN = f"""
 SELECT json_build_array(shard, name, {TEXTS}, ({OPENED}), ({OPENED} AND phase IS NULL), epoch,
-  {PLACES})::text
+  {PLACES}, audit)::text
 FROM shards l
 WHERE shard = ANY(%(logs)s::bigint[]) AND owner = %(node)s ORDER BY shard
 """
@@ -123,7 +127,7 @@ WITH mine AS (UPDATE shards l SET owner = NULL, epoch = epoch + 1
     WHERE n.node <> %(node)s AND n.lease > now() AND n.since > to_timestamp(%(before)s))
   RETURNING shard, epoch),
 noted AS ({RAISED})
-SELECT extract(epoch FROM now())::float8, pg_notify('sagas_nodes', 'logs') FROM mine
+SELECT extract(epoch FROM now())::float8 FROM mine
 """
 """Gives a log back where another node has come since it was given back the last time."""
 GONE = """
@@ -138,7 +142,7 @@ mine AS (UPDATE shards SET owner = NULL, epoch = epoch + 1 WHERE owner = %(node)
   RETURNING shard, epoch),
 noted AS ({RAISED}),
 starts AS (UPDATE pending_starts SET node = NULL WHERE node = %(node)s)
-SELECT pg_notify('sagas_nodes', 'logs'), pg_notify('sagas_nodes', 'starts')
+SELECT 1
 """
 
 
@@ -158,8 +162,9 @@ class Lease:
 
     def __init__(
         self, asker: Asker, name: str | None, seconds: float, version: str,
-        kinds: Sequence[str] = (),
+        kinds: Sequence[str] = (), encodes: bool = False,
     ) -> None:  # fmt: skip
+        self.encodes = encodes  # by a codec
         self.name = name or f"{socket.gethostname()}-{os.getpid()}"
         self.node = f"{self.name}/{secrets.token_hex(4)}"
         self.seconds, self.version, self._asker, self._kinds = seconds, version, asker, [*kinds]
@@ -171,6 +176,7 @@ class Lease:
         self._spared: dict[int, tuple[float, float]] = {}
         self.fresh = True  # no function was kept from beginning since the last beat
         self._enters = True  # its row is made where there is none
+        self._told_of_codec = False
         self._until = 0.0
         self._turn = -1
 
@@ -200,6 +206,7 @@ class Lease:
         words = {
             "own": own, "node": self.node, "name": self.name, "version": self.version,
             "kinds": self._kinds, "lease": self.seconds, "left": before, "mine": mine,
+            "encodes": self.encodes,
         }  # fmt: skip
         rows = await self._asker.ask(SAY + LOOK, enters=self._enters, **words)
         ((line, is_there, orphans, asks, left),) = rows
@@ -207,6 +214,7 @@ class Lease:
         self._enters = not is_there
         if not is_there:
             self._until = asked
+            await self._look_for_codec()
             return False, False, False, line
         lapsed = self._until > 0 and not (self.holds() and self.fresh)
         self._until, self.fresh = asked + self.seconds, True
@@ -215,7 +223,9 @@ class Lease:
     async def renew(self) -> None:
         """Says that this node lives, and no more: the next beat tells what it missed meanwhile."""
         asked, _ = now(), self.holds()
-        is_there = await self._asker.ask(RENEW, node=self.node, lease=self.seconds)
+        is_there = await self._asker.ask(
+            RENEW, node=self.node, lease=self.seconds, encodes=self.encodes
+        )
         self._until = asked + self.seconds if is_there else asked
 
     def _passed(self) -> list[int]:
@@ -227,8 +237,10 @@ class Lease:
         where none has come since that was tried."""
         before = self._spared.get(log, (0.0, 0.0))[1]
         rows = await self._asker.ask(SPARE, log=log, node=self.node, before=before)
-        for at, _ in rows:
+        for (at,) in rows:
             self._spared[log] = now() + SPARED, at
+        if rows:
+            await self._asker.ask(notifications.SAY, words=["logs"])
         return bool(rows)
 
     def _look_at_left(self, found: Sequence[tuple[int, int, bool]]) -> None:
@@ -261,10 +273,21 @@ class Lease:
 
     async def begin(self) -> str:
         """An earlier run under this name is over: its logs are free at once. Gives the server's
-        timeline.
+        timeline. Raises `MissingCodec`, `StoreLocked`.
         """
         await self._asker.ask(GONE, node=self.node, name=self.name)
-        return (await self.beat([]))[3]
+        await codec_note.agree(self._asker, self.encodes)
+        line = (await self.beat([]))[3]
+        if self._enters:
+            await codec_note.agree(self._asker, self.encodes)
+        return line
+
+    async def _look_for_codec(self) -> None:
+        """Say why this node has no lease, where it is that the store's values are encoded now."""
+        if self.encodes or self._told_of_codec or not await self._asker.read(NOTED):
+            return
+        self._told_of_codec = True
+        logger.error("%s. This node does nothing more", missing(self._asker.where))
 
     async def take(self, drives: Drives, mine: list[int]) -> list[LogRow] | None:
         """A lot of the logs that nobody has: those of it whose functions this program has. None
@@ -299,11 +322,12 @@ class Lease:
             for (text,) in await self._asker.read(TAKEN, node=self.node, logs=taken)
         ]
         fit = await self._fit(drives, [(row[0], row[2], row[6], row[5]) for row in found])
-        return [LogRow(*row[:6]) for row in found if row[0] in fit]
+        return [LogRow(*row[:6], *row[7:]) for row in found if row[0] in fit]
 
     async def end(self) -> None:
         """What this node has is free for others, now."""
         await self._asker.ask(HAND_OVER, node=self.node)
+        await self._asker.ask(notifications.SAY, words=["logs", notifications.STARTS])
 
 
 def said_of(where: str, logs: Sequence[int], rows: Sequence[Sequence[Any]]) -> str:

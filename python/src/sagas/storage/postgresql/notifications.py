@@ -17,13 +17,19 @@ from sagas.storage.postgresql import connections
 from sagas.storage.postgresql.prepared import Wire
 
 CHANNEL = "sagas_nodes"
-SAY = (
-    f"SELECT set_config('synchronous_commit', 'off', true), pg_notify('{CHANNEL}', v) FROM "
-    "unnest(%(words)s::text[]) AS v"
-)
-"""It waits for no disk: a crash forgets who listened, and commits behind it need not wait for it
-either.
-"""
+STARTS = "starts"
+"""The word that there are starts of clients."""
+AT_ONCE = "set_config('synchronous_commit', 'off', true)"
+"""A commit that tells holds a lock over the whole server until it is over. So it waits for no disk
+and no standby, and nothing is written with it: a crash forgets who listened."""
+
+
+def saying(channel: str) -> str:
+    """The statement that tells `words` to all that listen on a channel."""
+    return f"SELECT {AT_ONCE}, pg_notify('{channel}', v) FROM unnest(%(words)s::text[]) AS v"
+
+
+SAY = saying(CHANNEL)
 SAY_WIRED = SAY.replace("%(words)s", "$1")
 """The same over a wire, to which `wired` gives the words."""
 MOST = 400  # ids a word: PostgreSQL takes 8,000 bytes
@@ -59,6 +65,14 @@ class Listener:
         self.wire: Wire | None = None
         self.ready = asyncio.Event()
 
+    def cut(self) -> None:
+        """Connects again, since another server has taken over."""
+        if self.wire:
+            self.wire.close()
+
+    async def finish(self) -> None:
+        """As `Attached`: `run` ends it where it is cancelled."""
+
     async def run(self) -> None:
         """Listens until it is cancelled."""
         pause = FIRST_PAUSE
@@ -89,10 +103,10 @@ class News:
         self, url: str, look: Callable[[str], None], channels: Sequence[str] = (CHANNEL,)
     ) -> None:
         self._look = look
-        self._listener = Listener(url, channels, self._heard, self._missed)
+        self.listener = Listener(url, channels, self._heard, self._missed)
         self._waiting: dict[tuple[str, int], list[asyncio.Future[None]]] = {}
         self._recent: OrderedDict[tuple[str, int], None] = OrderedDict()
-        self._job = asyncio.get_running_loop().create_task(self._listener.run())
+        self._job = asyncio.get_running_loop().create_task(self.listener.run())
 
     async def close(self, words: Sequence[str] = ()) -> None:
         """Says a last thing, and listens no more. Callers that wait look once more."""
@@ -112,7 +126,7 @@ class News:
         """Tells the others, if they can be told now: whoever waits also looks by himself. `then`
         is called behind that.
         """
-        wire = self._listener.wire
+        wire = self.listener.wire
         if words and wire and not wire.closed:
             wire.ask(SAY_WIRED, [wired(words)], lambda rows, fault: then())
         else:

@@ -21,7 +21,7 @@ from sagas.base.errors import OwnerUnavailable, SagasError, StoreUnavailable
 from sagas.base.logger import logger
 from sagas.storage.operator_requests import told as told_of
 from sagas.storage.postgresql import connections
-from sagas.storage.postgresql.notifications import Listener
+from sagas.storage.postgresql.notifications import AT_ONCE, Listener, saying
 
 if TYPE_CHECKING:
     from sagas.storage.postgresql.storage import PostgreSQL
@@ -42,11 +42,11 @@ OLD = 60.0
 MOST_UNTOLD = 10_000
 """Words that are kept while they cannot be told."""
 
-SAY = f"SELECT pg_notify('{CHANNEL}', v) FROM unnest(%(words)s::text[]) AS v"
+SAY = saying(CHANNEL)
 CALL = f"""
 WITH call AS (INSERT INTO peer_calls(id, node, command, payload)
   VALUES (%(id)s, %(node)s, %(command)s, %(payload)s))
-SELECT pg_notify('{CHANNEL}', json_build_array('call', %(node)s::text)::text)
+SELECT {AT_ONCE}, pg_notify('{CHANNEL}', json_build_array('call', %(node)s::text)::text)
 """
 CALLS = (
     "SELECT id, command, payload FROM peer_calls WHERE node = %(node)s AND answer IS NULL AND id "
@@ -54,7 +54,7 @@ CALLS = (
 )
 ANSWER = f"""
 WITH call AS (UPDATE peer_calls SET answer = %(answer)s WHERE id = %(id)s RETURNING id)
-SELECT pg_notify('{CHANNEL}', json_build_array('answer', id)::text) FROM call
+SELECT {AT_ONCE}, pg_notify('{CHANNEL}', json_build_array('answer', id)::text) FROM call
 """
 ANSWERED = "DELETE FROM peer_calls WHERE id = %(id)s AND answer IS NOT NULL RETURNING answer"
 GIVEN_UP = "DELETE FROM peer_calls WHERE id = %(id)s RETURNING answer"

@@ -18,6 +18,7 @@ from typing import TYPE_CHECKING, Optional
 from psycopg import errors, pq
 
 from sagas.storage.postgresql import connections
+from sagas.storage.postgresql.replication import NotReplicated
 
 if TYPE_CHECKING:
     from psycopg.pq.abc import PGresult
@@ -46,12 +47,13 @@ class Wire:
         self,
         link: connections.Link,
         heard: Callable[[str], object] | None = None,
-        patience: float = connections.PATIENCE,
+        patience: float | None = None,
     ) -> None:
         """`heard` is called with each word of a channel that it listens on. `patience`: seconds
-        that an answer may take.
+        that an answer may take (default: `connections.PATIENCE`).
         """
-        self._link, self._pgconn, self._heard, self._patience = link, link.pgconn, heard, patience
+        self._link, self._pgconn, self._heard = link, link.pgconn, heard
+        self._patience = connections.PATIENCE if patience is None else patience
         self._loop = asyncio.get_running_loop()
         self._fd = self._pgconn.socket
         self._names: dict[str, bytes] = {}
@@ -177,6 +179,8 @@ class Wire:
         preparing, self._preparing = self._preparing, None
         assert result
         fault = None if result.status in GOOD else errors.error_from_result(result)
+        if fault is None and self._link.warned:
+            self._link.warned, fault = False, NotReplicated()
         lets_go, self._lets_go = self._lets_go, False
         if lets_go and not fault:
             self._names.clear()

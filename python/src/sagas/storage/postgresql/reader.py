@@ -10,6 +10,7 @@ from sagas.base.errors import StoreUnavailable
 from sagas.definition.serialization import cleaned
 from sagas.storage import queries
 from sagas.storage.postgresql import connections
+from sagas.storage.postgresql.hosts import Hosts
 
 
 class Reader:
@@ -18,6 +19,7 @@ class Reader:
     def __init__(self, url: str, path: str) -> None:
         self._url, self._path = url, path
         self._link: psycopg.Connection[connections.Row] | None = None
+        self._turn = 0
 
     def rows(self, query: str, *words: Any) -> list[tuple[Any, ...]]:
         """Rows of a query. A connection that broke unnoticed is made again. Raises
@@ -26,6 +28,7 @@ class Reader:
         told = cleaned(words)
         for turn in (0, 1):
             try:
+                self._follow()
                 with connections.faults(self._path):
                     if self._link is None or self._link.closed:
                         self._link = connections.connect_now(self._url)
@@ -34,6 +37,13 @@ class Reader:
                 if turn or (self._link and not self._link.closed):
                     raise
         raise AssertionError
+
+    def _follow(self) -> None:
+        """Leaves a server that another one has replaced."""
+        turn = self._url.turn if isinstance(self._url, Hosts) else 0
+        if turn != self._turn:
+            self._turn = turn
+            self.close()
 
     def close(self) -> None:
         if self._link:

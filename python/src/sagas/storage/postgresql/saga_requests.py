@@ -2,14 +2,16 @@
 
 from __future__ import annotations
 
+import contextlib
 import json
 from collections.abc import Sequence
 from typing import Any
 
-from sagas.base.errors import NoSuchSaga
+from sagas.base.errors import NoSuchSaga, StoreUnavailable
 from sagas.core.batch import Request, SagaRow, Start
 from sagas.core.pending import check_refused
 from sagas.definition.capacity import SHARD_CAPACITY
+from sagas.definition.payloads import Payloads
 from sagas.definition.serialization import clean
 from sagas.storage import operator_requests, queries
 from sagas.storage.postgresql import connections, notifications
@@ -41,7 +43,7 @@ meanwhile; as a join it would not be.
 GIVE_BACK = """
 UPDATE pending_starts SET node = NULL, refused = %(why)s::text,
   at = CASE WHEN %(why)s::text IS NULL THEN at ELSE extract(epoch FROM clock_timestamp()) END
-WHERE id = %(id)s AND node = %(node)s RETURNING pg_notify('sagas_nodes', 'starts')
+WHERE id = %(id)s AND node = %(node)s RETURNING id
 """
 ANSWER = queries.named(operator_requests.ANSWER, "id", "start")
 ASK = queries.named(operator_requests.ASK, "what", "value", "id")
@@ -72,21 +74,25 @@ async def take_starts(
 
 async def give_back(asker: connections.Asker, node: str, start: int, why: str | None) -> None:
     """Give back a start that this node took: `Database.give_back`."""
-    await asker.ask(GIVE_BACK, id=start, why=None if why is None else clean(why), node=node)
+    if await asker.ask(GIVE_BACK, id=start, why=None if why is None else clean(why), node=node):
+        await _notify(asker, [notifications.STARTS])
 
 
 async def ask(
-    asker: connections.Asker, heard: notifications.News, row: SagaRow, what: str, value: str
-) -> Any:
+    asker: connections.Asker, heard: notifications.News, row: SagaRow, what: str, value: str,
+    payloads: Payloads,
+) -> Any:  # fmt: skip
     """Leaves a request for this very saga, or for the start that it is yet; tells the nodes, and
     waits for the answer. An abort of a start that no node has taken withdraws it instead.
+
+    `payloads`: how inputs are stored, by which a start is known as a saga.
 
     Raises `NoSuchSaga`, and `InvalidInput` where the start was refused."""
     if what != "abort":
         check_refused(row)
     if what == "abort" and row.id < 0 and await _withdraw(asker, -row.id):
         return True
-    row, id = await _leave(asker, row, what, value)
+    row, id = await _leave(asker, row, what, value, payloads)
     await asker.ask(notifications.SAY, words=["requests"])
     start, turn = -row.id if row.id < 0 else None, 0
     while True:
@@ -106,7 +112,7 @@ def _gone(row: SagaRow) -> NoSuchSaga:
 
 
 async def _leave(
-    asker: connections.Asker, row: SagaRow, what: str, value: str
+    asker: connections.Asker, row: SagaRow, what: str, value: str, payloads: Payloads
 ) -> tuple[SagaRow, int]:
     """Leaves a request for a saga, or for a start. A start that is gone in this moment may be a
     saga by now: that is looked for, and taken for it where it is one of its name and input. Gives
@@ -118,11 +124,21 @@ async def _leave(
             return row, int(rows[0][0])
         found = [SagaRow(*one) for one in await asker.read(FIND_NOW, key=row.key)]
         now = max(found, key=lambda one: one.id, default=row)
-        if row.id >= 0 or now is row or (now.saga, now.input) != (row.saga, row.input):
+        is_same = now.saga == row.saga and payloads.is_same(row.input, now.input)
+        if row.id >= 0 or now is row or not is_same:
             raise _gone(row)
         row = now
 
 
 async def _withdraw(asker: connections.Asker, start: int) -> bool:
     """Takes a client's start back. False where it is gone, or a node has taken it."""
-    return bool(await asker.ask(WITHDRAW, id=start))
+    messages = [message for (message,) in await asker.ask(WITHDRAW, id=start)]
+    await _notify(asker, messages)
+    return bool(messages)
+
+
+async def _notify(asker: connections.Asker, messages: Sequence[str]) -> None:
+    """Tells the others, who look by themselves as well."""
+    if messages:
+        with contextlib.suppress(StoreUnavailable):
+            await asker.ask(notifications.SAY, words=list(messages))

@@ -31,8 +31,9 @@ CREATE TABLE sagas.shard_definitions(
   PRIMARY KEY(shard, place));
 
 -- closed: 0 it is driven, 1 it is settled and its audit said yes, 2 it is settled and its audit
--- said no; audit: what it said; owner: the node that drives it, or null; epoch: grows with each
--- owner and each time it is taken up, and a commit has to know it.
+-- said no; audit: what it said, or of one that is driven why no program can open it; owner: the
+-- node that drives it, or null; epoch: grows with each owner and each time it is taken up, and a
+-- commit has to know it.
 CREATE SEQUENCE sagas.shard_numbers MINVALUE 0 START 0;
 CREATE TABLE sagas.shards(
   shard bigint PRIMARY KEY, name text NOT NULL UNIQUE, owner text, epoch bigint NOT NULL,
@@ -199,7 +200,8 @@ CREATE UNLOGGED TABLE sagas.peer_calls(
   id text PRIMARY KEY, node text NOT NULL, command text NOT NULL, payload text NOT NULL,
   at timestamptz NOT NULL DEFAULT now(), answer text);
 
--- What nobody outside may know. `leases`: the key by which leases of workers are signed, in hex.
+-- What nobody outside may know. `leases`: the key by which leases of workers are signed, in hex;
+-- `codec`: there since a program with a codec opened the store, whose values are encoded.
 CREATE TABLE sagas.secrets(name text PRIMARY KEY, value text NOT NULL);
 """
 

@@ -14,7 +14,7 @@ from typing import Any, NamedTuple
 import psycopg
 
 from sagas.base.errors import StoreUnavailable
-from sagas.core.batch import Born, HeldRow, Loaded, OpenRow, Result
+from sagas.core.batch import Born, HeldRow, Loaded, OpenRow, Result, Tail
 from sagas.definition.capacity import SHARD_CAPACITY
 from sagas.storage import queries
 from sagas.storage.postgresql import connections
@@ -37,13 +37,17 @@ SELECT shard, epoch FROM mine;
 SELECT shard, {MINE},
   (SELECT string_agg(text, '' ORDER BY first_seq) FROM event_log WHERE event_log.shard = l.shard),
   (SELECT count(*) FROM {SAGAS}),
-  (SELECT json_agg(json_build_array(s.id, s.key, s.definition_index, s.input, s.deadline,
-    (SELECT json_agg(json_build_array({queries.RESULT}) ORDER BY r.step, r.action, r.number)
+  (SELECT json_agg(json_build_array(s.id, s.key, s.definition_index,
+    {queries.SMALL_INPUT}, s.deadline,
+    (SELECT json_agg(json_build_array({queries.SMALL_RESULT}) ORDER BY r.step, r.action, r.number)
       FROM attempts r WHERE r.id = s.id),
     (SELECT json_agg(json_build_array({queries.HELD})) FROM suspensions h WHERE h.id = s.id),
-    s.traceparent, (SELECT p.shape FROM shapes p WHERE p.id = s.id))
+    s.traceparent, (SELECT {queries.SMALL_SHAPE} FROM shapes p WHERE p.id = s.id))
     ORDER BY s.id)::text FROM {SAGAS} AND s.phase IS NULL),
   (SELECT count(*) FROM shard_definitions d WHERE d.shard = l.shard),
+  (SELECT json_build_array(first_seq, committed_at,
+      length(text) - length(replace(text, E'\\n', '')))
+    FROM event_log e WHERE e.shard = l.shard ORDER BY first_seq DESC LIMIT 1)::text,
   {connections.LINE} FROM shards l WHERE {LOGS}
 """
 """One transaction: the second part sees all that was written under the epochs before, and
@@ -93,12 +97,35 @@ class Want(NamedTuple):
 
 WAKE = """
 SELECT NOT EXISTS (SELECT 1 FROM shards WHERE shard = %(log)s AND (owner IS DISTINCT FROM %(node)s
-OR epoch <> %(epoch)s OR closed <> 0)), l.first_seq, l.text
+OR epoch <> %(epoch)s OR closed <> 0)), l.first_seq, l.committed_at, l.text
 FROM (SELECT) one LEFT JOIN event_log l ON l.shard = %(log)s ORDER BY l.first_seq
 """
 """Beside each chunk of a log, whether the log is this node's under this epoch, or is not born
 yet: as of one moment.
 """
+
+
+CHUNKS = f"SELECT first_seq, committed_at, text FROM event_log WHERE {LOGS} ORDER BY first_seq"
+
+
+class Log(NamedTuple):
+    """What the store has of an event log.
+
+    Attributes:
+        text: Its lines.
+        events: How many they are.
+        tail: Its last chunk, if it has any.
+    """
+
+    text: str
+    events: int
+    tail: Tail | None
+
+    @classmethod
+    def of(cls, chunks: Sequence[tuple[int, float, str]]) -> Log:
+        """Join its chunks."""
+        text, events = queries.joined([(first, text) for first, _, text in chunks])
+        return cls(text, events, Tail(*chunks[-1][:2]) if chunks else None)
 
 
 class Loads:
@@ -118,17 +145,15 @@ class Loads:
         # shards that are locked go one by one: each may hold for long a connection that others need
         self._one = asyncio.Lock()
 
-    async def take_up(self, log: int, epoch: int, line: str) -> tuple[str, int] | None:
+    async def take_up(self, log: int, epoch: int, line: str) -> Log | None:
         """As `Database.take_up`, from a server of this timeline."""
         rows = await self._asker.read(WAKE, log=log, node=self._node, epoch=epoch)
         if not rows[0][0]:
             return None
-        text, events = queries.joined(
-            [(first, text) for _, first, text in rows if first is not None]
-        )
+        read = Log.of([(first, at, text) for _, first, at, text in rows if first is not None])
         if self._record:
-            self._record.read((log, epoch, line), events, text)
-        return text, events
+            self._record.read((log, epoch, line), read.events, read.text)
+        return read
 
     async def load(self, log: int, epoch: int, born: Born | None) -> Loaded | None:
         """As `Database.load`."""
@@ -184,27 +209,30 @@ class Loads:
         """
         words = {"logs": f"{{{','.join(str(want.log) for want in lot)}}}", "node": self._node}
         waits, locked = list(lot), list[Want]()
-        with connections.faults(self._asker.where):
-            async with asyncio.timeout(connections.PATIENCE), self._asker.pool.connection() as link:
-                cursor = await psycopg.AsyncClientCursor(link).execute(TOGETHER, words)
-                epochs: dict[int, int] = {log: epoch for log, epoch in await cursor.fetchall()}
-                cursor.nextset()
-                while row := await cursor.fetchone():
-                    log, is_mine, text, opened, sagas, defined, line = row
-                    these, waits = [want for want in waits if want.log == log], [
-                        want for want in waits if want.log != log
-                    ]
-                    if log not in epochs and is_mine:
-                        locked += these
-                        continue
-                    loaded = None
-                    if log in epochs:
-                        loaded = _loaded(text or "", opened, json.loads(sagas or "[]"))
-                        loaded.epoch, loaded.line = epochs[log], line
-                        loaded.definitions = defined
-                    for want in these:
-                        want.tell(loaded)
-                    await asyncio.sleep(0)
+        async with self._asker.connection() as link:
+            cursor = await psycopg.AsyncClientCursor(link).execute(TOGETHER, words)
+            epochs: dict[int, int] = {log: epoch for log, epoch in await cursor.fetchall()}
+            cursor.nextset()
+            while row := await cursor.fetchone():
+                log, is_mine, text, opened, sagas, defined, tail, line = row
+                these, waits = [want for want in waits if want.log == log], [
+                    want for want in waits if want.log != log
+                ]
+                if log not in epochs and is_mine:
+                    locked += these
+                    continue
+                loaded = None
+                if log in epochs:
+                    loaded = _loaded(text or "", opened, json.loads(sagas or "[]"))
+                    loaded.epoch, loaded.line = epochs[log], line
+                    loaded.definitions = defined
+                    if tail is not None:
+                        first, at, lines = json.loads(tail)
+                        loaded.tail = Tail(first, float(at))
+                        loaded.damage = queries.damage_of(loaded.text, first + lines)
+                for want in these:
+                    want.tell(loaded)
+                await asyncio.sleep(0)
         for want in waits:
             want.tell(None)
         return locked
@@ -221,27 +249,21 @@ class Loads:
                 )
             ).fetchall()
 
-        with connections.faults(self._asker.where):
-            async with asyncio.timeout(
-                connections.PATIENCE
-            ), self._asker.pool.connection() as link, link.transaction():
-                if want.born:
-                    await link.execute(BORN, words | _born(want.born) | {"epoch": want.epoch})
-                taken = await rows(ALONE)
-                if not taken:
-                    return None
-                text, events = queries.joined(
-                    await rows(
-                        f"SELECT first_seq, text FROM event_log WHERE {LOGS} ORDER BY first_seq"
-                    )
-                )
-                ((opened,),) = await rows(queries.COUNT)
-                ((defined,),) = await rows(DEFINITIONS)
-                open, results, held = [
-                    await rows(query)
-                    for query in (queries.OPEN_SAGAS, queries.OPEN_RESULTS, queries.OPEN_HELD)
-                ]
-        loaded = Loaded(text, events, opened, open, results, held, definitions=defined)
+        async with self._asker.connection() as link, link.transaction():
+            if want.born:
+                await link.execute(BORN, words | _born(want.born) | {"epoch": want.epoch})
+            taken = await rows(ALONE)
+            if not taken:
+                return None
+            text, events, tail = Log.of(await rows(CHUNKS))
+            ((opened,),) = await rows(queries.COUNT)
+            ((defined,),) = await rows(DEFINITIONS)
+            open, results, held = [
+                await rows(query)
+                for query in (queries.OPEN_SAGAS, queries.OPEN_RESULTS, queries.OPEN_HELD)
+            ]
+        loaded = Loaded(text, events, opened, open, results, held, definitions=defined, tail=tail)
+        loaded.damage = queries.damage_of(text, events)
         ((loaded.epoch, loaded.line),) = taken
         return loaded
 

@@ -12,6 +12,7 @@ from typing import Any, NamedTuple
 
 from psycopg import pq
 
+from sagas.core.batch import Tail
 from sagas.storage.postgresql import connections
 from sagas.storage.postgresql.step_connections import is_prepared
 from sagas.storage.postgresql.step_protocol import encoding_of
@@ -31,16 +32,20 @@ PARAMETERS = {
     "node": "text",
     "epoch": "bigint",
     "line": "text",
+    "first_seq": "integer",
+    "committed_at": "double precision",
     "value": "text",
 }
 TABLE = "sagas", "attempts"
 """The schema and the name of the table that a record is written to."""
 RECORD = f"""INSERT INTO {'.'.join(TABLE)} VALUES ({{id}}, {{step}}, {{kind}}, {{attempt}},
   (SELECT 'ok' FROM sagas.shards WHERE shard = {{log}} AND owner = {{node}}
-    AND epoch = {{epoch}} AND {connections.LINE} = {{line}} FOR SHARE),
+    AND epoch = {{epoch}} AND {connections.LINE} = {{line}}
+    AND EXISTS (SELECT 1 FROM sagas.event_log WHERE shard = {{log}}
+      AND first_seq = {{first_seq}} AND committed_at = {{committed_at}}) FOR SHARE),
   {{value}}, extract(epoch FROM clock_timestamp()))"""
-"""If the shard is not this node's any more, the outcome is null: the server refuses that, and
-nothing is committed."""
+"""If the shard is not this node's any more, or lacks what was committed before the attempt began,
+the outcome is null: the server refuses that, and nothing is committed."""
 
 
 def prepares() -> str:
@@ -61,12 +66,13 @@ def prepares() -> str:
 
 
 class Fence(NamedTuple):
-    """The owner that a shard must have for anything to be committed."""
+    """The owner that a shard must have for anything to be committed, and a chunk of its log."""
 
     log: int
     node: str
     epoch: int
     line: str
+    tail: Tail
 
 
 def _literal(link: Any, word: str) -> str:
@@ -81,7 +87,7 @@ def _literal(link: Any, word: str) -> str:
 def record_and_commit(link: Any, row: Sequence[Any], fence: Fence, value: str) -> str:
     """The record of a result, which locks the shard's row, and the commit."""
     id, step, kind, attempt = row
-    log, node, epoch, line = fence
+    log, node, epoch, line, (first_seq, committed_at) = fence
     words = [
         str(id),
         str(step),
@@ -91,6 +97,8 @@ def record_and_commit(link: Any, row: Sequence[Any], fence: Fence, value: str) -
         _literal(link, node),
         str(epoch),
         f"'{line}'",
+        str(first_seq),
+        f"'{committed_at!r}'",
         _literal(link, value),
     ]
     if is_prepared(link):

@@ -10,6 +10,7 @@ from typing import Any
 from sagas.base.errors import StoreUnavailable
 from sagas.base.logger import logger
 from sagas.core.batch import Batch, Born, Grant, Known, Loaded, LogRow, Request, SagaRow, Start
+from sagas.definition.payloads import Payloads
 from sagas.definition.serialization import cleaned
 from sagas.definition.step import Bounds
 from sagas.storage import queries
@@ -24,10 +25,12 @@ from sagas.storage.postgresql import (
 )
 from sagas.storage.postgresql.announcer import Announcer
 from sagas.storage.postgresql.commit_statement import Commit
+from sagas.storage.postgresql.continuity import Continuity
 from sagas.storage.postgresql.external_attempts import PostgreSQLExternalAttempts
 from sagas.storage.postgresql.key_finder import KeyFinder
 from sagas.storage.postgresql.limit_slots import Places
 from sagas.storage.postgresql.lookups import Lookups
+from sagas.storage.postgresql.missing_tables import MissingTables
 from sagas.storage.postgresql.node_lease import UNDRIVEN, Lease, said_of
 from sagas.storage.postgresql.peer_calls import PostgreSQLPeers
 from sagas.storage.postgresql.reader import Reader
@@ -50,30 +53,38 @@ class PostgreSQL(queries.Questions):
         self, url: str, *, node: str | None = None, lease: float = 10.0, sagas: Sequence[str] = (),
         kinds: Sequence[str] = (), version: str = "", most: int = 16,
         transactions: MakesTransactions | None = None, record: str | None = None,
+        encodes: bool = False,
     ) -> None:  # fmt: skip
         """`sagas`: the starts that it takes, each as saga/version, which is of those without a
         digest, or as saga/version/digest; `kinds`: its definitions, in the latter form.
-        `transactions` gives what calls functions in transactions; `record`: a file."""
-        self.url = url
+        `transactions` gives what calls functions in transactions; `record`: a file; `encodes`:
+        whether there is a codec."""
+        self.url = url = connections.hosts_of(url)
         self.asker = connections.Asker(url, connections.named(url), 2)
-        self.lease = Lease(self.asker, node, lease, version, kinds)
+        self.lease = Lease(self.asker, node, lease, version, kinds, encodes)
         self._sagas = list(sagas)
         self.external: ExternalAttempts = PostgreSQLExternalAttempts(url, self.asker)
-        self._places = Places(self.asker, self.lease.node)
         told = RecordFile.of(record, self.lease.node)
         self._loads = Loads(self.asker, self.lease.node, self._spawn, told)
         self._line = ""
         self._writer = Writer(
             url, self.path, self.lease.node, self._check_server, self._kept, self._let_go, told
         )
+        self._writer.late = self._look_at_hosts
         self._transactions = (
-            transactions(url, self.path, self.lease.node, lambda: self._line, most)
+            transactions(
+                url, self.path, self.lease.node, lambda: self._line, self._writer.tails.get, most
+            )
             if transactions
             else None
         )
         self._keys = KeyFinder(url, self.path, self._spawn)
         self._questions = connections.Asker(url, self.path, 1)
+        self.asker.late = self._questions.late = self._look_at_hosts
         self._lookups = Lookups(self._questions, self._spawn)
+        self._continuity = Continuity(
+            self.asker, self._questions, self._writer, self._driven, self._begin_again
+        )
         self._jobs: set[asyncio.Task[Any]] = set()
         self._announcer: Announcer | None = None
         self._watcher: Watcher | None = None
@@ -201,10 +212,17 @@ class PostgreSQL(queries.Questions):
     async def _keep(self) -> None:
         """Says that this node lives, and looks for what nobody has: each second, and when there
         is word of it."""
+        tables = MissingTables(self.url, self.path)
+        tables.seen(self._line)
         while not self._closing:
             self._turn.clear()
-            with contextlib.suppress(StoreUnavailable):
+            try:
                 await self._beat()
+            except StoreUnavailable as error:
+                if await tables.make(error):
+                    continue
+            else:
+                tables.seen(self._line)
             with contextlib.suppress(TimeoutError):
                 async with asyncio.timeout(0 if self._closing else self.lease.pause):
                     await self._turn.wait()
@@ -214,6 +232,7 @@ class PostgreSQL(queries.Questions):
             await self.lease.renew()
             return
         lapsed, orphans, asks, line = await self.lease.beat(self._watcher.logs())
+        self._check_age(line)
         if not self._is_known(line):
             self._writer.cut()
         elif lapsed:
@@ -221,12 +240,15 @@ class PostgreSQL(queries.Questions):
         if orphans and not self._closing:
             rows = await self.lease.take(self._drives, self._watcher.logs())
             if rows is not None:  # the next lot comes behind a beat
+                for row in rows:
+                    self._writer.forget(row.log)
                 self._watcher.taken(rows)
                 self._turn.set()
         if asks:
             self._watcher.look()
         if logs := self.lease.undriven():
             self._spawn(self._warn(logs))
+        self._spawn(self._continuity.look())
         await self._numbers.fill()
 
     async def _warn(self, logs: list[int]) -> None:
@@ -239,23 +261,54 @@ class PostgreSQL(queries.Questions):
         if rows:
             logger.warning("%s", said_of(self.path, logs, rows))
 
-    def _is_known(self, line: str) -> bool:
+    def _look_at_hosts(self) -> None:
+        """A statement took too long: a server that was replaced may be waiting for its standby."""
+        if self.url.are_several and not self._closing:
+            self._spawn(self._choose_host())
+
+    async def _choose_host(self) -> None:
+        line = await self.url.choose(connections.address(self.url))
+        if line is not None and line > self._line and not self._closing:
+            self._is_known(line, cuts=True)
+            self._writer.cut()
+            if self._announcer:  # the server before would tell nothing more
+                self._announcer.news.listener.cut()
+
+    def _check_age(self, line: str) -> None:
+        """Raises `StoreUnavailable` at a server that was replaced, where the URL has another."""
+        if self.url.are_several and line < self._line:
+            raise StoreUnavailable(
+                f"{self.path}: a server of timeline {line} answers, which one of timeline "
+                f"{self._line} has replaced. Stop the former; or start this node again, if the "
+                "store was restored there"
+            )
+
+    def _is_known(self, line: str, cuts: bool = False) -> bool:
         """Whether this is the server that was there before. Another one may lack commits: then
-        each log is taken up again before anything is written."""
+        each log is taken up again before anything is written. `cuts`: what the server before is
+        asked has no answer any more."""
         if line == self._line:
             return True
         logger.warning("%s: another server has taken over. Opening its shards again", self.path)
         self._line = line
         if self.record:
             self.record.moved(line)
-        self._writer.events.clear()  # so that what was decided before is not written
+        self._begin_again(cuts)
+        return False
+
+    def _driven(self) -> set[int]:
+        return {*self._watcher.logs()} if self._watcher else set()
+
+    def _begin_again(self, cuts: bool = False) -> None:
+        """The database may lack commits: nothing that was decided before is written, and each log
+        is taken up again. `cuts`: questions that were asked have no answer any more."""
+        self._writer.events.clear()
         self._keys.cut()
         self._let_go()
-        self._spawn(self.asker.renew())
-        self._spawn(self._questions.renew())
+        self._spawn(self.asker.renew(cuts))
+        self._spawn(self._questions.renew(cuts))
         if self._watcher:
             self._watcher.lapsed(is_older=True)
-        return False
 
     def _check_line(self, line: str) -> None:
         if line != self._line:
@@ -275,7 +328,8 @@ class PostgreSQL(queries.Questions):
 
     async def admit(self, name: str, bounds: Bounds, want: int, have: Sequence[int]) -> Grant:
         """Places of a step, over all nodes."""
-        return await self._places.take(name, bounds, want, have, self.lease.pause)
+        places = Places(self.asker, self.lease.node, self._say)
+        return await places.take(name, bounds, want, have, self.lease.pause)
 
     @property
     def line(self) -> str:
@@ -304,9 +358,16 @@ class PostgreSQL(queries.Questions):
         """Nothing: `then` is called as soon as the server's answer is there."""
 
     async def _check_server(self, link: connections.Link) -> None:
-        if not self._is_known(await connections.line_of(link)):
+        line = await connections.line_of(link)
+        self._check_age(line)
+        if not self._is_known(line):
             why = "another server has taken over, and its data is read first"
             raise StoreUnavailable(f"{self.path}: {why}")
+
+    def _say(self, words: list[str]) -> None:
+        """Tells the other nodes, behind what is in the store by now."""
+        if self._announcer:
+            self._announcer.say(words)
 
     def _kept(self, commit: Commit) -> None:
         """A commit is in the store: the others hear of it."""
@@ -330,9 +391,14 @@ class PostgreSQL(queries.Questions):
         line = self._line
         loaded = await self._loads.load(log, epoch, born)
         self._check_line(loaded.line if loaded else line)  # it may come over a connection of before
+        await self._continuity.compare(log, loaded.events if loaded else None)
         if loaded:
-            self._writer.events[log] = loaded.events
+            self._writer.reached(log, loaded.events, loaded.tail)
         return loaded
+
+    def forget(self, log: int) -> None:
+        """As `Database.forget`."""
+        self._writer.forget(log)
 
     async def spare(self, log: int) -> bool:
         """Gives a log back for another node to take, where one has come since that was tried."""
@@ -341,11 +407,14 @@ class PostgreSQL(queries.Questions):
     async def take_up(self, log: int, epoch: int) -> tuple[str, int] | None:
         """A log's lines and how many events they are; None where it is not this node's any more."""
         line = self._line
-        found = await self._loads.take_up(log, epoch, line)
-        if found is not None:
-            self._check_line(line)
-            self._writer.events[log] = found[1]
-        return found
+        read = await self._loads.take_up(log, epoch, line)
+        if read is None:
+            return None
+        self._check_line(line)
+        if self._continuity.lacks(log, read.events) or queries.damage_of(read.text, read.events):
+            return None  # that is looked at as after a failure
+        self._writer.reached(log, read.events, read.tail)
+        return read.text, read.events
 
     async def requests(self, after: int, most: int) -> list[Request]:
         """What was asked of the sagas of this node's logs."""
@@ -362,10 +431,14 @@ class PostgreSQL(queries.Questions):
         """Give back a start that this node took."""
         await saga_requests.give_back(self.asker, self.lease.node, start, why)
 
-    async def ask(self, row: SagaRow, what: str, value: str) -> Any:
+    async def ask(self, row: SagaRow, what: str, value: str, payloads: Payloads) -> Any:
         """Leaves a request for the node that has the saga, and waits for its answer."""
         assert self._announcer
-        return await saga_requests.ask(self.asker, self._announcer.news, row, what, value)
+        return await saga_requests.ask(self.asker, self._announcer.news, row, what, value, payloads)
+
+    async def replicated(self) -> None:
+        """Waits until the synchronous standbys have what was read."""
+        await self.asker.replicated()
 
     async def news(self, id: int, turn: int) -> None:
         """Returns when the saga may have ended, or after a while, which is longer each turn."""

@@ -6,15 +6,15 @@ import asyncio
 import contextlib
 import functools
 import time
-from collections.abc import Callable, Coroutine, Sequence
+from collections.abc import Callable, Collection, Coroutine, Sequence
 from typing import Any, Optional
 
 from psycopg import errors
 from sagas.base.errors import StoreUnavailable
-from sagas.core.batch import Batch
+from sagas.core.batch import Batch, Tail
 from sagas.storage.interface import Then
 from sagas.storage.postgresql import connections
-from sagas.storage.postgresql.commit_statement import Commit
+from sagas.storage.postgresql.commit_statement import HAS_MOVED, Commit
 from sagas.storage.postgresql.prepared import Values, Wire
 from sagas.storage.record_file import RecordFile
 
@@ -29,8 +29,9 @@ written.
 
 
 class Writer:
-    """`events`: how many each log has, by what the server said. `check`: called with a new
-    connection, and raises where it is not to be used; `refused`: called where there is none to
+    """`events`: how many each log has, by what the server said: the log that was read or written
+    last is the last one. `tails`: the last chunk of each log that has any. `check`: called with a
+    new connection, and raises where it is not to be used; `refused`: called where there is none to
     be had. `record`: what is sent and heard is written to it.
     """
 
@@ -47,10 +48,13 @@ class Writer:
         self._url, self._where, self._node = url, where, node.encode()
         self._check, self._kept, self._refused = check, kept, refused
         self.record = record
+        self.late: Callable[[], object] = lambda: None
+        """Called where a commit took too long."""
         self.commits = 0
         self.takes = 0.0
         """Seconds that a commit takes, in the middle of the last ones."""
         self.events: dict[int, int] = {}
+        self.tails: dict[int, Tail] = {}
         self._wire: Wire | None = None
         self._job: asyncio.Task[None] | None = None
         self._rests = asyncio.Event()
@@ -66,6 +70,27 @@ class Writer:
             self._spawn(self._connect(batches, then))
         else:
             self._write(self._wire, batches, functools.partial(self._came, batches, then))
+
+    def reached(self, log: int, events: int, tail: Tail | None) -> None:
+        """A log was read, or written, to this chunk."""
+        self.events.pop(log, None)
+        self.events[log] = events
+        if tail is not None:
+            self.tails[log] = tail
+        else:
+            self.tails.pop(log, None)
+
+    def latest(self, logs: Collection[int]) -> tuple[int, Tail] | None:
+        """Return which of these logs was read or written last, and its tail."""
+        for log in reversed(self.events):
+            if log in logs and log in self.tails:
+                return log, self.tails[log]
+        return None
+
+    def forget(self, log: int) -> None:
+        """What is known of a log does not count any more: it has a later epoch."""
+        self.events.pop(log, None)
+        self.tails.pop(log, None)
 
     def cut(self) -> None:
         """What the connection was doing is over, or is fenced by the epoch that follows."""
@@ -128,7 +153,7 @@ class Writer:
 
     def _write(self, wire: Wire, batches: Sequence[Batch], came: Came) -> None:
         try:
-            commit = Commit(batches, lambda log: self.events.get(log, 0))
+            commit = Commit(batches, lambda log: self.events.get(log, 0), self.tails)
             text, words = commit.words(self._node)
         except Exception as error:  # told to the coordinator, which begins again from the database
             asyncio.get_running_loop().call_soon(came, NONE, error)
@@ -145,20 +170,28 @@ class Writer:
         if fault is not None:
             if not isinstance(fault, OF_ONE):
                 self.cut()
+                if isinstance(fault, (TimeoutError, errors.QueryCanceled)):
+                    self.late()
                 if self.record:
                     self.record.unanswered()
             elif self.record:
                 self.record.failed()
             return NONE, fault
-        mine = {int(log) for (log,) in rows if log is not None}
+        mine = {int(row[0]) for row in rows if row[0] is not None}
+        if HAS_MOVED in mine:
+            mine.discard(HAS_MOVED)
+            commit.has_moved = True
+        if commit.rows("withdrawn"):
+            commit.answer(next((row[1] for row in rows if row[1] is not None), None))
         if self.record is not None:
             self.record.heard(commit, mine)
             if commit.rare:
                 self._note_closed(self.record, commit, mine)
         self.commits += 1
+        tails = {log: Tail(first, at) for log, first, at, *_ in commit.rows("lines")}
         for log, events in commit.events.items():
             if log in mine:
-                self.events[log] = events
+                self.reached(log, events, tails.get(log) or self.tails.get(log))
         self._kept(commit)
         lost = commit.epochs.keys() - mine
         return frozenset(lost) if lost else NONE, None

@@ -60,6 +60,7 @@ WHERE attempt = :attempt AND {TAKES.format(lease=":lease", outcome=":outcome")}
 """
 SHARD = "SELECT shard FROM external_attempts WHERE attempt = ?"
 FIND = "SELECT lease, outcome, value, reported FROM external_attempts WHERE attempt = ?"
+OUTCOME = "SELECT outcome FROM external_attempts WHERE attempt = ?"
 ALL_REPORTED = (
     f"SELECT attempt, outcome, value, shard FROM external_attempts WHERE {REPORTED_IN_PAIRS}"
 )
@@ -72,11 +73,6 @@ ADVANCE = """
 INSERT OR REPLACE INTO progress SELECT id, step, action, number, ?, ?, ?
 FROM external_attempts WHERE attempt = ?
 """
-WITHDRAW = f"""
-UPDATE external_attempts SET outcome = 'withdrawn'
-WHERE attempt = ? AND lease IS NULL AND ({OPEN} OR outcome = 'withdrawn') RETURNING 1
-"""
-"""Also of what is withdrawn already: the first answer may have been lost."""
 
 
 def _answers(db: sqlite3.Connection, some: Sequence[Asked], now: float) -> list[Any]:
@@ -217,14 +213,15 @@ class SqliteExternalAttempts:
         rows = self._rows(FIND, attempt)
         return Row(*rows[0]) if rows else None
 
+    async def outcomes(self, attempts: Sequence[str]) -> dict[str, str | None]:
+        rows = {attempt: self._rows(OUTCOME, attempt) for attempt in attempts}
+        return {attempt: found[0][0] for attempt, found in rows.items() if found}
+
     async def reported(self, shards: Sequence[int]) -> list[Report]:
         return [Report(*row[:3]) for row in self._rows(ALL_REPORTED) if row[3] in shards]
 
     async def waiting(self) -> list[Waiting]:
         return [Waiting(*row) for row in self._rows(WAITING, self.clock())]
-
-    async def withdraw(self, attempt: str) -> bool:
-        return bool(await self._within(lambda db: db.execute(WITHDRAW, (attempt,)).fetchall()))
 
     async def tell(self) -> None:
         """There is nobody else."""

@@ -21,7 +21,7 @@ CREATE TABLE shard_definitions(
   PRIMARY KEY(shard, place)) WITHOUT ROWID;
 
 -- closed: 0 it is driven, 1 it is settled and its audit said yes, 2 it is settled and its audit
--- said no; audit: what it said.
+-- said no; audit: what it said, or of one that is driven why no program can open it.
 CREATE TABLE shards(
   shard INTEGER PRIMARY KEY, name TEXT NOT NULL UNIQUE,
   closed INTEGER NOT NULL DEFAULT 0, audit TEXT);
@@ -152,7 +152,8 @@ CREATE TABLE schedules(
   catch_up TEXT NOT NULL, next_at REAL NOT NULL, last_at REAL, paused INTEGER NOT NULL DEFAULT 0,
   error TEXT) WITHOUT ROWID;
 
--- What nobody outside may know. `leases`: the key by which leases of workers are signed, in hex.
+-- What nobody outside may know. `leases`: the key by which leases of workers are signed, in hex;
+-- `codec`: there since a program with a codec opened the store, whose values are encoded.
 CREATE TABLE secrets(name TEXT PRIMARY KEY, value TEXT NOT NULL) WITHOUT ROWID;
 """
 

@@ -7,7 +7,7 @@ import sqlite3
 from collections.abc import Callable, Iterable, Sequence
 from typing import Any
 
-from sagas.core.batch import Defined, Rare
+from sagas.core.batch import Defined, Rare, Withdrawal
 from sagas.definition.serialization import clean, cleaned
 from sagas.storage import external
 from sagas.storage.sqlite.deliveries import DELIVERIES
@@ -40,6 +40,9 @@ UPDATE external_attempts SET outcome = ?2, until = NULL
 WHERE attempt = ?1 AND (outcome IS NULL
   OR outcome IN ('unknown', 'suspended') OR outcome IN ('failed', 'failed_permanently'))
 """
+WITHDRAWN = f"""
+UPDATE external_attempts SET outcome = 'withdrawn' WHERE attempt = ? AND {external.UNCLAIMED}
+"""
 SETTLED = """
 UPDATE external_attempts SET outcome = 'settled', value = NULL,
 shard = CASE WHEN outcome IS NOT 'succeeded' OR ?2 = 'succeeded' THEN shard END WHERE attempt = ?1
@@ -52,6 +55,7 @@ ANSWERS = "UPDATE operator_commands SET answer = ? WHERE id = ?"
 ASKED = "INSERT INTO operator_commands(key, command, value, at, answer) VALUES(?, ?, ?, ?, ?)"
 NOTES = "UPDATE sagas SET note = ? WHERE id = ? AND note IS NULL"
 CLOSED = "UPDATE shards SET closed = ?, audit = ? WHERE shard = ?"
+SET_ASIDE = "UPDATE shards SET audit = ? WHERE shard = ? AND closed = 0"
 RowsOf = Callable[[int, Rare], Sequence[Sequence[Any]]]
 """The words of a part of a batch, by the number of its log."""
 PARTS: dict[str, tuple[str, RowsOf]] = {
@@ -65,6 +69,7 @@ PARTS: dict[str, tuple[str, RowsOf]] = {
     "offers": (OFFERS, lambda log, of: of.offers),
     "cancelled": (CANCELLED, lambda log, of: of.cancelled),
     "suspended": (SUSPENDED, lambda log, of: [(at, came) for at, _, came in of.suspended]),
+    "withdrawn": (WITHDRAWN, lambda log, of: ()),
     "settled": (SETTLED, lambda log, of: [(at, came) for at, _, came in of.settled]),
     "deliveries": (DELIVERIES, lambda log, of: [cleaned(row) for row in of.deliveries]),
     "spans": (SPANS, lambda log, of: [cleaned(row) for row in of.spans]),
@@ -72,9 +77,10 @@ PARTS: dict[str, tuple[str, RowsOf]] = {
     "asked": (ASKED, lambda log, of: [(*row, answer) for row, answer in of.asked]),
     "notes": (NOTES, lambda log, of: [(clean(note), id) for note, id in of.notes]),
     "closed": (CLOSED, lambda log, of: [(*of.closed, log)] if of.closed else ()),
+    "set_aside": (SET_ASIDE, lambda log, of: [(*of.set_aside, log)] if of.set_aside else ()),
 }
-"""The statement of each part of a batch, in their order. `work` is done by itself; definitions are
-written before all (`define`)."""
+"""The statement of each part of a batch, in their order. `work` and `withdrawn` are done by
+themselves; definitions are written before all (`define`)."""
 
 
 def define(db: sqlite3.Connection, logs: Iterable[tuple[int, Sequence[Defined]]]) -> None:
@@ -83,6 +89,12 @@ def define(db: sqlite3.Connection, logs: Iterable[tuple[int, Sequence[Defined]]]
     if rows:
         db.executemany(DEFINITION, [row[2:] for row in rows])
         db.executemany(DEFINED, [row[:3] for row in rows])
+
+
+def withdraw(db: sqlite3.Connection, withdrawals: Iterable[Withdrawal]) -> None:
+    """Withdraws attempts, as far as no worker has them."""
+    for one in withdrawals:
+        one.is_done = db.execute(WITHDRAWN, (one.attempt,)).rowcount > 0
 
 
 @functools.lru_cache(maxsize=256)

@@ -9,17 +9,26 @@ import os
 import secrets
 import shlex
 import sqlite3
+import threading
 import time
 from collections.abc import Sequence
 from typing import Any
 
-from sagas.base.errors import InvalidStore, MissingStep, SagasError, StoreLocked, StoreUnavailable
+from sagas.base.errors import (
+    InvalidStore,
+    MissingStep,
+    OwnerUnavailable,
+    SagasError,
+    StoreLocked,
+    StoreUnavailable,
+)
 from sagas.base.fork_guard import private
 from sagas.base.logger import logger
 from sagas.core.batch import Born, Grant, Loaded, LogRow, Request, SagaRow, Start
+from sagas.definition.payloads import Payloads
 from sagas.definition.serialization import cleaned
 from sagas.definition.step import Bounds
-from sagas.storage import queries
+from sagas.storage import codec_note, queries
 from sagas.storage.external import ExternalAttempts
 from sagas.storage.interface import Drives, Watcher
 from sagas.storage.record_file import RecordFile
@@ -73,15 +82,17 @@ class Sqlite(queries.Questions, queries.Rows):
     blobs = None
     record: RecordFile | None = None
 
-    def __init__(self, path: str | os.PathLike[str]) -> None:
-        self.path = os.fspath(path)
+    def __init__(self, path: str | os.PathLike[str], encodes: bool = False) -> None:
+        """`encodes`: whether there is a codec."""
+        self.path, self._encodes = os.fspath(path), encodes
         self.file = os.path.abspath(path)
         self._lock: int | None = None
         self._there: dict[str, tuple[int, int]] = {}  # its files, as they were at the opening
         self._timer: asyncio.Handle | None = None
+        self._faults = threading.Lock()
         self._next_log = 0
         self.external: ExternalAttempts = SqliteExternalAttempts(self.rows)
-        self._writer = writer = Writer()
+        self._writer = writer = Writer(self._check_files)
         self.commit, self.settle = (
             writer.commit,
             writer.settle,
@@ -103,6 +114,7 @@ class Sqlite(queries.Questions, queries.Rows):
         lengthen(self._db)
         self._there = {name: there(name) for name in (self.file, f"{self.file}-wal")}
         self._writer.open(self._db)
+        self._note_codec()
         self._next_log = int(self.rows("SELECT coalesce(max(shard) + 1, 0) FROM shards")[0][0])
         rows = self.open_logs()
         for row in rows:
@@ -135,6 +147,18 @@ class Sqlite(queries.Questions, queries.Rows):
         except BaseException:
             self._drop_lock()
             raise
+
+    def _note_codec(self) -> None:
+        """Notes that values are encoded. Raises `MissingCodec` where they are, and there is no
+        codec."""
+        try:
+            is_noted = bool(self._db.execute(codec_note.NOTED).fetchall())
+            if self._encodes and not is_noted:
+                self._db.execute(codec_note.NOTE)
+        except sqlite3.Error as error:
+            raise StoreUnavailable(f"{self.path}: {told(error)}") from error
+        if is_noted and not self._encodes:
+            raise codec_note.missing(self.path)
 
     def _take_lock(self) -> None:
         check_file(self.path)
@@ -177,7 +201,8 @@ class Sqlite(queries.Questions, queries.Rows):
         def look() -> None:
             nonlocal version
             self._timer = loop.call_later(LOOK, look)
-            self._look_for_files()
+            with contextlib.suppress(StoreUnavailable):
+                self._check_files()
             self._look_for_lock()
             with contextlib.suppress(StoreUnavailable):
                 now = self.rows("PRAGMA data_version")[0][0]
@@ -187,20 +212,22 @@ class Sqlite(queries.Questions, queries.Rows):
 
         self._timer = loop.call_soon(look)
 
-    def _look_for_files(self) -> None:
+    def _check_files(self) -> None:
         """Where one was deleted or replaced, SQLite would write on into what nobody will find:
-        from then on nothing is.
+        from then on nothing is. Raises `StoreUnavailable`.
         """
         for name, was in self._there.items():
             if there(name) != was:
                 remedy = (
-                    "later commits are lost. Close the store, restore the file (a copy with its "
-                    "-wal, or a backup), and open it again"
+                    "nothing is written any more. Close the store, restore the file (a copy with "
+                    "its -wal, or a backup), and open it again"
                 )
                 self._give_up(
                     f"{self.path}: {name} was deleted or replaced while the store was open, so "
                     f"{remedy}"
                 )
+        if self._writer.fault:
+            raise self._writer.fault
 
     def _look_for_lock(self) -> None:
         """Where it was deleted another program could open the store: it is made again."""
@@ -218,9 +245,12 @@ class Sqlite(queries.Questions, queries.Rows):
             os.close(lock)
 
     def _give_up(self, why: str) -> None:
-        if not self._writer.fault:
+        """The first reason stays. Either thread may see it."""
+        with self._faults:
+            if self._writer.fault:
+                return
             self._writer.fault = StoreUnavailable(why)
-            logger.critical("%s", why)
+        logger.critical("%s", why)
 
     async def close(self) -> None:
         """Ends the writer behind what it was given."""
@@ -299,6 +329,9 @@ class Sqlite(queries.Questions, queries.Rows):
         """Another connection, for a thread that only reads."""
         return Reader(self.file)
 
+    def forget(self, log: int) -> None:
+        """Nothing is known but what is read."""
+
     async def spare(self, log: int) -> bool:
         """There is nobody else."""
         return False
@@ -320,6 +353,7 @@ class Sqlite(queries.Questions, queries.Rows):
         )
         loaded = Loaded(text, events, opened, open, results, held, epoch)  # type: ignore[arg-type]
         loaded.definitions = self.rows(queries.DEFINITIONS, log)[0][0]
+        loaded.damage = queries.damage_of(text, events)
         return loaded
 
     async def find(self, key: str) -> SagaRow | None:
@@ -340,10 +374,16 @@ class Sqlite(queries.Questions, queries.Rows):
         """There are none."""
         raise NotImplementedError
 
-    async def ask(self, row: SagaRow, what: str, value: str) -> Any:
-        """Nobody else has the sagas of a file."""
-        raise NotImplementedError
+    async def ask(self, row: SagaRow, what: str, value: str, payloads: Payloads) -> Any:
+        """Nobody else has the sagas of a file, so the shard of this one is set aside."""
+        raise OwnerUnavailable(
+            f"saga {row.key!r} is not executed, because its shard is damaged. Repair the shard, or "
+            "delete it: `sagas store STORE attention` lists its sagas"
+        )
+
+    async def replicated(self) -> None:
+        """A file has no standby."""
 
     async def news(self, id: int, turn: int) -> None:
-        """Nobody else ends a saga of a file."""
-        raise NotImplementedError
+        """A saga ends when its shard, which is set aside, is repaired: that is seldom."""
+        await asyncio.sleep(min(MOST_LOOK, LOOK * 2 ** min(turn, 10)))

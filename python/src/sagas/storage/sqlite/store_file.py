@@ -27,7 +27,10 @@ RIGHTS = "this user must be able to read and write it, and to write to its folde
 
 
 def connect(path: str, synchronous: str = "FULL") -> sqlite3.Connection:
-    """A connection that commits where it is told to."""
+    """A connection that commits where it is told to. A file that it makes is its user's alone, and
+    so are those that SQLite makes for it."""
+    with contextlib.suppress(OSError):  # it is there, or SQLite says why it cannot be
+        os.close(os.open(path, os.O_RDWR | os.O_CREAT | os.O_EXCL | os.O_CLOEXEC, 0o600))
     db = sqlite3.connect(
         path,
         isolation_level=None,
@@ -44,7 +47,15 @@ def connect(path: str, synchronous: str = "FULL") -> sqlite3.Connection:
 def told(error: sqlite3.Error) -> str:
     """What SQLite says, and what to do about it where the file cannot be opened or written."""
     text = str(error)
+    if is_of_disk(error):
+        return f"{text}. Make room if the disk is full, and check it otherwise"
     return f"{text}: {RIGHTS}" if "readonly" in text or "unable to open" in text else text
+
+
+def is_of_disk(error: sqlite3.Error) -> bool:
+    """Whether the disk is full, or could not be read or written: of the file it says nothing."""
+    code = getattr(error, "sqlite_errorcode", 0) & 0xFF
+    return code in (sqlite3.SQLITE_FULL, sqlite3.SQLITE_IOERR)
 
 
 def check_file(path: str) -> None:

@@ -16,7 +16,7 @@ import queue
 import sqlite3
 import threading
 import time
-from collections.abc import Iterable, Sequence
+from collections.abc import Callable, Iterable, Sequence
 from typing import Any
 
 from sagas.core.batch import Batch, Ended, Rare
@@ -74,13 +74,15 @@ class Gap(Exception):
 
 class Writer:
     """Has the connection that writes, from `open` on. `events`: how many each log has, by what
-    was read or written last.
+    was read or written last. `check`: called before each commit, in either thread, and raises
+    where its files are not those that were opened.
     """
 
     _db: sqlite3.Connection
     _thread: threading.Thread | None = None
 
-    def __init__(self) -> None:
+    def __init__(self, check: Callable[[], None]) -> None:
+        self._check = check
         self.commits = 0
         self.events: dict[int, int] = {}
         self._jobs: queue.SimpleQueue[
@@ -258,6 +260,7 @@ class Writer:
                 self._moves = None
                 self._db.execute(f"PRAGMA wal_autocheckpoint = {CHECKPOINT if patient else MOST}")
                 self._moves = patient
+            self._check()
             began = time.perf_counter()
             self._execute("COMMIT")
         except BaseException:
@@ -342,6 +345,9 @@ class Writer:
                 for _, of in rare:
                     for work in of.work:
                         work(self._db)
+            elif part == "withdrawn" and part in has:
+                for _, of in rare:
+                    statements.withdraw(self._db, of.withdrawn)
             elif part in has:
                 self._many(statement, [rows_of(log, of) for log, of in rare])
 

@@ -1,0 +1,24 @@
+"""Values of modules that options name, as `MODULE:NAME`."""
+
+from __future__ import annotations
+
+import importlib
+import sys
+from typing import Any
+
+
+def loaded(option: str, place: str) -> Any:
+    """Return what a module has by a name. The current folder is searched, too.
+
+    Raises:
+        ValueError: The place has another form, or the module or the name does not exist.
+    """
+    module, _, name = place.partition(":")
+    if not name or not module or module.startswith("."):
+        raise ValueError(f"invalid {option} {place!r}: use MODULE:NAME")
+    if "" not in sys.path:
+        sys.path.insert(0, "")
+    try:
+        return getattr(importlib.import_module(module), name)
+    except (ImportError, AttributeError) as error:
+        raise ValueError(f"cannot load {option} {place}: {error}") from error

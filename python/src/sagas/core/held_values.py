@@ -1,0 +1,90 @@
+"""Values of open sagas, of which large ones are held only while a function may read them."""
+
+from __future__ import annotations
+
+import dataclasses
+from collections.abc import Iterable, Mapping
+from typing import NamedTuple
+
+from sagas.core.suspensions import SagaExtras
+from sagas.definition.payloads import ABSENT
+from sagas.definition.shape_values import ShapeValues
+from sagas.definition.start_options import StartOptions
+
+LARGE = 4096
+"""Characters of a stored value from which on it is not held all the time."""
+
+
+class StoredValues(NamedTuple):
+    """What the store has of a saga: its input, what is kept of its shape, and results by step."""
+
+    text: str
+    shape: str | None
+    results: Mapping[int, str]
+
+
+class HeldValues:
+    """The values of a saga, as they are stored. One that is not held is `ABSENT`.
+
+    Attributes:
+        text: Its input, as JSON.
+        options: What its start said; of one that another program started its deadline and trace
+            context alone.
+        results: The results of the steps that stand. A compensation puts another dict here, so
+            that each attempt keeps the one that it began with.
+        is_large: Whether a large value is held.
+        is_partial: Whether a value may not be held.
+    """
+
+    __slots__ = ("text", "options", "results", "is_large", "is_partial", "_extras")
+    text: str
+    options: StartOptions
+    results: dict[int, str]
+    is_large: bool
+    is_partial: bool
+    _extras: SagaExtras | None
+
+    def take(self, text: str, options: StartOptions) -> None:
+        """Hold its input and its shape."""
+        self.text, self.options = text, options
+        shape = options.shape or ""
+        self.is_large = len(text) > LARGE or len(shape) > LARGE
+        self.is_partial = ABSENT in (text, shape)
+
+    def put_result(self, step: int, value: str) -> None:
+        """Hold the result of a step."""
+        self.results[step] = value
+        if value == ABSENT:
+            self.is_partial = True
+        elif len(value) > LARGE:
+            self.is_large = True
+
+    def drop(self, results: Iterable[dict[int, str]]) -> None:
+        """Hold no large value any more. `results`: those of its attempts."""
+        if len(self.text) > LARGE:
+            self.text = ABSENT
+        if self.options.shape is not None and len(self.options.shape) > LARGE:
+            self.options = dataclasses.replace(self.options, shape=ABSENT)
+            if self._extras is not None and (shape := self._extras.shape) is not None:
+                self._extras.numbering = ShapeValues.of_told(shape.told(()))
+                self._extras.shape = None
+        for some in (self.results, *results):
+            for step, value in some.items():
+                if len(value) > LARGE:
+                    some[step] = ABSENT
+        self.is_large, self.is_partial = False, True
+
+    def fill(self, stored: StoredValues, results: dict[int, str]) -> None:
+        """Hold what the store has. `results`: those of the attempt that is about to be called."""
+        self.take(stored.text, dataclasses.replace(self.options, shape=stored.shape))
+        for step, value in stored.results.items():
+            if step in results:
+                results[step] = value
+        self.is_large = self.is_partial = True  # others may have other results
+
+    @property
+    def is_whole(self) -> bool:
+        """Whether all of it is held."""
+        return not self.is_partial or ABSENT not in (
+            self.text, self.options.shape, *self.results.values()
+        )  # fmt: skip

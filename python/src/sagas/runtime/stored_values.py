@@ -1,0 +1,71 @@
+"""Reads values of open sagas that are not held, when a function needs them."""
+
+from __future__ import annotations
+
+import asyncio
+from collections.abc import Callable, Sequence
+
+from sagas.core.held_values import StoredValues
+from sagas.core.model import Attempt
+from sagas.runtime.executor_host import Host
+from sagas.runtime.retries import until_answered
+from sagas.storage.interface import Database
+
+AT_ONCE = 4
+"""Attempts for which values are read at the same time, so that few of them are in memory."""
+INPUT = """
+SELECT s.input, (SELECT p.shape FROM shapes p WHERE p.id = s.id) FROM sagas s WHERE s.id = ?
+"""
+RESULTS = """
+SELECT step, value FROM attempts WHERE id = ? AND action = 'run' AND event = 'commit' AND step IN
+"""
+
+
+async def of(store: Database, id: int, steps: Sequence[int]) -> StoredValues | None:
+    """What the store has of a saga, with the results of these steps; None where it is gone."""
+    rows = await store.read(INPUT, id)
+    marks = ", ".join("?" * len(steps))
+    results = await store.read(f"{RESULTS} ({marks})", id, *steps) if steps else []
+    if not rows:
+        return None
+    text, shape = rows[0]
+    return StoredValues(text, shape, {step: value or "null" for step, value in results})
+
+
+class ValueReader:
+    """Reads what attempts lack.
+
+    Attributes:
+        count: How often something was read.
+    """
+
+    def __init__(self, host: Host) -> None:
+        self._host, self._places = host, asyncio.Semaphore(AT_ONCE)
+        self.count = 0
+
+    async def fill(self, attempt: Attempt) -> None:
+        """Read what an attempt lacks. It asks until the store answers."""
+        async with self._places:
+            await self._fill(attempt)
+
+    async def then(self, attempt: Attempt, go_on: Callable[[Attempt], None]) -> None:
+        """Read what an attempt lacks, and go on with it, unless something became of it meanwhile.
+        Its values are held no longer than that takes, if it waits then.
+        """
+        state = attempt.state
+        async with self._places:
+            await self._fill(attempt)
+            is_here = attempt.instance.busy.get(attempt.word) is attempt
+            if is_here and attempt.state is state and not attempt.pending:
+                go_on(attempt)
+            attempt.instance.release()
+
+    async def _fill(self, attempt: Attempt) -> None:
+        if not attempt.lacks():
+            return
+        self.count += 1
+        instance = attempt.instance
+        steps = [number for number, _ in attempt.action.given] + [attempt.step]
+        stored = await until_answered(lambda: of(self._host.store, instance.id, steps))
+        if stored is not None:  # else the saga is gone, and so is the attempt
+            instance.fill(stored, attempt.results)

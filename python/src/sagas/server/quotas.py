@@ -1,0 +1,157 @@
+"""Quotas of tokens: how many sagas that they started may be open, with how much input.
+
+The store has with each saga who started it, so that a restart forgets nothing, and other services
+of the database count. Between two counts, the starts of this service are added.
+"""
+
+from __future__ import annotations
+
+import asyncio
+import dataclasses
+import time
+from collections.abc import Awaitable, Callable
+from typing import NamedTuple
+
+from sagas.base.errors import SagasError
+from sagas.inspection import lists
+from sagas.inspection.question import Question
+from sagas.server.auth import Who
+from sagas.server.problems import Problem
+
+OLD = 10.0
+"""Seconds after which is counted again, in the background."""
+SHARE = 10
+"""Of a service's time, at most this part is spent on counts: one tenth."""
+NEVER = float("-inf")
+LEAST = 0.05
+"""Seconds between two counts, at least."""
+
+
+class Quota(NamedTuple):
+    """What may be open: so many sagas, and bytes of their inputs as JSON."""
+
+    sagas: int = 10_000
+    bytes: int = 1 << 30
+
+
+@dataclasses.dataclass(eq=False, slots=True)
+class Place:
+    """A start that no count has.
+
+    Attributes:
+        name: The name of the token.
+        size: Bytes of its input, as far as is known.
+        done_at: When it was in the store; None until then.
+    """
+
+    name: str
+    size: int
+    done_at: float | None = None
+
+
+class Quotas:
+    """Admits starts."""
+
+    def __init__(
+        self,
+        default: Quota,
+        ask: Callable[[Question[lists.OpenByToken]], Awaitable[lists.OpenByToken]],
+    ) -> None:
+        self._default, self._ask = default, ask
+        self._counted: lists.OpenByToken = {}
+        self._began = self._next = NEVER
+        self._counting: asyncio.Task[None] | None = None
+        self._places: dict[Place, None] = {}
+        self._added: dict[str, Quota] = {}  # what these are in all, by the names of tokens
+
+    def of(self, who: Who) -> Quota:
+        """The quota of a token."""
+        sagas, size = who.limits.open_sagas, who.limits.open_bytes
+        default = self._default
+        return Quota(
+            default.sagas if sagas is None else sagas, default.bytes if size is None else size
+        )
+
+    async def take(
+        self, who: Who, size: int, is_there: Callable[[], Awaitable[bool]]
+    ) -> Place | None:
+        """Admit a start; None where there is such a saga: it takes no place.
+
+        Args:
+            who: The token.
+            size: Bytes of the input, as far as is known.
+            is_there: Whether the key has a saga.
+
+        Raises:
+            Problem: The quota is used up.
+        """
+        asked, quota = time.monotonic(), self.of(who)
+        if asked > self._began + OLD:
+            counting = self._begin()
+            if self._began == NEVER:
+                await asyncio.shield(counting)
+        if self._left(who.name, quota, size) < 0:
+            while self._began < asked:
+                await self._count()
+            if self._left(who.name, quota, size) < 0:
+                if await is_there():
+                    return None
+                raise Problem(
+                    "QuotaExceeded",
+                    f"{who.name} may have {quota.sagas:,} open sagas with {quota.bytes:,} bytes of "
+                    "input in all: wait until some of them have ended",
+                )
+        place = Place(who.name, size)
+        self._places[place] = None
+        self._add(place, 1)
+        return place
+
+    def _add(self, place: Place, sign: int) -> None:
+        sagas, total = self._added.get(place.name, (0, 0))
+        self._added[place.name] = Quota(sagas + sign, total + sign * place.size)
+
+    def done(self, place: Place, is_new: bool) -> None:
+        """A start was answered: it made a saga, or none."""
+        if is_new:
+            place.done_at = time.monotonic()
+        elif place in self._places:
+            del self._places[place]
+            self._add(place, -1)
+
+    def _left(self, name: str, quota: Quota, size: int) -> int:
+        """Below 0 where one more is too many."""
+        sagas, total = self._counted.get(name, (0, 0))
+        added = self._added.get(name, (0, 0))
+        return min(quota.sagas - sagas - added[0] - 1, quota.bytes - total - added[1] - size)
+
+    async def _count(self) -> None:
+        """Wait for a count; those that begin before the time for one wait for that."""
+        if (pause := self._next - time.monotonic()) > 0 and self._counting is None:
+            await asyncio.sleep(pause)
+        await asyncio.shield(self._begin())
+
+    def _begin(self) -> asyncio.Task[None]:
+        if self._counting is None:
+            self._counting = asyncio.get_running_loop().create_task(self._work())
+        return self._counting
+
+    async def _work(self) -> None:
+        began = time.monotonic()
+        try:
+            self._counted = await self._ask(lists.open_by_token())
+        except SagasError:
+            return  # the start says that the store does not answer
+        finally:
+            self._counting = None
+            ended = time.monotonic()
+            self._next = ended + max(LEAST, SHARE * (ended - began))
+            self._began = began
+        places = [one for one in self._places if one.done_at is None or one.done_at > began]
+        self._places, self._added = dict.fromkeys(places), {}
+        for place in places:
+            self._add(place, 1)
+
+    async def rest(self) -> None:
+        """Wait until nothing is counted."""
+        if self._counting is not None:
+            await asyncio.wait([self._counting])

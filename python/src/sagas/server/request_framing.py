@@ -1,0 +1,168 @@
+"""Where each request of a connection ends, before any other program reads it.
+
+What two programs may read in two ways is refused here: folded headers, lines that end without a
+carriage return, two lengths, transfer codings other than `chunked`, and HTTP/0.9. A proxy before
+the service may have read another request than the server behind this.
+"""
+
+from __future__ import annotations
+
+import re
+from collections.abc import Callable
+
+MOST_HEAD = 1 << 14
+"""Bytes of a head, or of what follows the last chunk."""
+MOST_CHUNK_LINE = 256
+TOKEN = rb"[!#$%&'*+.^_`|~0-9A-Za-z-]+"
+REQUEST_LINE = re.compile(rb"%b [!-~]+ HTTP/1\.([01])" % TOKEN)
+FIELD = re.compile(rb"(%b):[ \t]*([\t -~\x80-\xff]*)" % TOKEN)
+BARE = re.compile(rb"(?<!\r)\n")
+LENGTH = re.compile(rb"[0-9]{1,15}")
+CHUNK = re.compile(rb"([0-9A-Fa-f]{1,8})(?:[ \t]*;[\t -~\x80-\xff]*)?")
+
+
+class Malformed(Exception):
+    """What has come is no request that every program reads alike."""
+
+
+class RequestFraming:
+    """Divide what a client sends into requests.
+
+    Attributes:
+        is_between: Whether the last request that was taken is whole: what follows is another one.
+    """
+
+    def __init__(self) -> None:
+        self._buffer = bytearray()
+        self._left = self._trailer = 0
+        self._searched = 0  # bytes of a head in which its end is not
+        self._read: Callable[[], int] = self._head
+        self.is_between = True
+
+    def __len__(self) -> int:
+        """How many bytes have come that were not taken."""
+        return len(self._buffer)
+
+    def feed(self, data: bytes) -> None:
+        """More has come."""
+        self._buffer += data
+
+    def take(self) -> bytes:
+        """What has come of one request: its whole head, and its body as far as that is there. It is
+        empty where more has to come first.
+
+        Raises:
+            Malformed: It cannot be read, or not in one way alone.
+        """
+        parts = []
+        while self._buffer:
+            size = self._read()
+            if not size:
+                break
+            parts.append(bytes(self._buffer[:size]))
+            del self._buffer[:size]
+            if self.is_between:
+                break
+        return b"".join(parts)
+
+    def _head(self) -> int:
+        while self._buffer.startswith(b"\r\n"):  # some clients end a body with a line
+            del self._buffer[:2]
+        begin = max(0, self._searched - 3)
+        end = self._buffer.find(b"\r\n\r\n", begin, MOST_HEAD)
+        if end < 0:
+            if len(self._buffer) >= MOST_HEAD:
+                raise Malformed(f"its head has more than {MOST_HEAD} bytes")
+            if BARE.search(self._buffer, begin):
+                raise Malformed("a line of its head does not end with CR and LF")
+            self._searched = len(self._buffer)
+            return 0
+        self._searched = 0
+        first, *lines = bytes(self._buffer[:end]).split(b"\r\n")
+        request = REQUEST_LINE.fullmatch(first)
+        if not request:
+            raise Malformed("its first line is not METHOD TARGET HTTP/1.1")
+        self._begin_body(_fields(lines), is_old=request[1] == b"0")
+        return end + 4
+
+    def _begin_body(self, fields: list[tuple[bytes, bytes]], is_old: bool) -> None:
+        lengths = [value for name, value in fields if name == b"content-length"]
+        codings = [value.lower() for name, value in fields if name == b"transfer-encoding"]
+        if codings:
+            if codings != [b"chunked"] or lengths or is_old:
+                raise Malformed("its Transfer-Encoding is not the one coding chunked")
+            self._read, self.is_between = self._chunk_line, False
+            return
+        if len(lengths) > 1 or not all(map(LENGTH.fullmatch, lengths)):
+            raise Malformed("its Content-Length is not one number")
+        self._left = int(lengths[0]) if lengths else 0
+        self._read, self.is_between = self._body, False
+        if not self._left:
+            self._end()
+
+    def _end(self) -> None:
+        self._read, self.is_between = self._head, True
+
+    def _body(self) -> int:
+        size = min(self._left, len(self._buffer))
+        self._left -= size
+        if not self._left:
+            self._end()
+        return size
+
+    def _chunk_line(self) -> int:
+        line = self._line(MOST_CHUNK_LINE)
+        if line is None:
+            return 0
+        chunk = CHUNK.fullmatch(line)
+        if not chunk:
+            raise Malformed("a chunk does not begin with its size")
+        self._left = int(chunk[1], 16)
+        self._trailer = 0
+        self._read = self._chunk if self._left else self._trailer_line
+        return len(line) + 2
+
+    def _chunk(self) -> int:
+        if self._left:
+            size = min(self._left, len(self._buffer))
+            self._left -= size
+            return size
+        if len(self._buffer) < 2:
+            return 0
+        if not self._buffer.startswith(b"\r\n"):
+            raise Malformed("a chunk is longer than its size")
+        self._read = self._chunk_line
+        return 2
+
+    def _trailer_line(self) -> int:
+        line = self._line(MOST_HEAD - self._trailer)
+        if line is None:
+            return 0
+        self._trailer += len(line) + 2
+        if line:
+            _fields([line])
+        else:
+            self._end()
+        return len(line) + 2
+
+    def _line(self, limit: int) -> bytes | None:
+        """The next line without its end; None where it has not come."""
+        end = self._buffer.find(b"\n", 0, max(0, limit) + 2)
+        if end < 0:
+            if len(self._buffer) > limit:
+                raise Malformed("a line of its body is too long")
+            return None
+        if end == 0 or self._buffer[end - 1] != 13:
+            raise Malformed("a line of its body does not end with CR and LF")
+        return bytes(self._buffer[: end - 1])
+
+
+def _fields(lines: list[bytes]) -> list[tuple[bytes, bytes]]:
+    """Names in lower case, and values without blanks around. Raises `Malformed`."""
+    fields = []
+    for line in lines:
+        field = FIELD.fullmatch(line)
+        if not field:
+            raise Malformed("a header is not NAME: VALUE on one line")
+        fields.append((field[1].lower(), field[2].strip(b" \t")))
+    return fields

@@ -1,0 +1,36 @@
+"""The note in a store that its values are encoded.
+
+A program with a codec makes it when it opens the store. From then on the store is neither opened
+nor written without one.
+"""
+
+from __future__ import annotations
+
+from typing import TYPE_CHECKING
+
+from sagas.base.errors import MissingCodec
+from sagas.definition.payloads import Payloads
+
+if TYPE_CHECKING:
+    from sagas.storage.admin import Source
+
+NOTED = "SELECT 1 FROM secrets WHERE name = 'codec'"
+NOTE = "INSERT INTO secrets(name, value) VALUES('codec', 'noted') ON CONFLICT DO NOTHING"
+
+
+def missing(where: str) -> MissingCodec:
+    """Return what a program without a codec meets."""
+    return MissingCodec(
+        f"{where}: the values of this store are encoded, and this program has no codec. Give it "
+        "codec=, or --app MODULE:NAME to a command"
+    )
+
+
+def check(link: Source, payloads: Payloads) -> None:
+    """Check that a value may be written over a connection.
+
+    Raises:
+        MissingCodec: The store's values are encoded, and this program has no codec.
+    """
+    if payloads.codec is None and link.ask(NOTED):
+        raise missing(link.name)

@@ -1,0 +1,42 @@
+"""The note that values are encoded, among the nodes and clients of a database."""
+
+from __future__ import annotations
+
+from sagas.base.errors import StoreLocked
+from sagas.storage.codec_note import NOTE, NOTED, missing
+from sagas.storage.postgresql.connections import Asker, faults
+
+ALLOWS = "(%(encodes)s OR NOT EXISTS (SELECT 1 FROM secrets WHERE name = 'codec'))"
+"""Whether a node that encodes values, or does not, may have a lease."""
+ALONE = "LOCK TABLE nodes IN SHARE ROW EXCLUSIVE MODE"
+"""No node gets or renews a lease until the transaction ends; each sees the note afterwards."""
+PLAIN = "SELECT name FROM nodes WHERE lease > now() ORDER BY 1"
+"""The nodes that have the store open. Without a note, none of them has a codec."""
+
+
+async def agree(asker: Asker, encodes: bool) -> None:
+    """Note that values are encoded, or check that they are not.
+
+    Raises:
+        MissingCodec: They are, and this program has no codec.
+        StoreLocked: A node without a codec has the store open.
+    """
+    if await asker.read(NOTED):
+        if not encodes:
+            raise missing(asker.where)
+    elif encodes:
+        await asker.whole(_note(asker))
+
+
+async def _note(asker: Asker) -> None:
+    with faults(asker.where):
+        async with asker.pool.connection() as link, link.transaction():
+            await link.execute(ALONE)
+            nodes = await (await link.execute(PLAIN)).fetchall()
+            noted = await (await link.execute(NOTED)).fetchall()
+            if nodes and not noted:
+                raise StoreLocked(
+                    f"{asker.where}: node {nodes[0][0]} has this store open without a codec. Stop "
+                    "all nodes without one first"
+                )
+            await link.execute(NOTE)

@@ -1,0 +1,98 @@
+"""Notices commits that the database has lost.
+
+That is so where a backup was restored under a running node: the timeline, the owner of each log
+and its epoch are as before.
+"""
+
+from __future__ import annotations
+
+from collections.abc import Callable, Collection
+
+from sagas.base.errors import StoreUnavailable
+from sagas.base.logger import logger
+from sagas.core.batch import Tail
+from sagas.storage.postgresql import connections
+from sagas.storage.postgresql.writer import Writer
+
+LACKS = (
+    "the database lacks commits that this node wrote. A backup was restored while the node ran, or "
+    "the server lost them"
+)
+REMEDY = "Opening its shards again. Stop all nodes before you restore a backup"
+IS_THERE = "SELECT EXISTS (SELECT 1 FROM shards WHERE shard = %(log)s)"
+IMPATIENT = "SET LOCAL lock_timeout = '0.2s'"
+HAS = (
+    "SELECT EXISTS (SELECT 1 FROM event_log WHERE shard = %(log)s AND first_seq = %(first_seq)s "
+    "AND committed_at = %(committed_at)s)"
+)
+
+
+class Continuity:
+    """Compares what the database has with what it acknowledged.
+
+    A commit is refused where the chunk before it is missing. So a log is compared when it is read
+    again, and the last commit is looked for while there is no other.
+    """
+
+    def __init__(
+        self,
+        asker: connections.Asker,
+        questions: connections.Asker,
+        writer: Writer,
+        logs: Callable[[], Collection[int]],
+        begin_again: Callable[[], object],
+    ) -> None:
+        """`questions`: for a look that may wait. `logs`: those that this node drives.
+        `begin_again`: called where commits are missing.
+        """
+        self._asker, self._questions, self._writer = asker, questions, writer
+        self._logs, self._begin_again = logs, begin_again
+        self._commits = -1  # at the last look
+        self._is_looking = False
+
+    def lacks(self, log: int, events: int) -> bool:
+        """Whether so many events of a log are fewer than were written."""
+        return events < self._writer.events.get(log, 0)
+
+    async def compare(self, log: int, events: int | None) -> None:
+        """Compare how many events the database has of a log, None if it is not this node's, with
+        those that were written."""
+        written = self._writer.events.get(log, 0)
+        if events is not None:
+            if events < written:
+                self._tell(log, f"has {events} events, and {written} were written")
+        elif written and not (await self._asker.read(IS_THERE, log=log))[0][0]:
+            self._tell(log, f"is not there, and {written} of its events were written")
+
+    async def look(self) -> None:
+        """Look for the last commit if there was none since the last look. This is no part of a
+        beat, which waits for no table."""
+        is_quiet, self._commits = self._writer.commits == self._commits, self._writer.commits
+        last = self._writer.latest(self._logs()) if is_quiet and not self._is_looking else None
+        if last is None:
+            return
+        self._is_looking = True
+        try:
+            has_it = await self._questions.whole(self._has(*last))
+        except StoreUnavailable:
+            return
+        finally:
+            self._is_looking = False
+        log, tail = last
+        is_last = self._writer.latest([log]) == last and log in self._logs()
+        if is_last and not has_it:  # it was not read again meanwhile, and is this node's
+            self._tell(log, f"has no commit at event {tail.first_seq}")
+            self._writer.cut()
+
+    async def _has(self, log: int, tail: Tail) -> bool:
+        """Whether a log has this chunk. Raises `StoreUnavailable` if another program has locked the
+        table."""
+        parameters = {"log": log, "first_seq": tail.first_seq, "committed_at": tail.committed_at}
+        with connections.faults(self._asker.where):
+            async with self._questions.pool.connection() as link, link.transaction():
+                await link.execute(IMPATIENT)
+                return await (await link.execute(HAS, parameters)).fetchone() == (True,)
+
+    def _tell(self, log: int, why: str) -> None:
+        logger.error("%s: %s: shard %d %s. %s", self._asker.where, LACKS, log, why, REMEDY)
+        self._begin_again()

@@ -1,0 +1,87 @@
+"""The hosts of a URL, and which of them is tried first.
+
+A server that a standby has replaced may still take writes, and its commits then wait for that
+standby. Whoever waits too long asks all hosts: the one with the highest timeline is the primary.
+"""
+
+from __future__ import annotations
+
+import asyncio
+from collections.abc import Mapping
+from typing import Any
+
+import psycopg
+from psycopg import conninfo
+
+LINE = "left(pg_walfile_name(pg_current_wal_lsn()), 8)"
+"""The server's timeline: another one once a standby has taken over, which may lack what was
+committed last.
+"""
+PATIENCE = 5.0
+"""Seconds that a host has for its answer."""
+LISTS = "host", "hostaddr", "port"
+"""The parameters that have a value for each host."""
+
+
+class Hosts(str):
+    """A URL, with the order in which its hosts are tried. For all else it is the URL as it was
+    given.
+    """
+
+    def __init__(self, url: str) -> None:
+        self._hosts = host_parameters(conninfo.conninfo_to_dict(url))
+        self._order = [*range(len(self._hosts))]
+        self._asking = asyncio.Lock()
+        self.turn = 0
+        """How often another one became the first."""
+
+    @property
+    def are_several(self) -> bool:
+        """Whether there is a choice."""
+        return len(self._order) > 1
+
+    def parameters(self) -> dict[str, str]:
+        """The parameters of a connection that say which hosts are tried, in their order."""
+        hosts = [self._hosts[index] for index in self._order]
+        return {name: ",".join(host[name] for host in hosts) for name in hosts[0]}
+
+    async def choose(self, address: str) -> str | None:
+        """Ask all hosts, and try the one with the highest timeline first from now on. Return that
+        timeline; None if no host takes writes.
+
+        Args:
+            address: The parameters of a connection to any of the hosts.
+        """
+        if not self.are_several or self._asking.locked():
+            return None
+        async with self._asking:
+            questions = (line_of(address, self._hosts[index]) for index in self._order)
+            lines = dict(zip(self._order, await asyncio.gather(*questions)))
+            best = max((line for line in lines.values() if line), default=None)
+            if best is not None and lines[self._order[0]] != best:
+                first = next(index for index in self._order if lines[index] == best)
+                rest = [index for index in self._order if index != first]
+                self._order, self.turn = [first, *rest], self.turn + 1
+            return best
+
+
+def host_parameters(parameters: Mapping[str, Any]) -> list[dict[str, str]]:
+    """The parameters of each host."""
+    lists = {name: str(parameters[name]).split(",") for name in LISTS if parameters.get(name)}
+    count = max((len(values) for values in lists.values()), default=1)
+    return [
+        {name: values[index if len(values) > 1 else 0] for name, values in lists.items()}
+        for index in range(count)
+    ]
+
+
+async def line_of(address: str, host: Mapping[str, str]) -> str | None:
+    """The timeline of one host; None if it does not take writes, or does not answer."""
+    try:
+        async with asyncio.timeout(PATIENCE):
+            single = conninfo.make_conninfo(address, **host)
+            async with await psycopg.AsyncConnection.connect(single, autocommit=True) as link:
+                rows = await (await link.execute(f"SELECT {LINE}")).fetchall()
+                return str(rows[0][0])
+    except (psycopg.Error, OSError, TimeoutError):
+        return None

@@ -1,0 +1,62 @@
+"""Makes tables that a promoted standby does not have.
+
+An asynchronous standby may be promoted that was copied before the store was made: a node makes the
+tables there, and goes on. At the server that had them nothing is made: they were deleted, or the
+database is being restored.
+"""
+
+from __future__ import annotations
+
+import asyncio
+import contextlib
+
+from psycopg import errors
+
+from sagas.base.errors import InvalidStore, StoreUnavailable
+from sagas.base.logger import logger
+from sagas.storage.postgresql import connections, schema
+
+MISSING = (errors.UndefinedTable, errors.InvalidSchemaName)
+"""What a server raises that has no tables of a store."""
+
+
+class MissingTables:
+    """Looks whether the tables are missing, for one node."""
+
+    def __init__(self, url: str, path: str) -> None:
+        self._url, self._path = url, path
+        self._line = ""  # the timeline of the server at which they were seen last
+        self._reason = ""  # why they cannot be made, as it was logged
+
+    def seen(self, line: str) -> None:
+        """The tables are at the server with this timeline."""
+        self._line, self._reason = line, ""
+
+    async def make(self, error: StoreUnavailable) -> bool:
+        """Make the tables if that is why this error was raised; whether it was done. Why they
+        cannot be made is logged once.
+        """
+        if not isinstance(error.__cause__, MISSING):
+            return False
+        try:
+            await asyncio.to_thread(self._make)
+        except StoreUnavailable:
+            return False  # the next error tells
+        except InvalidStore as refusal:
+            if self._reason != str(refusal):
+                self._reason = str(refusal)
+                logger.error("%s", refusal)
+            return False
+        logger.warning("%s: made the tables, which this server did not have", self._path)
+        return True
+
+    def _make(self) -> None:
+        with connections.faults(self._path):
+            with contextlib.closing(connections.connect_now(self._url)) as link:
+                (line,) = link.execute(f"SELECT {connections.LINE}").fetchone() or ("",)
+                if line == self._line:
+                    raise InvalidStore(
+                        f"{self._path}: the tables of the store are gone, and nothing is executed. "
+                        "Close all nodes, restore the database, and start them again"
+                    )
+                schema.migrate(link, self._path)

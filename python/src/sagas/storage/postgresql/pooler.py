@@ -1,0 +1,84 @@
+"""A pooler whose transactions run in different sessions of the server.
+
+Behind one, settings of a connection are those of strangers, and what listens hears nothing. It is
+looked for before anything is set.
+"""
+
+from __future__ import annotations
+
+import asyncio
+from typing import Any
+
+import psycopg
+from psycopg import errors
+
+SESSION = "SELECT pg_backend_pid()"
+PATIENCE = 2.0
+"""Seconds for a second session: a pooler that has none left pools sessions."""
+STATEMENTS = "statement pooling"
+"""What PgBouncer says of BEGIN where each statement may have another session."""
+
+
+class TransactionPooled(errors.OperationalError):
+    """The transactions of one connection run in several sessions."""
+
+    def __init__(self) -> None:
+        super().__init__(
+            "this is a connection pooler that pools transactions, as PgBouncer does with "
+            "pool_mode=transaction. A store needs sessions of its own. Nothing was written or set. "
+            "Name the server itself, or a pooler that pools sessions"
+        )
+
+
+async def check(link: psycopg.AsyncConnection[Any], address: str) -> None:
+    """Raises `TransactionPooled`. `link`: a new connection that commits each statement; `address`:
+    where it leads, for another one.
+
+    A pooler has session numbers of its own, so most connections need no second one.
+    """
+
+    async def session(of: psycopg.AsyncConnection[Any]) -> int:
+        rows = await (await of.execute(SESSION, prepare=False)).fetchall()
+        return int(rows[0][0])
+
+    first = await session(link)
+    if first == link.info.backend_pid:
+        return
+    other = await psycopg.AsyncConnection.connect(address, autocommit=True)
+    try:
+        async with asyncio.timeout(PATIENCE):
+            await other.execute("BEGIN")
+            is_shared = await session(other) == first or await session(link) != first
+    except TimeoutError:
+        is_shared = False
+    except errors.OperationalError as error:
+        if STATEMENTS not in str(error):
+            raise
+        is_shared = True
+    finally:
+        await other.close()
+    if is_shared:
+        raise TransactionPooled
+
+
+def check_now(link: psycopg.Connection[Any], address: str) -> None:
+    """As `check`, where it stands."""
+
+    def session(of: psycopg.Connection[Any]) -> int:
+        return int(of.execute(SESSION, prepare=False).fetchall()[0][0])
+
+    first = session(link)
+    if first == link.info.backend_pid:
+        return
+    other = psycopg.connect(address, autocommit=True)
+    try:
+        other.execute("BEGIN")
+        is_shared = session(other) == first or session(link) != first
+    except errors.OperationalError as error:
+        if STATEMENTS not in str(error):
+            raise
+        is_shared = True
+    finally:
+        other.close()
+    if is_shared:
+        raise TransactionPooled

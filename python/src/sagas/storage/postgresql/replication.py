@@ -1,0 +1,164 @@
+"""Connections that notice a commit which no synchronous standby has.
+
+A commit that waits for a standby has no limit at the server. If that wait is canceled, the server
+answers as if all was well, and only warns: the transaction is visible, and a standby that takes
+over may lack it. These connections raise `NotReplicated` then.
+"""
+
+from __future__ import annotations
+
+import asyncio
+import contextlib
+import os
+import socket
+import weakref
+from collections.abc import AsyncIterator, Callable, Coroutine, Iterator
+from typing import TYPE_CHECKING, Any, TypeVar, Union
+
+import psycopg
+from psycopg import errors
+
+if TYPE_CHECKING:
+    from psycopg.abc import PQGen
+
+RV = TypeVar("RV")
+Row = tuple[Any, ...]
+CANCELED = "SyncRepWaitForLSN"
+"""The function of PostgreSQL that warns. The text of the warning is in the server's language."""
+REPLICATED = "SELECT pg_logical_emit_message(true, 'sagas', '')"
+"""A commit that changes nothing: once it is answered, a synchronous standby has all that this
+connection could see."""
+
+
+class NotReplicated(errors.OperationalError):
+    """The transaction is committed, and no synchronous standby is known to have it."""
+
+    def __init__(self) -> None:
+        super().__init__(
+            "the server committed it, but a synchronous standby may not have it, because the wait "
+            "for the standby was canceled. Repeat the request"
+        )
+
+
+class StoreConnection(psycopg.AsyncConnection[Row]):
+    """A connection of the store's own."""
+
+    def __init__(self, *args: Any, **kwargs: Any) -> None:
+        super().__init__(*args, **kwargs)
+        self.warned = False
+        _watch(self)
+
+    async def wait(self, gen: PQGen[RV], *args: Any, **kwargs: Any) -> RV:
+        """All that psycopg does over a connection goes by here."""
+        value = await super().wait(gen, *args, **kwargs)
+        check(self)
+        return value
+
+
+class PlainStoreConnection(psycopg.Connection[Row]):
+    """The same for threads."""
+
+    def __init__(self, *args: Any, **kwargs: Any) -> None:
+        super().__init__(*args, **kwargs)
+        self.warned = False
+        _watch(self)
+
+    def wait(self, gen: PQGen[RV], *args: Any, **kwargs: Any) -> RV:
+        """All that psycopg does over a connection goes by here."""
+        value = super().wait(gen, *args, **kwargs)
+        check(self)
+        return value
+
+
+Connection = Union[StoreConnection, PlainStoreConnection]
+
+
+def _watch(link: Connection) -> None:
+    """Note the warning. psycopg keeps the handler, which therefore does not keep the connection."""
+    reference = weakref.ref(link)
+
+    def note(notice: errors.Diagnostic) -> None:
+        watched = reference()
+        if watched is not None and notice.source_function == CANCELED:
+            watched.warned = True
+
+    link.add_notice_handler(note)
+
+
+def check(link: Connection) -> None:
+    """Raises `NotReplicated` where the server warned since this was called last."""
+    if link.warned:
+        link.warned = False
+        raise NotReplicated
+
+
+@contextlib.contextmanager
+def heeded(link: psycopg.AsyncConnection[Any] | psycopg.Connection[Any]) -> Iterator[None]:
+    """The same of a connection that somebody else made: of what is committed within."""
+    warned = False
+
+    def note(notice: errors.Diagnostic) -> None:
+        nonlocal warned
+        warned = warned or notice.source_function == CANCELED
+
+    link.add_notice_handler(note)
+    try:
+        yield
+    finally:
+        link.remove_notice_handler(note)
+    if warned:
+        raise NotReplicated
+
+
+def shut(link: StoreConnection) -> None:
+    """End it, so that psycopg hears of that; until then its descriptor is nobody else's."""
+    with contextlib.suppress(OSError, psycopg.Error):
+        with socket.socket(fileno=os.dup(link.pgconn.socket)) as end:
+            end.shutdown(socket.SHUT_RDWR)
+
+
+@contextlib.asynccontextmanager
+async def limited(link: StoreConnection, seconds: float) -> AsyncIterator[None]:
+    """Cuts the connection where what is done within takes longer. Raises `TimeoutError` then.
+
+    Nothing is canceled at the server, as psycopg 3.2 does for a caller that is canceled: a commit
+    that waits for a standby is seen by nobody before the standby has it.
+    """
+    is_late = False
+
+    def cut() -> None:
+        nonlocal is_late
+        is_late = True
+        shut(link)
+
+    timer = asyncio.get_running_loop().call_later(seconds, cut)
+    try:
+        yield
+    except errors.OperationalError as error:
+        if is_late:
+            raise TimeoutError(f"no answer in {seconds:g} s") from error
+        raise
+    finally:
+        timer.cancel()
+
+
+class Barrier:
+    """Waits until the synchronous standbys have what is visible; one commit is for all that ask
+    before it is sent.
+    """
+
+    def __init__(self, ask: Callable[[str], Coroutine[Any, Any, object]]) -> None:
+        self._ask, self._sending = ask, asyncio.Lock()
+        self._next: asyncio.Task[None] | None = None
+
+    async def passed(self) -> None:
+        """Raises `StoreUnavailable`."""
+        if self._next is None:
+            self._next = asyncio.get_running_loop().create_task(self._pass())
+            self._next.add_done_callback(lambda job: job.cancelled() or job.exception())
+        await asyncio.shield(self._next)
+
+    async def _pass(self) -> None:
+        async with self._sending:
+            self._next = None
+            await self._ask(REPLICATED)

@@ -1,0 +1,164 @@
+"""Large values of open sagas: they are held only while a function may read them, and are read from
+the store when one needs them."""
+
+from __future__ import annotations
+
+import asyncio
+import pathlib
+from typing import Any
+
+import pytest
+from cases import Task, run, until
+from test_codec import KNOWN
+
+import sagas
+from sagas.core.held_values import LARGE
+from sagas.definition.payloads import ABSENT
+
+BIG = "b" * (4 * LARGE)
+GIVEN = {"who": "ann", "big": BIG, "parcels": {"x": BIG, "y": "small"}}
+
+
+def kinds() -> list[sagas.Saga]:
+    """Sagas whose functions read large values after others of them have waited."""
+    inner, shaped = sagas.Saga("inner"), sagas.Saga("shaped")
+    inner.step(lambda task: task.input, name="echo", undo=0)
+
+    made = sagas.Saga("made", fair_by=lambda given: given["who"])
+    first = made.step(lambda task: [task.input["big"]], name="first", undo=1, keep=9)
+
+    @first.compensation
+    async def undo(task: Task) -> None:
+        assert task.result == [BIG] and task.input == GIVEN
+
+    ok = made.approval(lambda task: None, name="ok", needs=[first], skip=9)
+    work = made.step(external=True, name="work", needs=[ok], undo=0)
+    child = made.child(inner, name="child", needs=[work], input=lambda task: task.result_of("first"))
+
+    @made.step(needs=[child], undo=0)
+    async def last(task: Task) -> Any:
+        assert task.input == GIVEN and task.result_of(work) == {"big": BIG}
+        return [task.result_of(first), task.result_of(child)["results"]["echo"]]
+
+    late = shaped.approval(lambda task: None, name="late")
+    shaped.step(lambda task: task.item, name="send", for_each="parcels", needs=[late], undo=0)
+    return [inner, made, shaped]
+
+
+def held(store: sagas.Store) -> list[str]:
+    """What the program holds of its sagas."""
+    found = []
+    for saga in store._access.inside.sagas.by_key.values():
+        found += [saga.text, saga.options.shape or "", *saga.results.values()]
+        for attempt in saga.busy.values():
+            found += attempt.results.values()
+    return found
+
+
+@pytest.mark.parametrize("codec", [None, KNOWN], ids=["plain", "codec"])
+@pytest.mark.parametrize("has_blobs", [False, True], ids=["rows", "blobs"])
+def test_values_are_read_when_they_are_needed(
+    place: str, codec: Any, has_blobs: bool, tmp_path: pathlib.Path
+) -> None:
+    """Also by the next program, which loads none of them."""
+    inner, made, shaped = kinds()
+    blobs = sagas.FolderBlobStore(tmp_path / "blobs") if has_blobs else None
+    words: dict[str, Any] = {"codec": codec, "blobs": blobs, "blob_threshold": 1000}
+
+    def opened() -> sagas.Store:
+        store = sagas.open(place, [inner, made, shaped], **words)
+        store.leased = True
+        return store
+
+    async def waits(store: sagas.Store, key: str, why: str) -> None:
+        await until(lambda: [one for one in store.active_attempts(key) if one.waits == why])
+
+    def nothing_held(store: sagas.Store) -> None:
+        texts = held(store)
+        assert ABSENT in texts and max(map(len, texts)) <= LARGE
+
+    async def first() -> None:
+        async with opened() as store:
+            for saga, key in ((made, "k"), (made, "undone"), (shaped, "s")):
+                assert (await store.start(saga, key, GIVEN)).new
+                await waits(store, key, "approval")
+            nothing_held(store)
+            for saga, key in ((made, "k"), (shaped, "s")):
+                assert not (await store.start(saga, key, GIVEN)).new
+                with pytest.raises(sagas.KeyConflict, match="another input"):
+                    await store.start(saga, key, GIVEN | {"big": "other"})
+            await store.fail("undone", "ok", "no")
+            end = await store.wait("undone")
+            assert end.states["first"] == "undone" and not await store.attention()
+
+    async def second() -> None:
+        async with opened() as store:
+            nothing_held(store)
+            await store.complete("k", "ok")
+            (task,) = await until(lambda: store.workers.claim([("made", "work", "run")], holder="w"))
+            assert task.task.input == GIVEN and task.task.result_of("first") == [BIG]
+            nothing_held(store)
+            await store.workers.report(task.attempt_id, task.lease, {"big": BIG}, holder="w")
+            await store.complete("s", "late")
+            for _ in range(2):
+                assert (await store.wait("k", 60)).results["last"] == [[BIG], [BIG]]
+                end = await store.wait("s", 60)
+                assert end.ok and {*end.results.values()} == {BIG, None, "small"}
+
+    run(first())
+    run(second())
+
+
+def test_a_queue_holds_nothing(tmp_path: pathlib.Path) -> None:
+    """What waits for a slot has its values read when it has one; an abort in between is as ever."""
+    made, gate = sagas.Saga("made"), asyncio.Event()
+
+    @made.step(undo=0)
+    async def slow(task: Task) -> int:
+        await gate.wait()
+        return len(task.input)
+
+    @made.step(needs=[slow], undo=0)
+    def plain(task: Task) -> int:
+        return len(task.input)
+
+    async def main() -> None:
+        async with sagas.open(tmp_path / "store.db", [made], concurrency=2) as store:
+            for number in range(12):
+                await store.start(made, f"k{number}", BIG)
+            whole = [text for text in held(store) if len(text) > LARGE]
+            assert len(whole) == 2 and ABSENT in held(store)
+            assert await store.abort("k7")
+            gate.set()
+            for number in range(12):
+                end = await store.wait(f"k{number}", 60)
+                assert end.results == ({} if number == 7 else {"slow": len(BIG), "plain": len(BIG)})
+
+    run(main())
+
+
+def test_one_claim_has_a_budget(url: str, monkeypatch: pytest.MonkeyPatch) -> None:
+    """Tasks beyond it are given back at once; one that is larger alone is handed out."""
+    from sagas.runtime import external_queue
+
+    monkeypatch.setattr(external_queue, "BUDGET", 5 * len(BIG) // 2)
+    made = sagas.Saga("made")
+    made.step(external=True, name="a", undo=0)
+
+    async def main() -> None:
+        store = sagas.open(url, [made])
+        store.leased = True
+        async with store:
+            for number in range(7):
+                await store.start(made, f"k{number}", BIG if number < 6 else 4 * BIG)
+            seen: set[str] = set()
+            while len(seen) < 7:
+                words = {"limit": 10, "wait": 30.0, "holder": "w"}
+                tasks = await store.workers.claim([("made", "a", "run")], **words)
+                assert sum(len(one.task.input) for one in tasks) <= 5 * len(BIG) // 2 or (
+                    len(tasks) <= 2 and len(tasks[-1].task.input) == 4 * len(BIG)
+                )
+                seen |= {one.task.key for one in tasks}
+            assert len(seen) == 7
+
+    run(main())

@@ -1,0 +1,284 @@
+"""Attempts that workers do, of sagas that are being undone: what is taken back from workers, by whom, and what is not, because a worker may have done it."""
+
+from __future__ import annotations
+
+import asyncio
+import contextlib
+import logging
+import sqlite3
+from collections.abc import AsyncIterator
+from typing import Any
+
+import psycopg
+import pytest
+from cases import HOUR, run, until
+from relay import Relay, relaying
+from server import Server
+
+import sagas
+from sagas.base.events import Event
+from sagas.core.batch import Batch, Withdrawal
+from sagas.definition.capacity import SHARD_CAPACITY
+from sagas.runtime import offer_check
+from sagas.storage.postgresql import commit_statement
+from sagas.storage.postgresql.commit_statement import Commit
+
+PAY, HOLD = [("trip", "pay", "run")], [("trip", "hold", "run")]
+ROWS = "SELECT attempt, outcome, lease FROM sagas.external_attempts WHERE attempt LIKE '%-pay-run-1'"
+
+
+def trip(**pay: Any) -> sagas.Saga:
+    """Two steps that workers do, side by side."""
+    saga = sagas.Saga("trip")
+    saga.step(name="pay", external=True, undo=sagas.NEVER, **pay)
+    saga.step(name="hold", external=True, undo=sagas.NEVER)
+    return saga
+
+
+def opened(place: str, saga: sagas.Saga, node: str | None = None, events: list[Event] | None = None, **more: Any) -> sagas.Store:
+    """A store that serves workers."""
+    names = {"node": node} if node else {}
+    store = sagas.open(place, [saga], on_event=None if events is None else events.append, **names, **more)
+    store.leased = True
+    return store
+
+
+def asked(url: str, text: str) -> list[tuple[Any, ...]]:
+    """The rows that a statement gives."""
+    with psycopg.connect(url, autocommit=True) as link:
+        cursor = link.execute(text)  # type: ignore[arg-type]
+        return cursor.fetchall() if cursor.description else []
+
+
+@contextlib.asynccontextmanager
+async def two(postgresql: Server, url: str, saga: sagas.Saga, relay: Relay, lease: float) -> AsyncIterator[tuple[sagas.Store, sagas.Store, list[Event]]]:
+    """A node that reaches its server through a relay, another one, and what happens at the first."""
+    events: list[Event] = []
+    far = postgresql.url(url.rpartition("/")[2], port=relay.port)
+    async with opened(url, saga, "other", lease=lease) as other, opened(far, saga, "slow", events, lease=lease) as slow:
+        yield slow, other, events
+
+
+def has_offered(store: sagas.Store) -> bool:
+    """Whether a node has taken the saga over, and its offers are in the store."""
+    inside = store._inside
+    return any(saga.busy for saga in inside.sagas.by_key.values()) and not inside.external._offering
+
+
+def test_a_node_that_lost_its_shard_takes_nothing_back(postgresql: Server, url: str) -> None:
+    """An abort is kept, and its answer comes past the node's lease, as another node has offered the task again: a worker still gets it."""
+    saga = trip()
+
+    async def main(relay: Relay) -> None:
+        async with two(postgresql, url, saga, relay, lease=2.0) as (slow, other, events):
+            running = await slow.start(saga, "k")
+            await until(lambda: asked(url, ROWS))
+            relay.unanswered = b'"event":"abort"'
+            aborting = asyncio.create_task(running.abort())
+            await until(relay.owes.is_set)
+            await until(lambda: b'abort' in asked(url, "SELECT string_agg(text, '') FROM sagas.event_log")[0][0].encode())
+            relay.hold()
+            await until(lambda: has_offered(other))
+            relay.answer()
+            relay.go_on()
+            await until(lambda: [event for event in events if event.name == "shard_lost"])
+            await asyncio.gather(aborting, return_exceptions=True)
+            await asyncio.sleep(1)  # time for what the node does of the abort
+            for words in (PAY, HOLD):
+                (task,) = await other.workers.claim(words, wait=60, lease=600)
+                assert await other.workers.report(task.attempt_id, task.lease, 5)
+            end = await other.wait("k", 60)
+            assert end.aborted and end.states["pay"] == "committed"
+
+    with relaying(postgresql.port) as relay:
+        run(main(relay))
+
+
+def test_an_answer_to_a_withdrawal_counts_under_its_epoch_alone(postgresql: Server, url: str) -> None:
+    """It comes late, when the shard was loaded again, because its engine died, and the attempt was offered again. A worker that got it is not denied."""
+    saga = sagas.Saga("trip")
+    saga.step(name="pay", external=True, undo=sagas.NEVER)
+
+    async def main(relay: Relay) -> None:
+        async with two(postgresql, url, saga, relay, lease=30.0) as (slow, other, events):
+            for key in ("warm", "k"):  # the first one prepares the statements
+                running = await slow.start(saga, key)
+                (row,) = await until(lambda: [row for row in asked(url, ROWS) if row[1] is None])
+                if key == "warm":
+                    assert await running.abort() and (await running.wait(60)).aborted
+            relay.unanswered = row[0].encode()
+            assert await running.abort()
+            await until(relay.owes.is_set)
+            await until(lambda: (row[0], "withdrawn", None) in asked(url, ROWS))
+            relay.still = b"SET outcome = 'withdrawn'"  # a second one would come before the worker
+            claiming = asyncio.create_task(other.workers.claim(PAY, wait=60, lease=600))
+            for runner in slow._inside.shards.runners.values():
+                if runner.engine:
+                    runner.engine.process.kill()
+            await until(lambda: [event for event in events if event.name == "engine_died"])
+            await asyncio.wait([claiming], timeout=2)  # time for a node that goes on without the answer
+            relay.answer()
+            relay.go_on()
+            ending = asyncio.create_task(slow.wait("k", 60))
+            await asyncio.wait([claiming, ending], return_when=asyncio.FIRST_COMPLETED)
+            if claiming.done():
+                await asyncio.wait([ending], timeout=1)  # time for what the node does of the answer
+                (task,) = claiming.result()
+                assert await other.workers.report(task.attempt_id, task.lease, 5)
+            claiming.cancel()
+            assert (await ending).states["pay"] == ("committed" if claiming.done() and not claiming.cancelled() else "failed")
+
+    with relaying(postgresql.port) as relay:
+        run(main(relay))
+
+
+@pytest.mark.parametrize("cause", ["abort", "sibling"])
+@pytest.mark.parametrize("waits", ["backoff", "person"])
+def test_what_is_unknown_is_not_given_up(url: str, cause: str, waits: str) -> None:
+    """Its worker got it from a node that does not drive the saga; it may be done, so that it is done again, or a person says what it did."""
+    saga = trip(tries=2, backoff=HOUR, max_unknown=9 if waits == "backoff" else 0)
+
+    async def main() -> None:
+        async with opened(url, saga, "one") as one, opened(url, saga, "other") as other:
+            running = await one.start(saga, "k")
+            (task,) = await other.workers.claim(PAY, wait=60, lease=600)
+            assert await other.workers.report(task.attempt_id, task.lease, unknown="the line was cut")
+            await until(lambda: _is_unknown(one))
+            if cause == "abort":
+                assert await running.abort()
+            else:
+                (hold,) = await other.workers.claim(HOLD, wait=60, lease=600)
+                assert await other.workers.report(hold.attempt_id, hold.lease, error="full", final=True)
+            if waits == "backoff":
+                (again,) = await other.workers.claim(PAY, wait=60, lease=600)
+                assert again.attempt_id == task.attempt_id
+                assert await other.workers.report(again.attempt_id, again.lease, 5)
+            else:
+                await other.complete("k", "pay", 5)
+            end = await running.wait(60)
+            assert end.states["pay"] == "committed" and end.results["pay"] == 5
+
+    run(main())
+
+
+async def _is_unknown(store: sagas.Store) -> bool:
+    return any(attempt.step == "pay" for attempt in await store.unknown())
+
+
+@pytest.mark.parametrize(
+    ("words", "last"),
+    [
+        (("offers", "suspended"), "suspended"),
+        (("suspended", "suspended"), "suspended"),
+        (("offers", "withdrawn"), "withdrawn"),
+        (("withdrawn", "settled"), "settled"),
+        (("settled", "suspended"), "settled"),
+        (("settled", "offers"), "settled"),
+    ],
+)
+def test_a_row_has_one_last_word_in_a_commit(words: tuple[str, ...], last: str) -> None:
+    """The server changes a row once, in an order of the parts that it does not promise; and a saga that is to be undone changes no row of which another part has said something."""
+    attempt, shard, saga = "ab-3-pay-run-1", 5, 5 * SHARD_CAPACITY + 3
+    rows: dict[str, Any] = {
+        "offers": (attempt, shard, saga, 0, "run", 1, "trip/pay/run", None, None, 1.0, None),
+        "suspended": (attempt, shard, "suspended"),
+        "withdrawn": Withdrawal(attempt, shard),
+        "settled": (attempt, shard, None),
+    }
+    batches = [Batch(shard, 1.0, epoch=1) for _ in words]
+    for batch, word in zip(batches, words):
+        getattr(batch.more, word).append(rows[word])
+    batches[0].more.cancelled.append(("aborted", saga))
+    parts = Commit(batches, lambda log: 0, {}).parts
+    assert {part for part in parts if part != "cancelled"} == {last} and len(parts[last]) == 1
+    assert parts["cancelled"] == [("aborted", saga, '{"ab-3-pay-run-1"}')]
+
+
+@pytest.mark.parametrize("reverse", [False, True])
+def test_the_order_of_a_commit_s_parts_is_nothing(url: str, reverse: bool, monkeypatch: pytest.MonkeyPatch) -> None:
+    """A person says that a step failed: its row is settled, and the others are told of the end, whichever part the server does first."""
+    saga = trip()
+    monkeypatch.setattr(commit_statement, "sorted", lambda parts: sorted(parts, reverse=reverse), raising=False)
+    commit_statement.statement.cache_clear()
+
+    async def main() -> None:
+        async with opened(url, saga, "one") as store:
+            running = await store.start(saga, "k")
+            (task,) = await store.workers.claim(HOLD, wait=60, lease=600)
+            await until(lambda: asked(url, ROWS))
+            await store.fail("k", "pay", "the bank is closed")
+            text = "SELECT outcome, cancelled FROM sagas.external_attempts ORDER BY step"
+            assert asked(url, text) == [("settled", None), (None, "failed")]
+            assert (await store.workers.heartbeat(task.attempt_id, task.lease)).cancelled == "failed"
+            assert await store.workers.report(task.attempt_id, task.lease, 5)
+            assert (await running.wait(60)).states == {"pay": "failed", "hold": "committed"}
+
+    run(main())
+
+
+@pytest.mark.parametrize("change", ["DELETE FROM {}", "UPDATE {} SET outcome = 'withdrawn'"])
+def test_what_no_worker_could_get_is_offered_again(place: str, change: str, caplog: pytest.LogCaptureFixture, monkeypatch: pytest.MonkeyPatch) -> None:
+    """Its row was damaged: that is found, and told as a warning."""
+    saga, events = trip(), list[Event]()
+    monkeypatch.setattr(offer_check, "PAUSE", 0.2)
+
+    async def main() -> None:
+        async with opened(place, saga, events=events) as store:
+            running = await store.start(saga, "k")
+            await until(lambda: _ready(store))
+            changed(place, change)
+            for words in (PAY, HOLD):
+                (task,) = await store.workers.claim(words, wait=60, lease=600)
+                assert await store.workers.report(task.attempt_id, task.lease, 5)
+            assert (await running.wait(60)).ok
+
+    with caplog.at_level(logging.WARNING, logger="sagas"):
+        run(main())
+    told = [event for event in events if event.name == "step_offered_again"]
+    assert {event.step for event in told} == {"pay", "hold"}
+    assert "step_offered_again key=k saga=trip step=pay attempt=1" in caplog.text
+
+
+def changed(place: str, change: str) -> None:
+    """Changes the table by hand."""
+    if "://" in place:
+        asked(place, change.format("sagas.external_attempts"))
+        return
+    with contextlib.closing(sqlite3.connect(place, isolation_level=None, timeout=60)) as link:
+        link.execute(change.format("external_attempts"))
+
+
+async def _ready(store: sagas.Store) -> bool:
+    return sum(queue.ready for queue in await store.workers.queues()) == 2
+
+
+def test_nothing_of_a_drain_is_done_before_its_commit(postgresql: Server, url: str) -> None:
+    """A person says that a step failed. Until that is kept, a function that runs beside it is not told of it, and nothing that waits is given up."""
+    saga, tasks, gate = sagas.Saga("trip"), list[sagas.Task[Any]](), asyncio.Event()
+    saga.approval(name="review")(lambda task: None)
+    saga.step(name="pay", external=True, undo=sagas.NEVER)
+
+    @saga.step(undo=sagas.NEVER)
+    async def watch(task: sagas.Task[Any]) -> None:
+        tasks.append(task)
+        await gate.wait()
+
+    async def main(relay: Relay) -> None:
+        far = postgresql.url(url.rpartition("/")[2], port=relay.port)
+        async with sagas.open(far, [saga], node="one", lease=60) as store:
+            running = await store.start(saga, "k")
+            await until(lambda: tasks and {one.waits for one in store.active_attempts("k")} == {"", "worker", "approval"})
+            relay.unanswered = b"the bank is closed"
+            failing = asyncio.create_task(store.fail("k", "pay", "the bank is closed"))
+            await until(relay.owes.is_set)
+            await asyncio.sleep(0.3)  # time for what is done too early
+            early = tasks[0].cancelled.is_set(), {one.waits for one in store.active_attempts("k")}
+            relay.answer()
+            await failing
+            assert early == (False, {"", "approval"})
+            await until(tasks[0].cancelled.is_set)
+            gate.set()
+            assert (await running.wait(60)).states["pay"] == "failed"
+
+    with relaying(postgresql.port) as relay:
+        run(main(relay))

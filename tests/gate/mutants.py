@@ -1,0 +1,543 @@
+"""Mutants of the crates: wrong variants that the prover must refuse, tried many at a time.
+
+A mutant is a file `crates/CRATE/mutants/NAME.edit`: a line `file: src/..`, and then pairs of lines
+`old: TEXT` and `new: TEXT`. Each old text occurs in that file exactly once. A mutant of a
+definition, or of anything outside of a function's body, names in lines `only: FUNCTION` the
+functions one of which has to be refused.
+
+The proof of a function reads the contracts of the functions that it calls, and not their bodies. So
+mutants of different functions go into one copy of the crate, a *round*, and one `rattle check
+--only` answers for all of them. A function counts as refused by what is said of it alone: one that
+is only reached by a refusal (`it calls .., which is not proved`) is unclear, and its mutant goes
+into a later round. A mutant with `only:` goes alone.
+
+A *twin* is a file `NAME.twin` of the same form that changes the text and not the meaning. It must
+not be refused: where the prover refuses the twin of a mutant, the refusal of the mutant shows that
+the text of a proof no longer fits, and nothing of the contract. Such a twin says so in a line
+`refused: WHY`. Each round has one twin as its control: if the prover refuses that, the round counts
+for nothing.
+"""
+
+from __future__ import annotations
+
+import enum
+import os
+import re
+import resource
+import shutil
+import subprocess
+import tempfile
+from collections.abc import Iterable, Sequence
+from dataclasses import dataclass
+from pathlib import Path
+
+from crates import PARTS, Tree
+
+CANNOT_READ = re.compile(
+    r"is not in scope|has no field|is no name|operand is missing|expected the end|cannot continue"
+)
+"""What the prover says of a definition that it cannot read."""
+
+
+class InvalidMutant(Exception):
+    """A mutant cannot be applied, or cannot be read by the prover."""
+
+
+class Verdict(enum.Enum):
+    """What a round says of a mutant or a twin."""
+
+    REFUSED = "refused"
+    PROVED = "proved"
+    UNCLEAR = "unclear"
+
+
+@dataclass(frozen=True)
+class Function:
+    """A function of a crate: its file, its name, and its lines.
+
+    The name of a method begins with its type. If the method is of a trait, the names of the trait
+    and of its parameters follow the type, as in `JsonFaultFromAllocError::from`.
+    """
+
+    file: str
+    name: str
+    first: int
+    last: int
+
+    @property
+    def path(self) -> str:
+        """The path below the crate, or the end of it, by which the prover knows the function.
+
+        Of a method it is the name: the prover puts the module of the type before it, which need
+        not be the module of the method.
+        """
+        module = self.file.removeprefix("src/").removesuffix(".rt").replace("/", "::")
+        is_whole = module in ("lib", "main") or "::" in self.name
+        return self.name if is_whole else f"{module}::{self.name}"
+
+    @property
+    def key(self) -> tuple[str, str]:
+        """What names the function whatever its lines are."""
+        return self.file, self.name
+
+
+HEAD = re.compile(r"(?:unsafe )?(?:impl|(?:pub )?trait)\b")
+"""How an `impl` or a trait begins in a formatted text."""
+SIGNATURE = re.compile(
+    r'(\s*)(?:pub(?:\([^)]*\))? )?(?:const )?(?:unsafe )?(?:extern "C" )?fn (\w+)'
+)
+
+
+def functions(file: str, text: str) -> list[Function]:
+    """The functions of a formatted text of Rattle."""
+    found: list[Function] = []
+    owner, lines = "", text.split("\n")
+    for number, line in enumerate(lines, 1):
+        if HEAD.match(line):
+            owner = owner_of(line)
+        elif line.startswith("}"):
+            owner = ""
+        if signature := SIGNATURE.match(line):
+            indent, name = signature[1], signature[2]
+            ends = (n for n in range(number, len(lines) + 1) if lines[n - 1] == indent + "}")
+            name = f"{owner}::{name}" if owner and indent else name
+            found.append(Function(file, name, number, next(ends, number)))
+    return found
+
+
+def owner_of(line: str) -> str:
+    """What the names of methods begin with: their type, and the trait with its parameters."""
+    rest = HEAD.sub("", line).strip()
+    own: set[str] = set()
+    if rest.startswith("<"):
+        end = bracket_end(rest)
+        own = {*re.findall(r"(?:^<|, )'?(\w+)", rest[:end])}
+        rest = rest[end:].strip()
+    trait, is_of_trait, target = rest.rpartition(" for ")
+    words = re.findall(r"\w+", target)[:1]
+    if is_of_trait:
+        words += [it for it in re.findall(r"(?<!')\b\w+", trait) if it not in own]
+    return "".join(words)
+
+
+def bracket_end(text: str) -> int:
+    """The place behind the angle brackets with which a text begins."""
+    depth = 0
+    for place, letter in enumerate(text):
+        depth += (letter == "<") - (letter == ">")
+        if not depth:
+            return place + 1
+    return len(text)
+
+
+@dataclass(frozen=True)
+class Change:
+    """A text of a file, and the text in its place."""
+
+    file: str
+    old: str
+    new: str
+
+
+@dataclass(frozen=True)
+class Mutant:
+    """A mutant or a twin of a crate, with the functions that it is about.
+
+    A twin has a reason if the prover refuses it, although it means the same.
+    """
+
+    crate: str
+    name: str
+    is_twin: bool
+    is_alone: bool
+    reason: str
+    changes: tuple[Change, ...]
+    functions: tuple[Function, ...]
+
+    @property
+    def label(self) -> str:
+        """What it is called in a report."""
+        return f"{self.crate}/{self.name}{' (twin)' if self.is_twin else ''}"
+
+    @property
+    def keys(self) -> set[tuple[str, str]]:
+        """The functions, whatever their lines are."""
+        return {function.key for function in self.functions}
+
+    @property
+    def size(self) -> int:
+        """The lines of its functions."""
+        return sum(function.last - function.first + 1 for function in self.functions)
+
+
+def read_changes(text: str) -> tuple[tuple[Change, ...], list[str], str]:
+    """The changes of a mutant's text, the functions that it names, and why a twin is refused.
+
+    Raises:
+        InvalidMutant: a line is out of order.
+    """
+    file, old, reason = "", "", ""
+    changes: list[Change] = []
+    only: list[str] = []
+    for line in text.split("\n"):
+        word, _, rest = line.partition(": ") if not line.startswith("new:") else ("new", "", "")
+        if word == "file":
+            file = rest.strip()
+        elif word == "only":
+            only.append(rest.strip())
+        elif word == "refused":
+            reason = rest.strip()
+        elif word == "old":
+            old = rest
+        elif word == "new":
+            if not file or not old:
+                raise InvalidMutant("a line 'new:' comes before any 'file:' or 'old:'")
+            changes.append(Change(file, old, line[len("new:") :].removeprefix(" ")))
+            old = ""
+    if not changes or old:
+        raise InvalidMutant("it has no pair of 'old:' and 'new:'")
+    return tuple(changes), only, reason
+
+
+def read_mutant(tree: Tree, path: Path) -> Mutant:
+    """Reads a mutant or a twin, and finds the functions that it is about.
+
+    Raises:
+        InvalidMutant: it cannot be applied to the crate as it is.
+    """
+    crate = path.parent.parent.name
+    folder = tree.folder(crate)
+    try:
+        changes, only, reason = read_changes(path.read_text(encoding="utf-8"))
+        held = [function_of(folder, change) for change in changes]
+        if only:
+            held = [function_named(folder, name) for name in only]
+        elif None in held:
+            raise InvalidMutant("it changes what is no function's body: name a function by 'only:'")
+        if reason and path.suffix != ".twin":
+            raise InvalidMutant("only a twin has a line 'refused:'")
+    except InvalidMutant as error:
+        raise InvalidMutant(f"{crate}/{path.name}: {error}") from None
+    unique = {function.key: function for function in held if function}
+    is_twin = path.suffix == ".twin"
+    return Mutant(crate, path.stem, is_twin, bool(only), reason, changes, tuple(unique.values()))
+
+
+def function_of(folder: Path, change: Change) -> Function | None:
+    """The function whose body has the old text, or None if it is elsewhere.
+
+    Raises:
+        InvalidMutant: the file is missing, or the text does not occur in it once.
+    """
+    if not change.file.startswith(tuple(f"{part}/" for part in PARTS)):
+        raise InvalidMutant(f"{change.file} is not below src/, specs/ or proofs/")
+    try:
+        text = (folder / change.file).read_text(encoding="utf-8")
+    except OSError:
+        raise InvalidMutant(f"there is no file {change.file}") from None
+    if text.count(change.old) != 1:
+        count = text.count(change.old)
+        raise InvalidMutant(f"an 'old:' text occurs in {change.file} {count} times, and not once")
+    if change.old == change.new:
+        raise InvalidMutant(f"a text of {change.file} is replaced by itself")
+    line = text[: text.index(change.old)].count("\n") + 1
+    inside = [it for it in functions(change.file, text) if it.first < line <= it.last]
+    return inside[-1] if inside and change.file.startswith("src/") else None
+
+
+def function_named(folder: Path, path: str) -> Function:
+    """The function of a path below the crate.
+
+    Raises:
+        InvalidMutant: there is none.
+    """
+    for file in sorted((folder / "src").rglob("*.rt")):
+        for function in functions(str(file.relative_to(folder)), file.read_text(encoding="utf-8")):
+            if function.path == path:
+                return function
+    raise InvalidMutant(f"there is no function {path}")
+
+
+def read_all(tree: Tree, crate: str, suffix: str = ".edit") -> list[Mutant]:
+    """The mutants of a crate, or its twins, by name.
+
+    Raises:
+        InvalidMutant: one cannot be applied.
+    """
+    files = sorted((tree.folder(crate) / "mutants").glob(f"*{suffix}"))
+    return [read_mutant(tree, path) for path in files]
+
+
+def crates_with_mutants(tree: Tree) -> list[str]:
+    """The crates that have mutants, lowest first."""
+    names = [it for it in tree.crates if [*(tree.folder(it) / "mutants").glob("*.edit")]]
+    return sorted(names, key=lambda name: (len(tree.below(name)), name))
+
+
+def texts_with(folder: Path, mutants: Iterable[Mutant]) -> dict[str, str]:
+    """The changed files with all changes of these mutants."""
+    texts: dict[str, str] = {}
+    for change in (change for mutant in mutants for change in mutant.changes):
+        text = texts.get(change.file)
+        if text is None:
+            text = (folder / change.file).read_text(encoding="utf-8")
+        if text.count(change.old) != 1:
+            raise InvalidMutant(f"two changes of {change.file} meet at one text")
+        texts[change.file] = text.replace(change.old, change.new)
+    return texts
+
+
+@dataclass(frozen=True)
+class Round:
+    """Mutants that one check answers for, and the twin that is its control."""
+
+    crate: str
+    mutants: tuple[Mutant, ...]
+    control: Mutant | None
+
+    @property
+    def all(self) -> tuple[Mutant, ...]:
+        """The mutants and the control."""
+        return (*self.mutants, *([self.control] if self.control else []))
+
+
+def fits(mutant: Mutant, others: Sequence[Mutant]) -> bool:
+    """Whether a mutant can share a round with others."""
+    if not others:
+        return True
+    if mutant.is_alone or any(other.is_alone for other in others):
+        return False
+    lines = {change.old for other in others for change in other.changes}
+    return not any(mutant.keys & other.keys for other in others) and not any(
+        change.old in line or line in change.old for change in mutant.changes for line in lines
+    )
+
+
+def with_control(mutants: Sequence[Mutant], twins: Sequence[Mutant]) -> Round:
+    """A round of these mutants, with a twin that fits as its control: `control`, or a small one."""
+    changed = {change.file for it in mutants for change in it.changes if it.is_alone}
+    for twin in sorted(twins, key=lambda it: (it.name != "control", it.size, it.name)):
+        if twin in mutants or twin.reason or any(twin.keys & it.keys for it in mutants):
+            continue
+        if not changed & {change.file for change in twin.changes}:
+            return Round(mutants[0].crate, tuple(mutants), twin)
+    return Round(mutants[0].crate, tuple(mutants), None)
+
+
+def rounds_of(mutants: Sequence[Mutant], twins: Sequence[Mutant]) -> list[Round]:
+    """As few rounds as a greedy choice gives."""
+    groups: list[list[Mutant]] = []
+    for mutant in sorted(mutants, key=lambda it: it.is_alone):
+        for group in groups:
+            if fits(mutant, group):
+                group.append(mutant)
+                break
+        else:
+            groups.append([mutant])
+    return [with_control(group, twins) for group in groups]
+
+
+@dataclass(frozen=True)
+class Toolchain:
+    """The folder of the Rattle toolchain."""
+
+    folder: Path
+
+    @classmethod
+    def find(cls) -> Toolchain | None:
+        """The toolchain whose `rt` is on the path, or None."""
+        command = shutil.which("rt")
+        return cls(Path(command).resolve().parent.parent) if command else None
+
+    @property
+    def logic(self) -> str:
+        """What names the logic that it proves in, whatever the letter of its release is."""
+        words = (self.folder / "KIT-ID").read_text(encoding="utf-8").split()
+        return words[words.index("logic") + 1]
+
+    def command(self, tree: Tree, name: str) -> list[str]:
+        """The command that checks a crate over the libraries in `crates/*/out/rlib`."""
+        crate, below = tree.crates[name], tree.below(name)
+        rlib = {it: tree.folder(it) / f"out/rlib/{it}.rlib" for it in below}
+        root = "src/main.rt" if tree.is_program(name) else "src/lib.rt"
+        words = [f"{self.folder}/bin/rattle", "check", "--crate-name", name, root]
+        for library in ["std", *crate.libraries]:
+            place = rlib.get(library, self.folder / f"rlibs/{library}.rlib")
+            words += ["--extern", f"{library}={place}"]
+        words += ["-L", f"dependency={self.folder}/rlibs"]
+        words += [it for lower in below for it in ("-L", f"dependency={rlib[lower].parent}")]
+        words += ["--antt-project", f"{self.folder}/rattle/logic/antt-project.json"]
+        words += ["--logic-built", f"{self.folder}/logic_built", "--links", f"{name}="]
+        return [*words, "--jobs", "1", *(["--crate-type", "staticlib"] if crate.is_static else [])]
+
+
+@dataclass(frozen=True)
+class Answer:
+    """What the prover said of a round."""
+
+    lines: list[str]
+    status: int
+    seconds: float
+    functions: dict[tuple[str, str], list[Function]]
+
+    @property
+    def last(self) -> str:
+        """The last line that is not empty."""
+        return next((line for line in reversed(self.lines) if line.strip()), "")
+
+    @property
+    def reached_the_prover(self) -> bool:
+        """Whether the check came to its end: else the text could not be read."""
+        return self.last.startswith("only=")
+
+
+def check_round(tree: Tree, toolchain: Toolchain, round_: Round) -> Answer:
+    """Checks a copy of the crate with the changes of a round."""
+    source = tree.folder(round_.crate)
+    with tempfile.TemporaryDirectory(prefix="mutants-") as name:
+        folder = Path(name)
+        for part in PARTS:
+            if (source / part).is_dir():
+                shutil.copytree(source / part, folder / part)
+        for file, text in texts_with(source, round_.all).items():
+            (folder / file).write_text(text, encoding="utf-8")
+        paths = sorted({it.path for mutant in round_.all for it in mutant.functions})
+        words = toolchain.command(tree, round_.crate)
+        words += [it for path in paths for it in ("--only", path)]
+        output, status, seconds = run(words, folder)
+        files = {file for mutant in round_.all for file, _ in mutant.keys}
+        known: dict[tuple[str, str], list[Function]] = {}
+        for file in sorted(files):
+            for function in functions(file, (folder / file).read_text(encoding="utf-8")):
+                known.setdefault(function.key, []).append(function)
+    return Answer(output.split("\n"), status, seconds, known)
+
+
+def run(words: list[str], folder: Path) -> tuple[str, int, float]:
+    """Runs a command in a folder; gives what it printed, its status and its processor seconds."""
+    with tempfile.TemporaryFile("w+", errors="replace") as output:
+        child = subprocess.Popen(
+            words, cwd=folder, stdin=subprocess.DEVNULL, stdout=output, stderr=output
+        )
+        try:
+            _, status, used = os.wait4(child.pid, 0)
+        except BaseException:
+            child.kill()
+            child.wait()
+            raise
+        child.returncode = os.waitstatus_to_exitcode(status)
+        output.seek(0)
+        return output.read(), child.returncode, used_seconds(used)
+
+
+def used_seconds(used: resource.struct_rusage) -> float:
+    """The processor seconds of a process and of those that it waited for."""
+    return used.ru_utime + used.ru_stime
+
+
+def verdict_of(crate: str, mutant: Mutant, answer: Answer) -> tuple[Verdict, str]:
+    """What an answer says of a mutant: its verdict, and the line that gives it."""
+    found = [verdict_of_function(crate, it, answer) for it in mutant.functions]
+    for verdict in (Verdict.REFUSED, Verdict.UNCLEAR, Verdict.PROVED):
+        for given, line in found:
+            if given is verdict:
+                return verdict, line
+    return Verdict.UNCLEAR, answer.last
+
+
+def verdict_of_function(crate: str, function: Function, answer: Answer) -> tuple[Verdict, str]:
+    """What an answer says of one function."""
+    path = function.path
+    line_of = re.compile(rf"fn {crate}::(?:.*::)?{re.escape(path)}: (.*)")
+    states = [match for match in map(line_of.match, answer.lines) if match]
+    state, said = (states[0][0], states[0][1]) if states else ("", "")
+    goal = next((it for it in answer.lines if is_goal_of(function, it, answer)), "")
+    if re.match(r"proved\b", said):
+        return Verdict.PROVED, state
+    if goal or said.startswith(("no proof", "not proved")) and "it calls" not in said:
+        return Verdict.REFUSED, goal or state
+    proof = re.compile(rf"(?:\./)?proofs/(?:.*/)?{re.escape(path.replace('::', '/'))}/.*: error")
+    for line in answer.lines:
+        if proof.match(line):
+            if "was not admitted" not in line and "it calls" not in said:
+                return Verdict.REFUSED, line
+    return Verdict.UNCLEAR, state or answer.last
+
+
+def is_goal_of(function: Function, line: str, answer: Answer) -> bool:
+    """Whether a line says that a goal of the function is open, or that the function is refused."""
+    at = re.match(r"(?:note: )?(?:\./)?(\S+?):(\d+):\d+: (.*)", line)
+    if not at or at[1] != function.file:
+        return False
+    number, says = int(at[2]), at[3]
+    spans = answer.functions.get(function.key, [])
+    inside = any(it.first <= number <= it.last for it in spans)
+    return inside and ("not proved" in says or says.startswith("error"))
+
+
+def cannot_read(lines: Iterable[str], mutants: Iterable[Mutant]) -> str:
+    """The first line that says that the prover could not read a changed text, or nothing."""
+    changed = {change.file for mutant in mutants for change in mutant.changes}
+    for line in lines:
+        at = re.match(r"(?:\./)?(\S+?):\d+:\d+: error: (?:(`[^`]*`): )?(.*)", line)
+        if at and at[1] in changed and not at[1].startswith("proofs/"):
+            if not at[2] or CANNOT_READ.search(re.sub(r"`[^`]*`", "", at[3])):
+                return line
+    return ""
+
+
+@dataclass(frozen=True)
+class Outcome:
+    """What became of a mutant or a twin, and the line that says why."""
+
+    mutant: Mutant
+    verdict: Verdict
+    why: str
+
+    @property
+    def is_right(self) -> bool:
+        """Whether a mutant was refused, or a twin was proved, unless it says why it is not."""
+        is_proved = self.mutant.is_twin and not self.mutant.reason
+        return self.verdict is (Verdict.PROVED if is_proved else Verdict.REFUSED)
+
+
+@dataclass(frozen=True)
+class Tried:
+    """What a round gave: outcomes, what has to be tried again alone, and its processor seconds."""
+
+    outcomes: list[Outcome]
+    again: list[Mutant]
+    seconds: float
+
+
+def judge(round_: Round, answer: Answer) -> Tried:
+    """Judges each mutant of a round by the prover's answer.
+
+    A round of several of which the prover could read nothing, or whose control was not proved,
+    counts for nothing: each of its mutants is tried again alone. If the control of one mutant alone
+    is not proved, that mutant is unclear."""
+    is_single = len(round_.mutants) == 1
+    bad = cannot_read(answer.lines, round_.all)
+    fault = bad or ("" if answer.reached_the_prover else f"the check did not end: {answer.last}")
+    if round_.control and not fault:
+        verdict, line = verdict_of(round_.crate, round_.control, answer)
+        if verdict is not Verdict.PROVED:
+            fault = f"the control {round_.control.label} is not proved: {line}"
+    if fault:
+        outcomes = [Outcome(it, Verdict.UNCLEAR, fault) for it in round_.mutants]
+        return Tried(
+            outcomes if is_single else [], [] if is_single else [*round_.mutants], answer.seconds
+        )
+    outcomes, again = [], []
+    for mutant in round_.mutants:
+        verdict, why = verdict_of(round_.crate, mutant, answer)
+        if verdict is Verdict.UNCLEAR and not is_single:
+            again.append(mutant)
+        else:
+            outcomes.append(Outcome(mutant, verdict, why))
+    return Tried(outcomes, again, answer.seconds)
+
+
+def try_round(tree: Tree, toolchain: Toolchain, round_: Round) -> Tried:
+    """Tries a round."""
+    return judge(round_, check_round(tree, toolchain, round_))

@@ -1,0 +1,107 @@
+"""Runs `rt ci`, which proves every crate and its tests from nothing, and follows what it says."""
+
+from __future__ import annotations
+
+import os
+import re
+import subprocess
+import threading
+import time
+from collections.abc import Callable
+from pathlib import Path
+
+from costs import Cost, Watch
+from crates import Tree
+from mutants import used_seconds
+
+MEMORY = 4 * 1024 * 1024
+"""How much memory a proof may take, in KiB.
+
+If there is so much for each processor, `rt ci` gives each proof one of them: a proof by several
+jobs takes half as much again of the processors' time."""
+
+
+def processors() -> int:
+    """How many processors this process may use."""
+    return len(os.sched_getaffinity(0))
+
+
+def lanes() -> dict[str, str]:
+    """The setting of `rt ci` for as many proofs side by side as there are processors and memory
+    for."""
+    found = re.search(r"MemAvailable:\s+(\d+)", Path("/proc/meminfo").read_text())
+    is_ample = found is not None and int(found[1]) >= MEMORY * processors()
+    return {"RT_JOBS": str(processors())} if is_ample else {}
+
+
+class Proofs:
+    """A run of `rt ci`: which crates are proved so far, and in the end what it came to."""
+
+    def __init__(self, tree: Tree, wake: Callable[[], None]) -> None:
+        self.tree = tree
+        self.wake = wake
+        self.proved: set[str] = set()
+        self.faults: list[str] = []
+        self.passed = 0
+        self.failed = 0
+        self.costs: dict[str, Cost] = {}
+        self.crates: dict[str, dict[str, float]] = {}
+        self.began = time.monotonic()
+        self.child = subprocess.Popen(
+            ["rt", "ci"],
+            cwd=tree.top,
+            env={**lanes(), **os.environ},
+            stdin=subprocess.DEVNULL,
+            stdout=subprocess.PIPE,
+            stderr=subprocess.STDOUT,
+            text=True,
+            errors="replace",
+        )
+        self.watch = Watch(self.child.pid, {*tree.below("saga_tool"), "saga_tool"})
+        self.is_over = False
+        self.thread = threading.Thread(target=self.follow, daemon=True)
+        self.thread.start()
+
+    @property
+    def running(self) -> int:
+        """How many proofs are under way."""
+        return self.watch.running
+
+    def has(self, crate: str) -> bool:
+        """Whether a crate and all below it are proved, so that its mutants can be tried."""
+        return self.proved.issuperset([*self.tree.below(crate), crate])
+
+    def follow(self) -> None:
+        """Prints what `rt ci` says until it ends, and takes its result."""
+        assert self.child.stdout
+        for line in self.child.stdout:
+            print(line, end="", flush=True)
+            if proved := re.fullmatch(r"rt: (\w+) proved\n", line):
+                self.proved.add(proved[1])
+                self.wake()
+            elif line.startswith("rt: FAILED: "):
+                self.faults.append(f"rt ci: {line.removeprefix('rt: FAILED: ').strip()}")
+            elif counts := re.fullmatch(r"(\d+) passed, (\d+) failed\n", line):
+                self.passed, self.failed = int(counts[1]), int(counts[2])
+        _, status, used = os.wait4(self.child.pid, 0)
+        self.child.returncode = os.waitstatus_to_exitcode(status)
+        self.end(self.child.returncode, used_seconds(used))
+
+    def end(self, status: int, seconds: float) -> None:
+        """Takes the status and the cost of the run."""
+        self.watch.stop()
+        if status or not self.passed:
+            self.failed = max(self.failed, 1)
+            self.faults = self.faults or [f"rt ci: it ended with status {status}"]
+        self.costs = self.watch.costs()
+        self.crates = self.watch.crates()
+        seen = sum(cost.processor for cost in self.costs.values())
+        wall = time.monotonic() - self.began
+        self.costs["rt itself"] = Cost(max(0.0, seconds - seen), wall)
+        self.is_over = True
+        self.wake()
+
+    def stop(self) -> None:
+        """Ends the run early."""
+        self.child.terminate()
+        self.thread.join()

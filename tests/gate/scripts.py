@@ -1,0 +1,145 @@
+"""The scripts `tests/NAME.sh`: which there are, what each reads, and how one is run."""
+
+from __future__ import annotations
+
+import contextlib
+import os
+import select
+import signal
+import subprocess
+import tempfile
+import time
+from collections.abc import Iterable
+from dataclasses import dataclass
+from pathlib import Path
+
+from costs import Cost
+from mutants import used_seconds
+
+SKIPPED = 77
+"""The status of a script on a machine that lacks what the script is about."""
+
+FIRST = ("format", "mutants", "definitions", "release", "errors", "rows")
+"""Scripts of some seconds over the release: they run before anything is proved."""
+
+LAST = ("built", "memory")
+"""Scripts over what `rt ci` builds."""
+
+TIMED = ("python", "clients", "page")
+"""Scripts with leases, servers and browsers: they begin once nothing is proved any more."""
+
+LONG = ("docs", "library", "platforms", "python", "clients", "page")
+"""The order of those that take longest: they begin first."""
+
+WIDE = {"python": 64}
+"""How many processors a script keeps busy, if it is more than one: with so many it runs alone."""
+
+LIMIT = 50 * 60
+"""The seconds of the clock after which a script counts as failed."""
+
+READS = {
+    "built": ("crates/", "crates.txt", "dist/", "library/", "platforms/", "page/", "release"),
+    "clients": ("clients/", "python/src/", "dist/"),
+    "definitions": ("crates/", "docs/"),
+    "docs": ("docs/", "*.md", "mkdocs.yml", "python/src/", "examples/", "clients/", "dist/"),
+    "drive": ("crates/", "dist/", "examples/"),
+    "errors": ("crates/", "dist/", "docs/", "examples/"),
+    "format": ("crates/", "python/", "bench/", "*.py"),
+    "hostile": ("crates/", "dist/", "examples/"),
+    "library": ("dist/", "library/", "examples/"),
+    "memory": ("crates/", "dist/"),
+    "mutants": ("crates/", "crates.txt"),
+    "page": ("dist/", "page/"),
+    "pages": ("docs/", "*.md", "dist/", "examples/", "python/src/"),
+    "pictures": ("docs/", "dist/", "examples/"),
+    "platforms": ("dist/",),
+    "python": ("python/", "dist/", "examples/", "docs/"),
+    "release": ("crates/", "crates.txt", "dist/", "page/", "library/", "python/", "docs/"),
+    "rows": ("crates/", "dist/", "examples/"),
+}
+"""What each script reads beside its own files: folders, files, and patterns of files at the top."""
+
+
+@dataclass(frozen=True)
+class Ran:
+    """What a script came to: its status, its cost, and the last line that it printed."""
+
+    name: str
+    status: int
+    cost: Cost
+    last: str
+
+
+def names(top: Path) -> list[str]:
+    """The names of all scripts, in the order in which they run one after another."""
+    every = {path.stem for path in (top / "tests").glob("*.sh")}
+    rest = sorted(every - {*FIRST, *LAST, *LONG})
+    order = [*FIRST, *LONG, *rest, *LAST]
+    return [name for name in order if name in every]
+
+
+def concerned(top: Path, changed: Iterable[str]) -> list[str]:
+    """The scripts that read one of these files. A file that no script names concerns all."""
+    files = list(changed)
+    found: set[str] = set()
+    for file in files:
+        readers = {name for name, reads in READS.items() if any(is_below(file, it) for it in reads)}
+        own = {name for name in names(top) if file.startswith((f"tests/{name}.", f"tests/{name}/"))}
+        if not readers | own and not file.endswith(".md"):
+            return names(top)
+        found |= readers | own
+    return [name for name in names(top) if name in found]
+
+
+def is_below(file: str, place: str) -> bool:
+    """Whether a file is what READS names."""
+    if place.endswith("/"):
+        return file.startswith(place)
+    return file == place or "/" not in file and place[:1] == "*" and file.endswith(place[1:])
+
+
+def run(top: Path, name: str, *, is_quick: bool) -> Ran:
+    """Runs a script. One that takes too long is stopped, with all that it started.
+
+    Args:
+        is_quick: whether it may build nothing, and may be skipped.
+    """
+    surroundings = {**os.environ, **({"QUICK": "1"} if is_quick else {})}
+    began = time.monotonic()
+    with tempfile.TemporaryFile() as output:
+        child = subprocess.Popen(
+            ["bash", str(top / "tests" / f"{name}.sh")],
+            cwd=top,
+            env=surroundings,
+            stdin=subprocess.DEVNULL,
+            stdout=output,
+            stderr=subprocess.STDOUT,
+            start_new_session=True,
+        )
+        try:
+            status, seconds = wait_for(child, began + LIMIT)
+        finally:
+            with contextlib.suppress(ProcessLookupError):
+                os.killpg(child.pid, signal.SIGKILL)
+        output.seek(0)
+        text = output.read().decode(errors="replace")
+    if status is None:
+        text += f"\ntest: {name}.sh is stopped after {LIMIT // 60} minutes\n"
+    print(f"== tests/{name}.sh\n{text}", end="" if text.endswith("\n") else "\n", flush=True)
+    last = next((line for line in reversed(text.splitlines()) if line.strip()), "")
+    cost = Cost(seconds, time.monotonic() - began)
+    return Ran(name, 1 if status is None else status, cost, last)
+
+
+def wait_for(child: subprocess.Popen[bytes], until: float) -> tuple[int | None, float]:
+    """Waits for a process; gives its status, None if it was stopped, and its processor seconds."""
+    handle = os.pidfd_open(child.pid)
+    try:
+        ended, _, _ = select.select([handle], [], [], max(0.0, until - time.monotonic()))
+    finally:
+        os.close(handle)
+    if not ended:
+        os.killpg(child.pid, signal.SIGKILL)
+    _, status, used = os.wait4(child.pid, 0)
+    child.returncode = os.waitstatus_to_exitcode(status)
+    return child.returncode if ended else None, used_seconds(used)
