@@ -2,6 +2,7 @@
 
 from __future__ import annotations
 
+import logging
 import pathlib
 from collections.abc import Iterator
 
@@ -11,6 +12,17 @@ from server import Server, serving
 from sagas.core import states
 
 states.Check.is_on = True
+
+
+LEVELS = {name: logging.getLogger(name).level for name in ("", "sagas")}
+
+
+@pytest.fixture(autouse=True)
+def log_levels() -> Iterator[None]:
+    """Each test begins with the levels of a new process, whatever the one before it has set."""
+    for name, level in LEVELS.items():
+        logging.getLogger(name).setLevel(level)
+    yield
 
 
 @pytest.fixture(scope="session")

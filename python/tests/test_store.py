@@ -1215,7 +1215,8 @@ def test_a_log_line_is_one_line(place: str, caplog: pytest.LogCaptureFixture) ->
             await ended(store, saga, "order/2026 ü")
             await ended(store, saga, "order-1")
 
-    run(main())
+    with caplog.at_level(logging.WARNING, "sagas"):
+        run(main())
     detail = r'"ValueError: a \"b\"\nc\u0085=ü"'
     assert [record.getMessage() for record in caplog.records if record.name == "sagas"] == [
         f"step_failed key={key} saga=simple step=a attempt=1 detail={detail}" for key in ('"order/2026 ü"', "order-1")
