@@ -274,7 +274,8 @@ class Store(RetryCalls):
                 none). The labels of the first start of a key count.
             deadline: When the saga is aborted if it has not ended: seconds or a timedelta from now
                 on, or a datetime with a time zone (default: that of `Saga`). That of the first
-                start of a key counts.
+                start of a key counts. One that has passed aborts the saga at once, and calls
+                no function.
             traceparent: The W3C trace context that the saga is started in (default: of the current
                 span, where `opentelemetry-api` is installed). That of the first start of a key
                 counts.

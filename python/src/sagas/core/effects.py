@@ -38,6 +38,8 @@ class RareEffects:
         withdrawn: These are offered no more, where the withdrawal is done.
         draining: A step of these sagas failed, so that they drain: what waits of them and was not
             called is given up (`AttemptMachine.drain`).
+        overdue: These sagas are aborted, because their deadlines had passed as they were opened
+            or recovered. Of those that are opened, it is done once they are started.
         early: These reports of steps that have not begun are stored, or refused.
         aborted: These were answered, each with `done`.
         planned: These sagas go by a plan that was adopted, their `answer`.
@@ -48,6 +50,7 @@ class RareEffects:
     offered: list[Attempt] = dataclasses.field(default_factory=list)
     withdrawn: list[tuple[Attempt, Withdrawal]] = dataclasses.field(default_factory=list)
     draining: list[SagaInstance] = dataclasses.field(default_factory=list)
+    overdue: list[SagaInstance] = dataclasses.field(default_factory=list)
     early: list[EarlyReport | Refusal] = dataclasses.field(default_factory=list)
     aborted: list[Abort] = dataclasses.field(default_factory=list)
     planned: list[SagaInstance] = dataclasses.field(default_factory=list)
@@ -105,6 +108,7 @@ class Question:
         reports: How these attempts ended.
         aborts: To abort these sagas.
         opens: To open these sagas.
+        overdue: To abort these of them at once, because their deadlines have passed.
         defines: To know so many further definitions of the shard.
         claims: For so many tasks; 0 if it was not asked for any.
         plans: So many sagas are expected to be planned: each plan is a task, and takes no slot.
@@ -115,8 +119,8 @@ class Question:
     """
 
     __slots__ = (
-        "lines", "reports", "aborts", "opens", "defines", "claims", "plans", "looks", "shows",
-        "effects",
+        "lines", "reports", "aborts", "opens", "overdue", "defines", "claims", "plans", "looks",
+        "shows", "effects",
     )  # fmt: skip
 
     def __init__(self) -> None:
@@ -124,6 +128,7 @@ class Question:
         self.reports: Sequence[Attempt] = ()
         self.aborts: Sequence[Abort] = ()
         self.opens: Sequence[SagaInstance] = ()
+        self.overdue: Sequence[SagaInstance] = ()
         self.looks: Sequence[int] = ()
         self.shows: Sequence[int] = ()
         self.effects: Effects | None = None

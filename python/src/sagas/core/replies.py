@@ -68,6 +68,8 @@ class Reading:
             self._defines(asked, left)
         if asked.opens:
             self._opens(asked.opens, left)
+            if asked.overdue:
+                self.overdue(asked.overdue, left)
         if asked.claims:
             self._next(next(left))
         for number, reply in zip(asked.looks, left) if asked.looks else ():
@@ -195,6 +197,16 @@ class Reading:
                 self._cancel(abort.saga)
             self._batch.answer(abort.command, "true" if abort.done else "false")
         self._effects.more.aborted += aborts
+
+    def overdue(self, sagas: Sequence[SagaInstance], replies: Iterator[str]) -> None:
+        """Read the replies to aborts of sagas whose deadlines have passed. Nobody waits for
+        these.
+        """
+        for saga, reply in zip(sagas, replies):
+            if reply.startswith(protocol.EVENT):
+                saga.odd = saga.aborted = saga.draining = True
+                self._cancel(saga)
+                self._effects.more.overdue.append(saga)
 
     def _cancel(self, saga: SagaInstance) -> None:
         """What workers do of it may not be wanted any more."""

@@ -3,7 +3,7 @@
 A shard is up to 1,000 sagas with one owner and one event log. Its engine process decides what
 happens next, and its event log in the store is the only truth. One turn of a shard is:
 
-    lines = driver.requests(free_slots)         # what is due, [] if nothing is
+    lines = driver.requests(free_slots, now)    # what is due, [] if nothing is
     answer = driver.replies(*ask(lines), now)   # `ask` is the engine: its replies, and log text
     while isinstance(answer, list):             # how sagas ended that did not just go well
         answer = driver.replies(*ask(answer), now)
@@ -224,11 +224,13 @@ class ShardDriver:
 
     # -- to the engine
 
-    def requests(self, free_slots: int) -> list[str]:
+    def requests(self, free_slots: int, now: float = 0.0) -> list[str]:
         """Ask what is due.
 
         Args:
             free_slots: How many tasks may be claimed.
+            now: Wall time in seconds. Sagas whose deadlines have passed are aborted as they are
+                opened, before a task of theirs is claimed.
 
         Returns:
             Lines for the engine; none if nothing is due. `asked` says what they ask.
@@ -246,6 +248,8 @@ class ShardDriver:
             asked.defines = len(defines)
             lines += defines
             asked.opens = self._ask_opens(lines)
+            if any(saga.is_overdue(now) for saga in asked.opens):
+                self._ask_aborts(asked, lines, now)
         if lines:
             self.hungry = True
         if self.hungry and free_slots > 0:
@@ -292,6 +296,17 @@ class ShardDriver:
             lines.append(protocol.open_line(saga.place, self.opened + len(lot)))
             lot.append(saga)
         return lot
+
+    def _ask_aborts(self, asked: Question, lines: list[str], now: float) -> None:
+        """Abort those that are about to be opened, and whose deadlines have passed. They are
+        planned at once, and are expected to be over.
+        """
+        late = [(self.opened + at, saga) for at, saga in enumerate(asked.opens)]
+        late = [(number, saga) for number, saga in late if saga.is_overdue(now)]
+        lines += [protocol.abort_line(number) for number, _ in late]
+        asked.overdue = [saga for _, saga in late]
+        asked.plans += len(late)
+        asked.looks = [*asked.looks, *(number for number, _ in late)]
 
     # -- from the engine
 

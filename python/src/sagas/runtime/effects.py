@@ -88,6 +88,8 @@ class EffectHandler:
             self._kept(rare)
         if effects.opened:
             self._opened(effects.opened)
+        for saga in rare.overdue:
+            self._overdue(saga)
         for saga in rare.planned:
             self._executor.planned(saga)
         if effects.ended:
@@ -170,6 +172,12 @@ class EffectHandler:
             self._executor.drain(saga)
             self._teller.tell("saga_aborted", key=saga.key, saga=saga.kind.name)
         self._sagas.answer_abort(abort)
+
+    def _overdue(self, saga: SagaInstance) -> None:
+        """A saga is aborted, because its deadline had passed."""
+        self._teller.tell("saga_overdue", key=saga.key, saga=saga.kind.name)
+        self._executor.drain(saga)
+        self._teller.tell("saga_aborted", key=saga.key, saga=saga.kind.name)
 
     def _opened(self, sagas: Sequence[SagaInstance]) -> None:
         tells = self._teller.wants("saga_started")

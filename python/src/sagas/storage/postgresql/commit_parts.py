@@ -20,6 +20,11 @@ ROWS = {
     ),
     "opened_with": "id bigint, key text, saga text, definition_index integer, input text, "
     "at double precision, deadline double precision, traceparent text",
+    "opened_over": (
+        "id bigint, key text, saga text, definition_index integer, input text, "
+        "at double precision, deadline double precision, traceparent text, phase text, "
+        "outcome text, recovered boolean, undo_failed boolean, ended double precision"
+    ),
     "results": (
         "id bigint, step integer, action text, number integer, event text, value text, at double "
         "precision"
@@ -65,6 +70,9 @@ ROWS = {
 """The columns of the rows of each part. Most sagas are opened without a deadline and a trace
 context, and end without a plan: such rows are written without them, since psycopg handles each
 word of a statement by itself. Its gain alone is not measured.
+
+`opened_over`: sagas that also end in the commit. A part that updates a row does not see what
+another part inserts.
 """
 COLUMNS = {
     part: [
@@ -88,6 +96,10 @@ PARTS = {
     "opened_with": (
         "INSERT INTO sagas(id, key, saga, definition_index, input, at, deadline, traceparent) "
         f"SELECT v.* FROM {{rows}} {OF_LOG}"
+    ),
+    "opened_over": (
+        "INSERT INTO sagas(id, key, saga, definition_index, input, at, deadline, traceparent, "
+        f"phase, outcome, recovered, undo_failed, ended) SELECT v.* FROM {{rows}} {OF_LOG}"
     ),
     "results": f"INSERT INTO attempts SELECT v.* FROM {{rows}} {OF_LOG} "
     "ON CONFLICT (id, step, action, number) DO UPDATE SET event = excluded.event WHERE "

@@ -214,7 +214,8 @@ class Commit:
     @property
     def ended(self) -> list[int]:
         """The sagas that end in it."""
-        return [row[-1] for row in self.rows("ended") or self.rows("ended_with")]
+        ended = [row[-1] for row in self.rows("ended") or self.rows("ended_with")]
+        return ended + [row[0] for row in self.rows("opened_over")]
 
     def rows(self, part: str) -> Sequence[Sequence[Any]]:
         """The rows of a part."""
@@ -224,12 +225,10 @@ class Commit:
         rows = self.parts
         if batch.text:
             rows["lines"] = [(batch.log, self._lines(batch), batch.at, batch.text, batch.epoch)]
-        if batch.opened:
-            self._put_opened(batch.opened)
+        if batch.opened or batch.ended:
+            self._put_sagas(batch.opened, batch.ended)
         if batch.results:
             rows["results"] = batch.results
-        if batch.ended:
-            self._put_ended(batch.ended)
         if batch.guessed:
             rows["guessed"] = [(batch.log, key) for key in batch.guessed]
         if batch.rare:
@@ -252,11 +251,21 @@ class Commit:
             "guessed": [(batch.log, key) for batch in batches for key in batch.guessed],
         }
         self.parts.update((part, found) for part, found in rows.items() if found)
-        self._put_opened([row for batch in batches for row in batch.opened])
-        self._put_ended([row for batch in batches for row in batch.ended])
+        opened = [row for batch in batches for row in batch.opened]
+        self._put_sagas(opened, [row for batch in batches for row in batch.ended])
         self.rare += [(batch.log, batch.rare) for batch in batches if batch.rare]
         if self.rare or any(batch.born for batch in batches):
             self._others()
+
+    def _put_sagas(self, opened: Sequence[Opened], ended: Sequence[Ended]) -> None:
+        ends = {row[-1]: row for row in ended} if opened else {}
+        if over := [(*row, *ends[row[0]][:-1]) for row in opened if row[0] in ends]:
+            self.parts["opened_over"] = over
+            ids = {row[0] for row in over}
+            opened = [row for row in opened if row[0] not in ids]
+            ended = [row for row in ended if row[-1] not in ids]
+        self._put_opened(opened)
+        self._put_ended(ended)
 
     def _put_opened(self, rows: Sequence[Opened]) -> None:
         for row in rows:
