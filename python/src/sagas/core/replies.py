@@ -60,10 +60,13 @@ class Reading:
         if asked.lines != len(replies):
             raise Disagrees(f"{len(replies)} replies to {asked.lines} requests")
         left = iter(replies)
-        if asked.aborts:
-            self._aborts(asked.aborts, left)
-        if asked.reports:
-            self._reports(asked.reports, left)
+        if asked.early:
+            self._before_recovery(asked, left)
+        else:
+            if asked.aborts:
+                self._aborts(asked.aborts, left)
+            if asked.reports:
+                self._reports(asked.reports, left)
         if asked.defines:
             self._defines(asked, left)
         if asked.opens:
@@ -149,6 +152,27 @@ class Reading:
                 self._otherwise(attempt, outcome, event)
             self._phase(saga, phase)
         self._effects.reported = attempts
+
+    def _before_recovery(self, asked: Question, replies: Iterator[str]) -> None:
+        """The successes of a lot, reports of steps that had not begun, the aborts, and the rest of
+        the lot. The engine may not take such a step: then its report stays where it is.
+        """
+        self._reports(asked.reports[: asked.goods], replies)
+        taken, events = list[Attempt](), list[str]()
+        for report in asked.early:
+            task, event = next(replies), next(replies)
+            if protocol.event_and_phase(event) is not None:
+                number = serialization.read(task)["attempt"]
+                attempt = Attempt(report.saga, *report.word, number, fresh=True)
+                attempt.finish(report.outcome, self._batch.at)
+                attempt.has_row = True
+                taken.append(attempt)
+                events.append(event)
+        self._reports(taken, iter(events))
+        self._effects.more.taken = taken
+        self._aborts(asked.aborts, replies)
+        self._reports(asked.reports[asked.goods :], replies)
+        self._effects.reported = asked.reports
 
     def _settle_rows(self, attempt: Attempt) -> None:
         """What else the store has of an attempt that was reported. Of a wait that is retried it

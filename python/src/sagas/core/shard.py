@@ -26,10 +26,11 @@ import itertools
 from collections import deque
 from collections.abc import Iterable, Sequence
 
-from sagas.core import endings, offers, protocol, suspension_rows
+from sagas.core import early_reports, endings, offers, protocol, suspension_rows
 from sagas.core.batch import Batch, Born, Loaded, Withdrawal
 from sagas.core.effects import Abort, Effects, Question
 from sagas.core.model import Attempt, SagaInstance
+from sagas.core.early_reports import is_success
 from sagas.core.outcomes import SUCCEEDED
 from sagas.core.replies import Reading
 from sagas.core.shard_definitions import ShardDefinitions
@@ -243,6 +244,8 @@ class ShardDriver:
             lines += [protocol.abort_line(abort.saga.number) for abort in asked.aborts]
         if self.reports:
             asked.reports = self._ask_reports(asked, lines)
+        if asked.aborts or asked.odd:
+            self._ask_early(asked, lines)
         if self.opens:
             defines = self.identity.definitions.define_lines()
             asked.defines = len(defines)
@@ -283,8 +286,31 @@ class ShardDriver:
                 saga.odd = True
                 odd.append(attempt)
         if odd:
+            asked.odd = odd
             asked.plans, asked.looks = endings.expected(odd)
         return lot
+
+    def _ask_early(self, asked: Question, lines: list[str]) -> None:
+        """Before a saga recovers, commit what was reported of its steps that have not begun, where
+        the engine allows it: behind the successes of the lot, and ahead of all else.
+        """
+        sagas = [abort.saga for abort in asked.aborts]
+        sagas += [one.instance for one in asked.odd if not is_success(one)]
+        asked.early = early_reports.due(sagas, asked.reports)
+        if not asked.early:
+            return
+        first = len(asked.aborts)
+        told = [*zip(asked.reports, lines[first:])]
+        told.sort(key=lambda one: not is_success(one[0]))
+        if told:
+            asked.reports = self.reporting[-1] = [attempt for attempt, _ in told]
+        asked.goods = sum(map(is_success, asked.reports))
+        reports = [line for _, line in told]
+        taken = [protocol.take_lines(one.saga.number, one.word[0]) for one in asked.early]
+        lines[:] = [
+            *reports[: asked.goods], *itertools.chain(*taken), *lines[:first],
+            *reports[asked.goods :],
+        ]  # fmt: skip
 
     def _ask_opens(self, lines: list[str]) -> Sequence[SagaInstance]:
         """As many as a question may have."""

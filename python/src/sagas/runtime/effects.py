@@ -108,6 +108,8 @@ class EffectHandler:
 
     def _kept(self, rare: RareEffects) -> None:
         """Rows, offers, reports and answers are in the store."""
+        if rare.taken:
+            self._executor.reported(rare.taken)
         for attempt in rare.suspended:
             self._executor.stored(attempt)
         for attempt in rare.offered:
