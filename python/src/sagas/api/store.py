@@ -98,6 +98,7 @@ class Store(RetryCalls):
             StoreAccess("PostgreSQL" if factory.is_url(self._name) else self._name), self._name
         )
         self._starter = Starter(self._access, self._lookup, self._shelf, accept_new)
+        self._reports.starter = self._starter
         self._requests: operator_commands.Requests | None = None
         self.workers = Workers(self._access)
         self.deliveries = Deliveries(self._access, self._shelf)
@@ -157,13 +158,17 @@ class Store(RetryCalls):
         except BaseException:
             await coordinator.close(0.0)
             raise
-        self._requests = operator_commands.Requests(coordinator, self._commands)
+        self._requests = operator_commands.Requests(coordinator, self._commands, self._reports)
         coordinator.listeners.append(self._requests.look)
         if self._starter.accepts_new:
             coordinator.listeners.append(coordinator.starts().look)
             scheduler = Scheduler(coordinator, self._start_scheduled, self._advance)
             coordinator.listeners.append(scheduler.look)
             coordinator.spawn(scheduler.run())
+        steps = [step for saga in self._shelf.sagas.values() for step in saga.all_steps]
+        if any(step.early_unused == "compensate" for step in steps):
+            coordinator.sagas.unused = self._reports.look
+            coordinator.spawn(self._reports.run())
         database.watch(coordinator)
         if isinstance(database, BlobDatabase):
             coordinator.spawn(blob_sweep.sweep(database))

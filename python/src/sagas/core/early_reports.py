@@ -26,6 +26,7 @@ ATTEMPT = 0
 KINDS = {
     EarlyReason.RESULT: OutcomeKind.SUCCEEDED,
     EarlyReason.ERROR: OutcomeKind.FAILED_PERMANENTLY,
+    EarlyReason.UNDONE: OutcomeKind.SUCCEEDED,
 }
 STORED = "a report of it is stored, and is used when it begins"
 NOT_STARTED = "it has not started. Report it after it starts"
@@ -145,11 +146,25 @@ def _may_begin(saga: SagaInstance, word: Word) -> bool:
 
 
 def unused(saga: SagaInstance) -> list[int]:
-    """Return the steps of a saga that is over whose success was reported, and not used."""
-    if not saga.has_early:
-        return []
-    early = saga.rare.early
+    """Return the steps of a saga that is over whose success was reported, and not used. An approval
+    has nothing to be undone.
+    """
+    return [step for step in _left(saga) if not _has_no_effect(saga, step)]
+
+
+def without_effect(saga: SagaInstance) -> list[int]:
+    """As `unused`, the steps that have nothing to be undone."""
+    return [step for step in _left(saga) if _has_no_effect(saga, step)]
+
+
+def _left(saga: SagaInstance) -> list[int]:
+    early = saga.rare.early if saga.has_early else {}
     return sorted(step for (step, _), (reason, _) in early.items() if reason is EarlyReason.RESULT)
+
+
+def _has_no_effect(saga: SagaInstance, step: int) -> bool:
+    declared = saga.kind.steps[step]
+    return declared is not None and declared.undo.implied
 
 
 def taken(attempt: Attempt) -> Outcome | None:

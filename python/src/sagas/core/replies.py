@@ -11,6 +11,7 @@ from sagas.core.attempts import PARKED
 from sagas.core.batch import Opened, Result
 from sagas.core.collection import has_nothing_to_undo, is_unclear
 from sagas.core.early_reports import stored as stored_report
+from sagas.core.early_reports import without_effect
 from sagas.core.effects import Abort, Effects, Question
 from sagas.core.model import Attempt, SagaInstance
 from sagas.core.offers import first_offer
@@ -332,4 +333,6 @@ class Reading:
         if saga.has_due:  # a wait that is retried kept its row for an attempt that never came
             freed = [(id, step, kind, LAST_ATTEMPT) for step, kind in saga.rare.due]
             batch.more.freed += freed
+        if saga.has_early:
+            batch.more.undone += [(id, step) for step in without_effect(saga)]
         self._effects.ended.append(saga)

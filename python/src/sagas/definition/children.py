@@ -45,6 +45,7 @@ class ChildSteps:
         name: Its name.
         steps: Its steps.
         undoes: The definition whose completed sagas it undoes, or None.
+        undoes_step: The only step that it undoes, of a saga that did not use a report of it.
         has_children: Whether a step starts another saga.
         is_shaped: Whether its steps come from its input.
     """
@@ -52,6 +53,7 @@ class ChildSteps:
     name: str
     steps: list[Step[Any]]
     undoes: Saga | None = None
+    undoes_step: Step[Any] | None = None
     has_children: bool = False
     is_shaped: bool
 

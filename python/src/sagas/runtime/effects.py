@@ -7,6 +7,7 @@ from typing import Protocol
 
 from sagas.base.errors import SagasError
 from sagas.base.events import Teller
+from sagas.core import early_reports
 from sagas.core.effects import NOTHING_RARE, Abort, Effects, RareEffects
 from sagas.core.model import Attempt, SagaInstance
 from sagas.core.recovery import Recovery
@@ -196,6 +197,8 @@ class EffectHandler:
                 self._tell_end(saga)
             if saga.odd and saga.phase == "ended" and (steps := undo_failures(saga.end)):
                 self._tell_undo_failed(saga, steps)
+            if unused := early_reports.unused(saga):
+                self._tell_unused(saga, unused)
 
     def _tell_end(self, saga: SagaInstance) -> None:
         """How a saga ended: its phase; of a stuck one because of which steps."""
@@ -206,6 +209,13 @@ class EffectHandler:
             recovered = (saga.answer or {}).get("kind") == "plan"
             detail = saga_phase(saga.phase, recovered, None).value
         self._teller.tell(f"saga_{saga.phase}", key=saga.key, saga=saga.kind.name, detail=detail)
+
+    def _tell_unused(self, saga: SagaInstance, steps: Sequence[int]) -> None:
+        """A saga ended without reports that were accepted: what steps did elsewhere is there."""
+        names = " and ".join(saga.kind.names[step] for step in steps)
+        detail = f"{names}: a success was reported before the step began, and was not used"
+        self._teller.tell("saga_unused_report", key=saga.key, saga=saga.kind.name, detail=detail)
+        self._sagas.unused()
 
     def _tell_undo_failed(self, saga: SagaInstance, steps: Sequence[int]) -> None:
         """A saga ended, and what steps of it did stands against its plan."""

@@ -19,7 +19,8 @@ from sagas.core.offers import task_name
 from sagas.core.suspensions import Lease
 from sagas.definition.compiled import Kind
 from sagas.definition.control import Progress
-from sagas.definition import shape_validation
+from sagas.definition import report_undos, shape_validation
+from sagas.definition.saga import Saga
 from sagas.definition.shape_values import ShapeValues
 from sagas.definition.task import Task
 from sagas.definition.task_data import Told
@@ -306,13 +307,14 @@ class ExternalQueue(ExternalReports):
         """What a worker is handed; None where that cannot be computed."""
         now, attempt = self.owner.clock(), self.find(claim.attempt)
         if attempt is None:
-            task = await self._task(claim)
+            task, saga = await self._task(claim)
         else:
             attempt.rare.lease = Lease(claim.lease, worker, now, now + claim.seconds)
             attempt.fresh = False
             await self.owner.executor.values.fill(attempt)
-            task = attempt.task()
+            task, saga = attempt.task(), attempt.instance.kind.saga
             attempt.instance.release()
+        task = report_undos.compensation(task, saga)
         if claim.cancelled is not None:
             task.cancelled.set(claim.cancelled)
         self.owner.teller.tell(
@@ -333,8 +335,8 @@ class ExternalQueue(ExternalReports):
             return None
         return LeasedTask(claim.attempt, lease, now + claim.seconds, task, given)
 
-    async def _task(self, claim: Claim) -> Task[Any]:
-        """What a worker is handed of an attempt that another node drives."""
+    async def _task(self, claim: Claim) -> tuple[Task[Any], Saga | None]:
+        """What a worker is handed of an attempt that another node drives, and its definition."""
         read, undo = self.owner.store.read, claim.action == "undo"
         rows = await read(OF_SAGA, claim.id)
         ((key, text, deadline, traceparent, definition, shape),) = rows
@@ -355,7 +357,7 @@ class ExternalQueue(ExternalReports):
             results.get(claim.step) if undo else None, hint, kind.decoders, deadline,
             kind.actions[claim.action][claim.step].context, traceparent=traceparent, place=place,
         )  # fmt: skip
-        return Task(told)
+        return Task(told), kind.saga
 
     async def heartbeat(
         self, token: str, lease: str, holder: str, seconds: float, told: Progress | None

@@ -64,6 +64,7 @@ ROWS = {
     "asked": "shard bigint, key text, command text, value text, at double precision, answer text",
     "begun": "shard bigint, id bigint, saga bigint",
     "notes": "note text, id bigint",
+    "undone": "id bigint, step integer",
     "closed": "shard bigint, closed smallint, audit text",
     "set_aside": "shard bigint, audit text",
 }
@@ -160,6 +161,8 @@ PARTS = {
     "RETURNING key, commands, v.saga",
     "notes": "UPDATE sagas SET note = v.note FROM {rows} WHERE sagas.id = v.id "
     "AND sagas.note IS NULL",
+    "undone": "UPDATE suspensions h SET reason = 'early_undone' FROM {rows} WHERE h.id = v.id "
+    "AND h.step = v.step AND h.action = 'run' AND h.number = 0 AND h.reason = 'early_result'",
     "closed": (
         "UPDATE shards SET closed = v.closed, audit = v.audit FROM {rows} JOIN mine USING (shard) "
         "WHERE shards.shard = v.shard"

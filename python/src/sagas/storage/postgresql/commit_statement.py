@@ -18,6 +18,7 @@ from collections.abc import Callable, Iterable, Mapping, Sequence
 from typing import Any
 
 from sagas.core.batch import Batch, Ended, HeldRow, Opened, Rare, Tail
+from sagas.core.states import EarlyReason
 from sagas.definition import tokens
 from sagas.definition.capacity import SHARD_CAPACITY
 from sagas.definition.serialization import clean
@@ -127,6 +128,12 @@ def _attempts(rare: Rare, part: str) -> Sequence[Sequence[Any]]:
     return rows
 
 
+def _undone(row: HeldRow) -> HeldRow:
+    """The row of a report of which nothing is left to be undone."""
+    is_report = row[3] == 0 and row[4] == EarlyReason.RESULT
+    return (*row[:4], EarlyReason.UNDONE.value, *row[5:]) if is_report else row
+
+
 def _saga_of(log: int, attempt: str) -> int:
     """The id of the saga of an attempt."""
     name = tokens.parse(attempt)
@@ -167,6 +174,7 @@ PLAIN: dict[str, Callable[[int, Rare], Iterable[Any]]] = {
     "asked": lambda log, rare: [(log, *row, answer) for row, answer in rare.asked],
     "begun": lambda log, rare: [(log, *one) for one in rare.begun],
     "notes": lambda log, rare: [(clean(note), id) for note, id in rare.notes],
+    "undone": lambda log, rare: rare.undone,
     "closed": lambda log, rare: [(log, *rare.closed)] if rare.closed else [],
     "set_aside": lambda log, rare: [(log, *rare.set_aside)] if rare.set_aside else [],
 }
@@ -307,6 +315,10 @@ class Commit:
                 held[at] = {
                     number: row for number, row in held.get(at, {}).items() if number > attempt
                 }
+        some = [rare.undone for _, rare in self.rare if "undone" in rare.parts]
+        undone = {(*one, "run") for of in some for one in of}
+        for at in undone & held.keys():  # that part does not see rows of this one
+            held[at] = {number: _undone(row) for number, row in held[at].items()}
         rows = [row for of in held.values() for row in of.values()]
         if rows:
             self.parts["held"] = rows
