@@ -20,6 +20,7 @@ from collections.abc import Awaitable, Callable, Sequence
 from concurrent.futures import Executor
 from typing import TYPE_CHECKING, Any, Optional, Protocol
 
+from sagas.base.errors import InvalidStore
 from sagas.core.batch import (  # fmt: skip
     Batch,
     Born,
@@ -121,6 +122,9 @@ class Watcher(Protocol):
 
     def offered(self) -> None:
         """Another node has something for workers."""
+
+    def refused(self, error: InvalidStore) -> None:
+        """The server has no tables of the store, and this node may not make them."""
 
     def logs(self) -> list[int]:
         """The logs that this node drives, as far as it knows."""

@@ -221,6 +221,8 @@ class PostgreSQL(queries.Questions):
             except StoreUnavailable as error:
                 if await tables.make(error):
                     continue
+                if tables.refusal and self._watcher:
+                    self._watcher.refused(tables.refusal)
             else:
                 tables.seen(self._line)
             with contextlib.suppress(TimeoutError):
