@@ -76,12 +76,13 @@ COMPLETED = f"""
 FROM below b CROSS JOIN sagas s CROSS JOIN sagas p CROSS JOIN shard_definitions d
 WHERE s.id = b.id AND s.phase = 'ended' AND NOT s.{PLANNED}
   AND p.id = b.parent AND (p.phase IS NULL OR p.phase = 'ended' AND NOT p.{PLANNED})
-  AND substr(s.key, length(s.key) - {len(UNDO) - 1}) <> '{UNDO}'
-  AND NOT EXISTS (SELECT 1 FROM sagas u WHERE u.key = s.key || '{UNDO}' AND u.phase IS NOT NULL)
+  AND substr(s.key, length(p.key)) NOT LIKE '%%{UNDO}%%'
+  AND NOT EXISTS (SELECT 1 FROM sagas u
+    WHERE u.key = s.key || '{UNDO}' AND u.phase = 'ended' AND NOT u.{PLANNED})
   AND d.shard = s.id / {SHARD_CAPACITY} AND d.place = s.definition_index
 """
-"""Those of them that have completed and that are not undone: `s`, with its parent `p` and its
-definition `d`.
+"""Those of them that have completed, undo no child and are not undone: `s`, with its parent `p` and
+its definition `d`. For psycopg, each % is there twice, which means the same.
 """
 COMPLETED_CHILDREN = f"""
 {BELOW} SELECT DISTINCT b.shard, p.phase IS NULL,
