@@ -22,6 +22,15 @@ def key_of(attempt: Attempt) -> str:
     return children.key_of(attempt.key, attempt.name, number, attempt.undo)
 
 
+def undone_key(attempt: Attempt) -> str | None:
+    """Return the key of the child that an attempt undoes; None if it starts one."""
+    if attempt.undo:
+        return str(attempt.task().result["key"])
+    if attempt.instance.kind.undoes is not None:  # it undoes a child of the one that is undone
+        return str(child_input(attempt))
+    return None
+
+
 def child_input(attempt: Attempt) -> Any:
     """Return the input of a child, as the step's function says it."""
     function = attempt.declared.run.function

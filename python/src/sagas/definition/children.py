@@ -45,6 +45,7 @@ class ChildSteps:
         name: Its name.
         steps: Its steps.
         undoes: The definition whose completed sagas it undoes, or None.
+        undo_text: Its definition as a text, if it undoes others.
         has_children: Whether a step starts another saga.
         is_shaped: Whether its steps come from its input.
     """
@@ -52,6 +53,7 @@ class ChildSteps:
     name: str
     steps: list[Step[Any]]
     undoes: Saga | None = None
+    undo_text: str = ""
     has_children: bool = False
     is_shaped: bool
 
@@ -82,7 +84,8 @@ class ChildSteps:
         started counts. The child's key is `KEY/:STEP`, by the saga's own key and the step's name.
         The step succeeds with a `ChildResult` once the child has completed. If the child ends
         otherwise, the step fails. An abort of the saga aborts the child. The compensation starts a
-        saga of the child's compensations, with the key `KEY/:STEP:undo`.
+        saga of the child's compensations, with the key `KEY/:STEP:undo`. Its steps, needs and costs
+        are those of the definition that the child ran with.
 
         Args:
             saga: The child's definition, which the store must have, too.
