@@ -14,6 +14,7 @@ from collections.abc import Callable, Iterator
 from typing import TYPE_CHECKING
 
 from sagas.base.errors import (
+    CannotDecode,
     ConflictingReport,
     LeaseLost,
     NoSuchTask,
@@ -29,6 +30,7 @@ from sagas.core.model import FINISHED, SUSPENDED, Attempt
 from sagas.core.outcomes import CANNOT_DECODE, FAILED, PERMANENT, SUCCEEDED, UNKNOWN, Outcome
 from sagas.core.states import OutcomeKind, Suspension
 from sagas.definition import tokens
+from sagas.definition.blobs import BlobUnavailable
 from sagas.definition.capacity import SHARD_CAPACITY
 from sagas.runtime.offer_check import is_out
 from sagas.runtime.retries import until_answered
@@ -118,11 +120,11 @@ class ExternalReports:
             await self._table.tell()
         return True
 
-    async def park(self, token: str, number: int, why: str) -> None:
+    async def park(self, token: str, number: int, why: CannotDecode | BlobUnavailable) -> None:
         """Set a claimed task aside that cannot be handed out: it waits for a program that can read
-        what is stored for it, or for an operator."""
+        what is stored for it, or for an operator; or until its values can be got."""
         logger.warning("%s cannot be handed out: %s", token, why)
-        outcome = outcomes.unreadable(why)
+        outcome = outcomes.unreadable(str(why), passes=isinstance(why, BlobUnavailable))
         with contextlib.suppress(StoreUnavailable):  # the lease ends, and it is claimed again
             shard = await self._table.report(token, number, str(outcome.kind), outcome.value)
             if shard in self.owner.shards.runners:

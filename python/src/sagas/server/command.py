@@ -40,8 +40,7 @@ from sagas.server.settings import (
     is_loopback,
 )
 from sagas.server.webhook_file import WebhookFault
-from sagas.storage import factory
-from sagas.storage.folder_blobs import FolderBlobStore
+from sagas.storage import blob_option, factory
 
 GOOD, NO, USAGE, CANNOT, OVERDUE, INTERRUPTED = 0, 1, 2, 4, 5, 130
 GARBAGE = 5000
@@ -247,14 +246,11 @@ def loaded(option: str, place: str) -> Any:
 
 
 def blobs_of(place: str | None) -> Any:
-    """The blob store of an option: of a module, or a folder. Raises `Trouble`."""
-    if place is None:
-        return None
-    if ":" in place:
-        return loaded("--blobs", place)
-    if pathlib.Path(place).exists() and not pathlib.Path(place).is_dir():
-        raise Trouble(f"--blobs {place}: this is a file; pass a directory, or MODULE:NAME")
-    return FolderBlobStore(place)
+    """The blob store of an option. Raises `Trouble`."""
+    try:
+        return None if place is None else blob_option.blobs_of(place)
+    except ValueError as error:
+        raise Trouble(str(error)) from error
 
 
 def codec_of(words: argparse.Namespace) -> Any:
