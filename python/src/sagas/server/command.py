@@ -287,7 +287,9 @@ def options_of(words: argparse.Namespace, app: AppStore | None) -> dict[str, Any
         "context": words.context and loaded("--context", words.context),
         "blobs": blobs_of(words.blobs),
         "blob_threshold": words.blob_threshold,
-        "retention": words.retention and datetime.timedelta(seconds=words.retention),
+        "retention": None
+        if words.retention is None
+        else datetime.timedelta(seconds=words.retention),
         "archive_dir": words.archive_dir,
         "node": words.node,
         "lease": words.lease,

@@ -79,6 +79,7 @@ class Blobs:
         self.under_way: set[str] = set()
         self._places = asyncio.Semaphore(AT_ONCE)
         self._marks: Marks | None = None
+        self._own = ""
         self._is_named, self._renewing = asyncio.Event(), asyncio.Lock()
 
     def mark(self, file: str, secret: bytes) -> Marks:
@@ -90,13 +91,12 @@ class Blobs:
         its own: the store whose values they are knows nothing of it, and would delete it.
         """
         self._marks = self.mark(file, secret)
+        self._own = hashlib.sha256(b"blobs" + secret).hexdigest()[:16]
         try:
-            is_own = await self._renew()
+            await self._renew()
         except (SagasError, KeyError) as error:
             logger.warning("%s: whose the blobs are could not be seen: %r", self._path, error)
-            is_own = False
-        own = hashlib.sha256(b"blobs" + secret).hexdigest()[:16]
-        self.prefix = own if is_own else secrets.token_hex(8)
+            self.prefix = secrets.token_hex(8)
         self._is_named.set()
 
     async def is_own(self) -> bool:
@@ -108,6 +108,10 @@ class Blobs:
         assert self._marks
         async with self._renewing:
             self.other = await self._marks.renew()
+            if self.other is None:
+                self.prefix = self._own
+            elif self.prefix in ("", self._own):
+                self.prefix = secrets.token_hex(8)
         return self.other is None
 
     async def _call(self, function: Callable[..., Any], *words: Any) -> Any:
