@@ -94,8 +94,9 @@ class Blobs:
         self._own = hashlib.sha256(b"blobs" + secret).hexdigest()[:16]
         try:
             await self._renew()
-        except (SagasError, KeyError) as error:
-            logger.warning("%s: whose the blobs are could not be seen: %r", self._path, error)
+        except Exception as error:  # also what no blob store may raise: values are put all the same
+            told = error if isinstance(error, SagasError) else type(error).__name__
+            logger.warning("%s: whose the blobs are could not be seen: %s", self._path, told)
             self.prefix = secrets.token_hex(8)
         self._is_named.set()
 

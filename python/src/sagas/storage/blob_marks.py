@@ -28,10 +28,9 @@ LATER = 10 * 86_400.0
 NOTED = "SELECT value FROM secrets WHERE name = 'blobs'"
 NOTE = "INSERT INTO secrets(name, value) VALUES('blobs', '') ON CONFLICT DO NOTHING"
 CHANGE = "UPDATE secrets SET value = ? WHERE name = 'blobs' AND value = ?"
-DATABASE = """
-SELECT (SELECT CAST(system_identifier AS text) FROM pg_control_system()) || '/' || CAST(oid AS text)
-FROM pg_database WHERE datname = current_database()
-"""
+MAY = "SELECT has_function_privilege('pg_control_system()', 'EXECUTE')"
+SERVER = "SELECT CAST(system_identifier AS text) FROM pg_control_system()"
+DATABASE = "SELECT CAST(oid AS text) FROM pg_database WHERE datname = current_database()"
 Call = Callable[..., Awaitable[Any]]
 
 
@@ -65,7 +64,8 @@ class Notes:
         """Where the store is."""
         with admin.writing(self._file) as link:
             if factory.is_url(self._file):
-                return Location(link.name, str(link.ask(DATABASE)[0][0]))
+                server = link.ask(SERVER)[0][0] if link.ask(MAY)[0][0] else ""
+                return Location(link.name, f"{server}/{link.ask(DATABASE)[0][0]}")
             path = os.path.realpath(self._file)
             return Location(path, f"{path} {os.stat(path).st_ino}")
 
