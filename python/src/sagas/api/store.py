@@ -7,7 +7,7 @@ import builtins
 import datetime
 import os
 import signal
-from collections.abc import Callable, Iterable
+from collections.abc import Callable, Iterable, Mapping
 from types import TracebackType
 from typing import TYPE_CHECKING, Any
 
@@ -54,7 +54,10 @@ class Store(RetryCalls):
             it before opening. Then such a step starts when it is claimed.
         workers: The tasks for workers.
         deliveries: What webhooks are told.
+        opened_with: The arguments of `sagas.open`, by name, for `sagas serve --app`.
     """
+
+    opened_with: Mapping[str, Any] = {}
 
     def __init__(
         self, path: str | os.PathLike[str], sagas: Iterable[Saga], *, concurrency: int,

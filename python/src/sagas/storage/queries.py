@@ -307,6 +307,10 @@ class Questions:
         """Rows of a query."""
         raise NotImplementedError
 
+    async def read_stored(self, query: str, *words: Any) -> list[tuple[Any, ...]]:
+        """As `read`, with references in place of values that are outside of the database."""
+        return await self.read(query, *words)
+
     async def read_long(self, query: str, *words: Any) -> list[tuple[Any, ...]]:
         """As `read`, of what may be many megabytes."""
         return await self.read(query, *words)
