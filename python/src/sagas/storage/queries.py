@@ -94,7 +94,8 @@ COMPLETED_CHILDREN = f"""
 key in its own, and its definition.
 """
 UNDOABLE = f"""
-{DESCENDANTS.format(which="l.closed = 0")} SELECT d.definition, s.saga, count(*) {COMPLETED} GROUP BY 1, 2
+{DESCENDANTS.format(which="l.closed = 0")}
+SELECT d.definition, s.saga, count(*) {COMPLETED} GROUP BY 1, 2
 """
 """How many they are of each definition, in the whole store."""
 COMPLETED_IN_FILE = COMPLETED_CHILDREN.format(which="l.closed = 0")
