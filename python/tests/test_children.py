@@ -294,7 +294,7 @@ def test_keys_and_inputs_that_cannot_be(place: str) -> None:
 
     async def main() -> None:
         async with world.open(place) as store:
-            with pytest.raises(sagas.InvalidKey, match="must have at most 501 characters"):
+            with pytest.raises(sagas.InvalidKey, match="must have at most 497 characters"):
                 await store.start(world.trip, "x" * 502, {"days": 3})
             for taken in ("t/:stay", "/:", "t/:stay:undo", "t/:whatever"):
                 with pytest.raises(sagas.InvalidKey, match="only keys of child sagas have '/:'"):

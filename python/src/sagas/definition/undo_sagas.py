@@ -55,6 +55,7 @@ def undo_saga(child: Saga) -> Saga | None:
         return None
     saga = Saga(name_of(child.name), version=child.version)
     saga.where, saga.undoes = child.where, child
+    saga.fair_by = _of_child(child.fair_by)
     above = _above(child)
     below = {step.name: _below(child, step.name) for step in child.steps}
     for step in reversed(child.steps):
@@ -127,7 +128,7 @@ def _declare(saga: Saga, step: Step[Any], needs: list[str], below: set[str]) -> 
             return
         saga.child(
             inner, input=_key_of(step.name), name=step.name, needs=needs, undo=NEVER, skip=skip,
-            keep=0,
+            keep=0, on_exhausted="ask" if step.undo.on_exhausted == "ask" else "fail",
         )  # fmt: skip
         return
     function = step.undo.function
@@ -140,8 +141,25 @@ def _declare(saga: Saga, step: Step[Any], needs: list[str], below: set[str]) -> 
         "skip": skip,
         "keep": 0,
     }
-    made = saga._add(manner.function, step.name, "step", needs, costs, manner, None)
+    limit = step.concurrency
+    made = saga._add(manner.function, step.name, "step", needs, costs, manner, limit)
     made.where = step.where
+    if limit is not None:
+        made.concurrency_by = _of_child(step.concurrency_by, children.hints(step)[0])
+
+
+def _of_child(
+    function: Callable[[Any], Any] | None, decoder: Decoder | None = None
+) -> Callable[[Any], Any] | None:
+    """A function of a child's input as one of the input of the saga that undoes the child."""
+    if function is None:
+        return None
+    of_input = function
+
+    def by(given: Any) -> Any:
+        return of_input(decoder(given["input"]) if decoder else given["input"])
+
+    return by
 
 
 def _key_of(name: str) -> Callable[[Task[Any]], Any]:
@@ -198,6 +216,16 @@ def _undoing(
 
 
 # -- of a store
+
+
+def check_started(saga: Saga) -> None:
+    """Raise `DefinitionError` where a saga undoes children: only their parents start it."""
+    child = getattr(saga, "undoes", None)
+    if child is not None:
+        raise DefinitionError(
+            f"saga {saga.name!r} undoes {child.name!r} as a child, so only parents of such children "
+            f"start it. Start {child.name!r}, or a saga of another name"
+        )
 
 
 def with_undo_sagas(sagas: Mapping[tuple[str, int], Saga]) -> dict[tuple[str, int], Saga]:
