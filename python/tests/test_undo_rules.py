@@ -495,7 +495,7 @@ def test_over_http(tmp_path: pathlib.Path) -> None:
             assert told["refused"][0]["problem"]["status"] == 422
             assert client.post(complete, json={"result": result("h/:kid", results={})}).status_code == 200
             assert client.get("/v1/sagas/h/wait").json()["phase"] == "completed"
-            assert owner.post(f"{path}/steps/room/complete", json={}).status_code == 200  # as any compensation
+            assert owner.post(f"{path}/steps/room/complete", json={"result": None}).status_code == 200  # as any compensation
             assert client.get("/v1/sagas/t/wait").json()["phase"] == "recovered"
 
 

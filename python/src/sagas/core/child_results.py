@@ -1,4 +1,4 @@
-"""Results that somebody reports of a step that starts a child."""
+"""Results that are reported by hand for a step that starts a child."""
 
 from __future__ import annotations
 
