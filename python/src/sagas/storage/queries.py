@@ -14,7 +14,7 @@ from typing import Any
 from sagas.base.errors import NoSuchSaga
 from sagas.core.batch import Known, LogRow, SagaRow
 from sagas.core.held_values import LARGE
-from sagas.definition.arguments import BELOW
+from sagas.definition import arguments
 from sagas.definition.capacity import SHARD_CAPACITY
 from sagas.definition.children import UNDO
 from sagas.definition.labels import TOKEN
@@ -90,7 +90,7 @@ step
 had failed or they were aborted; `undo_failed`: those of these of which a compensation failed for
 good. Once a person has resolved such a saga it is `resolved`, as one that was stuck.
 """
-UNDOES_CHILD, UNDOING_KEYS = "s.key LIKE ?", f"%{BELOW}%{UNDO}%"
+UNDOES_CHILD, UNDOING_KEYS = "s.key LIKE ?", f"%{arguments.BELOW}%{UNDO}%"
 """A saga `s` undoes a child, as `definition.children.undoes_child` says it of a key; with the word
 for it."""
 DAMAGED = f"""FROM shards l CROSS JOIN sagas s
