@@ -246,8 +246,8 @@ class Children:
         )
 
     async def _child_to_undo(self, attempt: Attempt) -> str:
-        """The key of the child that an attempt undoes. Raises `InvalidResult` where the step's
-        result has none, as somebody may have reported it before that was checked.
+        """The key of the child that an attempt undoes. Raises `InvalidResult` if the step's result
+        has none, as a result by hand in a store of an earlier release may.
         """
         result = attempt.task().result
         key = result.get("key") if isinstance(result, dict) else None
