@@ -385,6 +385,8 @@ export class StepNotWaiting extends Problem {}
 export class ConflictingReport extends Problem {}
 /** The saga is over. */
 export class SagaOver extends Problem {}
+/** The saga undoes a child, so it is not aborted. */
+export class NotAbortable extends Problem {}
 /** Another worker has the task, or an operator must decide. */
 export class LeaseLost extends Problem {}
 /** The lease was not issued to this worker for this task. */

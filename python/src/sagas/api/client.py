@@ -22,7 +22,7 @@ from sagas.core import attention, history, step_reports
 from sagas.core.batch import Known, SagaRow
 from sagas.core.outcomes import Outcome, reported
 from sagas.core.results import HistoryEvent, SagaResult
-from sagas.definition import arguments, payloads, serialization
+from sagas.definition import arguments, children, payloads, serialization
 from sagas.definition.blobs import LEAST, BlobStore
 from sagas.definition.blobs import check as check_blobs
 from sagas.definition.compiled import Kind, version_of
@@ -281,6 +281,7 @@ class Client(Schedules):
         row = await self._row(key)
         if row.phase is not None:
             return False
+        children.check_abortable(key)
         return bool(await self._request(row, "abort", "null"))
 
     async def complete(

@@ -8,7 +8,7 @@ from typing import Any
 
 from sagas.api.batches import name_of
 from sagas.api.operators import Operators
-from sagas.base.errors import ConflictingReport, NoSuchSaga, StepNotWaiting
+from sagas.base.errors import ConflictingReport, InvalidResult, NoSuchSaga, StepNotWaiting
 from sagas.core.outcomes import Outcome, reported
 from sagas.core.states import Suspension
 from sagas.definition import arguments
@@ -89,6 +89,8 @@ class RetryCalls(Operators):
 
         Raises:
             NotSerializable: The result is not JSON.
+            InvalidResult: A step starts a child, and this is not the result of one. The others are
+                reported.
         """
         words = {"by": by, "note": note, "result": result}
         return await self._each(
@@ -121,6 +123,7 @@ class RetryCalls(Operators):
         """Answer those that wait; by a retry where there is no outcome."""
         what = "retry" if outcome is None else "fail" if "error" in words else "complete"
         by, note, count = words.pop("by"), words.pop("note"), 0
+        wrong: InvalidResult | None = None
         for one in await waits:
             kind = "undo" if one.undo else "run"
             asked = self._commands.noted(one.key, what, by, note, step=one.step, kind=kind, **words)
@@ -135,6 +138,10 @@ class RetryCalls(Operators):
                 count += 1
             except (StepNotWaiting, ConflictingReport, NoSuchSaga):  # somebody else was faster
                 continue
+            except InvalidResult as error:
+                wrong = wrong or error
+        if wrong is not None:
+            raise wrong
         return count
 
     async def _exhausted(

@@ -10,7 +10,7 @@ from sagas.api.saga_lookup import SagaLookup
 from sagas.api.store_access import StoreAccess
 from sagas.base.errors import Closed, KeyConflict, StoreUnavailable
 from sagas.core.model import SagaInstance
-from sagas.definition import arguments, children, serialization, start_options
+from sagas.definition import arguments, children, serialization, start_options, undo_sagas
 from sagas.definition.compiled import Kind
 from sagas.definition.labels import Labels, checked, with_token
 from sagas.definition.payloads import ABSENT
@@ -41,6 +41,7 @@ class Starter:
         """Starts a saga. Whether this start began it. `token`: the name of a service's token."""
         inside = self._access.here()
         arguments.key(key)
+        undo_sagas.check_started(saga)
         text = serialization.write_value(input, "input")
         fitted = self._shelf.fit(saga, text)
         if saga.has_children:

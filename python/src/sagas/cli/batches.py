@@ -18,6 +18,7 @@ from sagas.storage.batches import Batch, resolve_one
 from sagas.storage.filters import Filter
 
 WAITS = "requested; it takes effect when its program handles it"
+LEFT_OUT = "left out, because it undoes a child"
 
 
 def words_of_filter(part: argparse.ArgumentParser, what: str) -> None:
@@ -73,26 +74,35 @@ def abort_all(path: str, words: argparse.Namespace) -> int:
     with admin.writing(path) as link:
         batch = Batch(link, filter_of(words))
         if not words.yes:
-            return show_count(words, batch.abort_count(), "--yes aborts")
+            left_out = batch.undoing_count()
+            return show_count(words, batch.abort_count(), "--yes aborts", left_out=left_out)
         found = batch.abort({"note": words.note} if words.note else None, words.timeout)
     answers: dict[str, object] = dict.fromkeys(found.done, True)
     answers |= dict.fromkeys(found.waiting) | found.refused
+    answers |= dict.fromkeys(found.undoing, LEFT_OUT)
     if words.json:
         show_json([{"key": key, "asked": "abort", "answer": one} for key, one in answers.items()])
     else:
         said = dict.fromkeys(found.done, "aborted") | dict.fromkeys(found.waiting, WAITS)
-        for key, text in (said | found.refused).items():
+        said |= found.refused | dict.fromkeys(found.undoing, LEFT_OUT)
+        for key, text in said.items():
             print(f"{key}: {escaped(text)}")
     return NO if found.refused else GOOD
 
 
-def show_count(words: argparse.Namespace, count: int, remedy: str, what: str = "saga") -> int:
-    """Says how many sagas, or steps, are meant, and by what they are changed."""
+def show_count(
+    words: argparse.Namespace, count: int, remedy: str, what: str = "saga", left_out: int = 0
+) -> int:
+    """Says how many sagas, or steps, are meant, and by what they are changed. `left_out`: how many
+    sagas are not, because they undo children."""
     if words.json:
-        show_json({"count": count})
+        show_json({"count": count} | ({"undoing": left_out} if left_out else {}))
     else:
         them = "it" if count == 1 else "them"
         print(f"{number(count, what)}" + (f": {remedy} {them}" if count else ""))
+        if left_out:
+            undoes = "it undoes a child" if left_out == 1 else "they undo children"
+            print(f"{number(left_out, 'saga')} left out, because {undoes}")
     return GOOD
 
 

@@ -211,11 +211,12 @@ class Attempt(AcknowledgedAttempt):
     @property
     def limit_name(self) -> tuple[str, str]:
         """The saga and the step whose limits count it: over all items, and wherever the saga is
-        included.
+        included. What undoes a step of a child is counted with that step.
         """
         kind = self.instance.kind
         if kind.layout is None:
-            return kind.name, self.action.name
+            child = kind.saga.undoes if kind.saga else None
+            return child.name if child else kind.name, self.action.name
         return self.declared.saga.name, self.declared.name
 
     @property

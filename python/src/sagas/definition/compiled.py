@@ -61,6 +61,8 @@ def _simple(step: Step[Any] | None, word: str) -> Function | None:
     """
     if step is None or step.saga.fair_by is not None or step.is_collected:
         return None
+    if step.saga.undoes is not None or step.child is not None:
+        return None
     if word == "run" and (step.kind != "step" or step.concurrency is not None or step.bounds):
         return None
     return step.manner(word).function if step.manner(word).is_simple else None

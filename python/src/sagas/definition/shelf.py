@@ -132,7 +132,7 @@ class Shelf:
             return self._shaped.kind(text)
         if text not in self._kinds:
             kind = self._kinds[text] = Kind(text, self._saga(text), self.context, self.payloads)
-            kind.hooks = self._hooks(kind.name)
+            kind.hooks = self._hooks_of(kind)
         return self._kinds[text]
 
     def _saga(self, text: str) -> Saga | None:
@@ -204,7 +204,20 @@ class Shelf:
         """Let webhooks be told of sagas: `hooks` gives them by the name of the saga."""
         self._hooks = hooks
         for kind in (*self._kinds.values(), *self._shaped.all()):
-            kind.hooks = hooks(kind.name)
+            kind.hooks = self._hooks_of(kind)
+
+    def _hooks_of(self, kind: Kind) -> Hooks:
+        """The webhooks that get posts of sagas of a definition; of one that undoes children, those
+        of the children as well.
+        """
+        found, child = self._hooks(kind.name), kind.saga and kind.saga.undoes
+        if not child:
+            return found
+        more = self._hooks(child.name)
+        types = dict.fromkeys((*found, *more))
+        return {
+            name: (*dict.fromkeys((*found.get(name, ()), *more.get(name, ()))),) for name in types
+        }
 
     def set_of(self, kind: Kind) -> DefinitionSet:
         """The definitions of the logs that take new sagas of this one."""

@@ -115,6 +115,7 @@ def _made(child: Saga, steps: Sequence[Compensation], text: str) -> Saga:
     """The saga, without the steps that this program cannot undo."""
     saga = Saga(undo_text.name_of(child.name), version=child.version)
     saga.where, saga.undoes, saga.undo_text = child.where, child, text
+    saga.fair_by = _of_child(child.fair_by)
     declared, there = declared_steps(child), set[str]()
     below = {one.name: one.sees for one in steps}
     if text and not undo_text.sees_of(text):  # of an older release
@@ -137,7 +138,7 @@ def _declare(
     if step.child is not None and step.undo.implied:
         saga.child(
             step.child, input=_key_of(step.name), name=step.name, needs=needs, undo=NEVER,
-            skip=skip, keep=0,
+            skip=skip, keep=0, on_exhausted="ask" if step.undo.on_exhausted == "ask" else "fail",
         )  # fmt: skip
         return
     function = step.undo.function
@@ -150,8 +151,25 @@ def _declare(
         "skip": skip,
         "keep": 0,
     }
-    made = saga._add(manner.function, step.name, "step", needs, costs, manner, None)
+    limit = None if manner.external else step.concurrency
+    made = saga._add(manner.function, step.name, "step", needs, costs, manner, limit)
     made.where = step.where
+    if limit is not None:
+        made.concurrency_by = _of_child(step.concurrency_by, children.hints(step)[0])
+
+
+def _of_child(
+    function: Callable[[Any], Any] | None, decoder: Decoder | None = None
+) -> Callable[[Any], Any] | None:
+    """A function of a child's input as one of the input of the saga that undoes the child."""
+    if function is None:
+        return None
+    of_input = function
+
+    def by(given: Any) -> Any:
+        return of_input(decoder(given["input"]) if decoder else given["input"])
+
+    return by
 
 
 def _cost(listed: listed_steps.Cost) -> Cost:
@@ -192,6 +210,16 @@ def _undoing(
 
 
 # -- of a store
+
+
+def check_started(saga: Saga) -> None:
+    """Raise `DefinitionError` where a saga undoes children: only their parents start it."""
+    child = getattr(saga, "undoes", None)
+    if child is not None:
+        raise DefinitionError(
+            f"saga {saga.name!r} undoes {child.name!r} as a child, so only parents of such "
+            f"children start it. Start {child.name!r}, or a saga of another name"
+        )
 
 
 def with_undo_sagas(sagas: Mapping[tuple[str, int], Saga]) -> dict[tuple[str, int], Saga]:

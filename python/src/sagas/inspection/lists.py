@@ -32,6 +32,8 @@ from sagas.storage.queries import (
     RESULTS,
     SAGA,
     UNDOABLE,
+    UNDOES_CHILD,
+    UNDOING_KEYS,
     labels_of,
 )
 from sagas.storage.schedules import Schedule
@@ -163,12 +165,22 @@ def count(filter: Filter) -> Question[int]:
 
 
 def to_abort(of: Filter, most: int) -> Question[tuple[int, list[str]]]:
-    """How many sagas of a filter nobody has asked to abort, and the keys of the oldest of them."""
+    """How many sagas of a filter nobody has asked to abort, and the keys of the oldest of them.
+    Those that undo children are left out.
+    """
     where, words = of.where()
-    some = f"FROM sagas s WHERE {where} AND {UNASKED}"
-    rows = yield Query(f"SELECT count(*) {some}", (*words,))
-    keys = yield Query(f"SELECT s.key {some} {OLDEST} LIMIT ?", (*words, most))
+    some = f"FROM sagas s WHERE {where} AND {UNASKED} AND NOT {UNDOES_CHILD}"
+    rows = yield Query(f"SELECT count(*) {some}", (*words, UNDOING_KEYS))
+    keys = yield Query(f"SELECT s.key {some} {OLDEST} LIMIT ?", (*words, UNDOING_KEYS, most))
     return int(rows[0][0]), [str(key) for key, in keys]
+
+
+def undoing(of: Filter) -> Question[int]:
+    """How many sagas of a filter undo children."""
+    where, words = of.where()
+    query = f"SELECT count(*) FROM sagas s WHERE {where} AND {UNDOES_CHILD}"
+    rows = yield Query(query, (*words, UNDOING_KEYS))
+    return int(rows[0][0])
 
 
 def asked(scope: Scope = EVERYTHING) -> Question[dict[str, int]]:

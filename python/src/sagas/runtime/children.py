@@ -9,6 +9,7 @@ from typing import Any, NamedTuple, Protocol
 from sagas.base.errors import (
     CannotDecode,
     Closed,
+    InvalidResult,
     KeyConflict,
     MissingStep,
     Moved,
@@ -22,7 +23,9 @@ from sagas.core.model import SUSPENDED, Attempt
 from sagas.core.outcomes import SUCCEEDED, Outcome
 from sagas.core.results import SagaResult
 from sagas.core.states import Suspension
+from sagas.definition import children as child_keys
 from sagas.definition import tokens
+from sagas.definition.arguments import BELOW
 from sagas.definition.capacity import SHARD_CAPACITY
 from sagas.definition.compiled import Kind
 from sagas.definition.labels import TOKEN
@@ -222,9 +225,13 @@ class Children:
 
         Raises:
             MissingStep: This program lacks a compensation.
+            InvalidResult: The step has no child that could be undone.
         """
-        undone = children.undone_key(attempt)
-        if undone is None:
+        if attempt.undo:
+            undone = await self._child_to_undo(attempt)
+        elif attempt.instance.kind.undoes is not None:  # a child of the one that is undone
+            undone = str(children.child_input(attempt))
+        else:
             return attempt.declared.child, children.child_input(attempt)
         ended = await self._carried.end(undone)
         kind = self._host.shelf.undo_kind(ended.kind)
@@ -232,7 +239,48 @@ class Children:
             return None, None
         ((name,),) = await self._host.store.read(NAME, ended.id // SHARD_CAPACITY)
         token = tokens.saga_token(name, ended.id % SHARD_CAPACITY)
-        return kind, children.undo_input(undone, token, ended.kind, ended.text, ended.results)
+        earlier = await self._earlier(attempt)
+        before = [(await self._carried.end(one)).end.states for one in earlier]
+        done = children.left_by(ended.end.states, before)
+        return kind, children.undo_input(
+            undone, token, ended.kind, ended.text, ended.results, done, earlier
+        )
+
+    async def _child_to_undo(self, attempt: Attempt) -> str:
+        """The key of the child that an attempt undoes. Raises `InvalidResult` if the step's result
+        has none, as a result by hand in a store of an earlier release may.
+        """
+        result = attempt.task().result
+        key = result.get("key") if isinstance(result, dict) else None
+        if isinstance(key, str):
+            is_own = child_keys.is_of_step(key, attempt.key, attempt.name) or BELOW not in key
+            rows = await self._host.store.read(PARENT, key) if is_own else ()
+            if any(parent == attempt.instance.id for _, parent in rows):
+                return key
+        raise InvalidResult(
+            "the result of the step has no key of a child that it started, so there is no child to "
+            "undo. Undo its effects by hand, and complete the compensation"
+        )
+
+    async def _earlier(self, attempt: Attempt) -> list[str]:
+        """The keys of the sagas that have undone a part of the same child, in their order."""
+        found = []
+        if child_keys.undoes_child(attempt.key):
+            given = attempt.task().input
+            for before in given.get("earlier", ()):
+                number = 1
+                while await self._is_known(key := child_keys.key_of(before, attempt.name, number)):
+                    found.append(key)
+                    number += 1
+        for number in range(1, children.number_of(attempt)):
+            key = child_keys.key_of(attempt.key, attempt.name, number, attempt.undo)
+            if await self._is_known(key):
+                found.append(key)
+        return found
+
+    async def _is_known(self, key: str) -> bool:
+        """Whether a saga has the key."""
+        return bool(await self._host.store.read(PARENT, key))
 
     async def _options(self, attempt: Attempt, saga: Saga | Kind) -> StartOptions:
         """Labels and trace context of the parent, and the earlier deadline; what undoes a child has
@@ -253,7 +301,8 @@ class Children:
         """Abort its child with its saga; or where a step has failed, and the plan that follows
         would undo the child.
         """
-        if attempt.undo or attempt not in self._there:
+        undoes = attempt.undo or child_keys.undoes_child(attempt.key)
+        if undoes or attempt not in self._there:
             return
         if not attempt.instance.drains:
             return

@@ -6,10 +6,17 @@ import asyncio
 from collections.abc import Callable, Coroutine
 from typing import Protocol
 
-from sagas.base.errors import CannotDecode, InvalidInput, SagasError, StoreUnavailable
+from sagas.base.errors import (
+    CannotDecode,
+    DefinitionError,
+    InvalidInput,
+    SagasError,
+    StoreUnavailable,
+)
 from sagas.base.logger import logger
 from sagas.core.batch import Batch, Start
 from sagas.core.model import SagaInstance
+from sagas.definition import undo_sagas
 from sagas.definition.shelf import Shelf
 from sagas.definition.start_options import StartOptions
 from sagas.runtime.commit_queue import CommitQueue
@@ -150,6 +157,11 @@ class Starts:
             )
             batch.more.begun.append((id, there.id if error is None else None))
             await self._commits.kept(batch)
+            return
+        try:
+            undo_sagas.check_started(declared)
+        except DefinitionError as error:
+            await self._store.give_back(id, str(error))
             return
         value = payloads.decode(text)
         try:

@@ -354,6 +354,7 @@ BULK = Record(
         "done": Field(COUNT, "how many were changed"),
         "refused": Field(Several(REFUSED_KEY), "those that were refused, and why"),
         "left": Field(COUNT, "how many are left for a further call"),
+        "undoing": Field(COUNT, "how many an abort leaves out, because they undo children"),
     },
 )
 SCHEDULE = Record(

@@ -275,7 +275,7 @@ class Service:
             raise NoSuchSaga(f"no saga has the key {key!r}")
         if who.definitions is not None:
             row = await self.look(one_saga.find(key))
-            if row is None or not who.sees(row.saga):
+            if row is None or not who.scope.has_saga(row.saga, key):
                 raise NoSuchSaga(f"no saga has the key {key!r}")
 
     async def is_approval(self, key: str, step: str) -> bool:

@@ -9,8 +9,10 @@ from typing import Any
 
 from sagas.definition import labels as labels_module
 from sagas.definition.arguments import BELOW, root_of
+from sagas.definition.children import undoes_child
 from sagas.definition.labels import Labels
-from sagas.storage.queries import IN_OPEN_LOGS, PHASES
+from sagas.definition.undo_text import name_of
+from sagas.storage.queries import IN_OPEN_LOGS, PHASES, UNDOES_CHILD, UNDOING_KEYS
 from sagas.storage.sqlite.schema import PLANNED
 
 MISSES = "('missed', 'fail', 'undo_missed', 'undo_fail')"
@@ -50,7 +52,8 @@ class Scope:
     """The sagas that a caller may see.
 
     Attributes:
-        definitions: The names of their definitions; None: all.
+        definitions: The names of their definitions; None: all. A saga that undoes a child goes
+            with the child's definition.
         keys: Their keys, or with `*` at the end what these begin with; None: all. A child has the
             key of its root.
     """
@@ -61,6 +64,20 @@ class Scope:
     def has_definition(self, name: str | None) -> bool:
         """Whether sagas of a definition are in it; what is of none is only in that of all."""
         return self.definitions is None or name in self.definitions
+
+    def may_have(self, name: str | None) -> bool:
+        """Whether sagas of a definition may be in it: also of one that undoes children."""
+        return self.has_definition(name) or name in self._undoing
+
+    def has_saga(self, name: str | None, key: str | None) -> bool:
+        """Whether a saga of a definition, and with a key, is in it."""
+        is_undoing = key is not None and undoes_child(key) and name in self._undoing
+        return (self.has_definition(name) or is_undoing) and self.has_key(key)
+
+    @property
+    def _undoing(self) -> frozenset[str]:
+        """The names of the definitions that undo children of its own."""
+        return frozenset(map(name_of, self.definitions or ()))
 
     def has_key(self, key: str | None) -> bool:
         """Whether a saga's key is in it; what is of no saga is only in that of all."""
@@ -76,10 +93,15 @@ class Scope:
     def where(self) -> tuple[str, list[Any]]:
         """Return a condition on rows of `sagas`, which has the name `s`, and its words."""
         wheres, words = ["1 = 1"], list[Any]()
-        if self.definitions is not None:
-            marks = ", ".join("?" * len(self.definitions))
-            wheres.append(f"s.saga IN ({marks})" if marks else "1 = 0")
-            words += sorted(self.definitions)
+        if self.definitions:
+            own, undoing = sorted(self.definitions), sorted(self._undoing)
+            of_own, of_undoing = (", ".join("?" * len(some)) for some in (own, undoing))
+            wheres.append(
+                f"s.saga IN ({of_own}, {of_undoing}) AND (s.saga IN ({of_own}) OR {UNDOES_CHILD})"
+            )
+            words += [*own, *undoing, *own, UNDOING_KEYS]
+        elif self.definitions is not None:
+            wheres.append("1 = 0")
         if self.keys is not None:
             some = [_keyed(one) for one in sorted(self.keys)]
             wheres.append(f"({' OR '.join(condition for condition, _ in some)})")

@@ -16,6 +16,7 @@ from sagas.core import undo_check
 from sagas.core.batch import Known, LogRow, SagaRow
 from sagas.core.held_values import LARGE
 from sagas.core.undo_check import CompletedChild
+from sagas.definition import arguments
 from sagas.definition.capacity import SHARD_CAPACITY
 from sagas.definition.children import UNDO
 from sagas.definition.labels import TOKEN
@@ -127,6 +128,9 @@ step
 had failed or they were aborted; `undo_failed`: those of these of which a compensation failed for
 good. Once a person has resolved such a saga it is `resolved`, as one that was stuck.
 """
+UNDOES_CHILD, UNDOING_KEYS = "s.key LIKE ?", f"%{arguments.BELOW}%{UNDO}%"
+"""A saga `s` undoes a child, as `definition.children.undoes_child` says it of a key; with the word
+for it."""
 DAMAGED = f"""FROM shards l CROSS JOIN sagas s
 LEFT JOIN shard_definitions d ON d.shard = l.shard AND d.place = s.definition_index
 WHERE l.closed = 0 AND l.audit IS NOT NULL AND s.phase IS NULL

@@ -87,9 +87,10 @@ def entries_of(
 
 
 async def carried_out(
-    call: Call, question: Question[tuple[int, list[Target]]], deed: Deed
+    call: Call, question: Question[tuple[int, list[Target]]], deed: Deed, undoing: int = 0
 ) -> Response:
-    """Counts; then, where it is no dry run and the count is still the same, does it to each."""
+    """Counts; then, where it is no dry run and the count is still the same, does it to each.
+    `undoing`: how many are left out, because they undo children."""
     body, (total, targets) = call.body, await call.service.look(question)
     done, refused = 0, list[Any]()
     if not body["dry_run"]:
@@ -108,8 +109,8 @@ async def carried_out(
         "dry_run": body["dry_run"],
         "keys": [key for key, *_ in targets[:SHOWN]],
     }
-    left = total - done - len(refused)
-    return Json({**told, "done": done, "refused": refused, "left": max(0, left)})
+    told |= {"left": max(0, total - done - len(refused)), "undoing": undoing}
+    return Json({**told, "done": done, "refused": refused})
 
 
 async def each(
@@ -160,7 +161,9 @@ def declare(name: str, body: Record, verb: str, told: str) -> Handler:
         words = {"by": call.who.name, "note": sent["note"]}
         deed = deed_of(call.service, verb, words, sent.get("result"), sent.get("error"))
         if "kind" not in given:
-            return await carried_out(call, sagas_of(filters.of(call.who, given, "open")), deed)
+            of = filters.of(call.who, given, "open")
+            undoing = await call.service.look(lists.undoing(of))
+            return await carried_out(call, sagas_of(of), deed, undoing)
         of = filters.of(call.who, given)
         entries = entries_of(given["kind"], of, given.get("step"), given.get("undo"))
         return await carried_out(call, entries, deed)
@@ -179,7 +182,8 @@ BEHIND = (
 )
 abort = declare(
     "abort", record("AbortMany", SAGAS, {"note": NOTE}), "abort",
-    f"Abort the open sagas of a filter.\n\nThose that were asked before are left out. {BEHIND}",
+    "Abort the open sagas of a filter.\n\nThose that were asked before, and those that undo "
+    f"children, are left out. {BEHIND}",
 )  # fmt: skip
 resolve = declare(
     "resolve", record("ResolveMany", HEALED, {"note": NEEDED_NOTE}), "resolve",
