@@ -393,9 +393,12 @@ class FeatureJudge(stores.Judge):
     def _deadline(self, one: Instance) -> None:
         if one.deadline is None or one.is_undo:
             return
+        stood = [note["until"] for note in self.of("stood") if note["until"] > one.deadline]
         for at, event in one.events:
             if at is None or at < one.deadline + LATE:
                 continue
+            if any(until - LATE < at < until + LATE for until in stood):
+                continue  # no program looked at it
             if event["event"] == "start_run":
                 step = one.steps[event["step"]]
                 late = at - one.deadline

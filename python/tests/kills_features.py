@@ -207,6 +207,8 @@ class Round:
             text = (self.folder / f"log-{node.name}").read_text(errors="replace")
             if "Traceback" in text and not self.settings.wrong:
                 verdict.faults.append("traceback: " + text[text.index("Traceback") :][:3000])
+            if "commit_failed" in text and not self.server:
+                verdict.faults.append("log: " + text[text.index("commit_failed") :][:300])
         return verdict
 
     @contextlib.contextmanager
@@ -341,10 +343,11 @@ class Round:
             node.start()
 
     def _stop(self, node: Node) -> None:
-        process = node.running.process
+        process, since = node.running.process, time.time()
         process.send_signal(signal.SIGSTOP)
         self._wait(self.draw.uniform(0.5, 2.0) * LEASE)
         process.send_signal(signal.SIGCONT)
+        self.witness.note(what="stood", since=since, until=time.time())
         self.kills["a node stood still"] += 1
 
     def _engine(self, node: Node) -> None:
@@ -356,9 +359,11 @@ class Round:
 
     def _database(self, node: Node) -> None:
         assert self.server
+        since = time.time()
         self.server.stop("immediate")
         self._wait(self.draw.uniform(0.0, 0.5))
         self.server.start()
+        self.witness.note(what="stood", since=since, until=time.time())
         self.kills["the database"] += 1
 
 
