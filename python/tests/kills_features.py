@@ -85,7 +85,11 @@ class Receiver:
             def log_message(self, *words: Any) -> None:
                 ...
 
-        self.server = http.server.ThreadingHTTPServer(("127.0.0.1", 0), Handler)
+        class Server(http.server.ThreadingHTTPServer):
+            def handle_error(self, *words: Any) -> None:
+                """A node that was killed reads no answer."""
+
+        self.server = Server(("127.0.0.1", 0), Handler)
         threading.Thread(target=self.server.serve_forever, args=(0.05,), daemon=True).start()
 
     @property
@@ -389,7 +393,7 @@ def play(
     **words: Any,
 ) -> Played:  # fmt: skip
     """One round: a store, its strikes, its judgement."""
-    folder = pathlib.Path(tempfile.mkdtemp(prefix="sagas-features-", dir=os.environ.get("TMPDIR")))
+    folder = pathlib.Path(tempfile.mkdtemp(prefix="sagas-features-"))
     one = Round(folder, seed, count, strikes, server, **words)
     verdict = one.play()
     is_bad = keeps and bool(verdict.faults)
