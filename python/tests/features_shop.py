@@ -337,7 +337,7 @@ class Shop:
             wait = main.wait(until=_pause, name="pause", needs=needs, backoff=QUICK, undo=0)
             needs = [wait(self._function("pause", f"main.{version}.pause", 0.0, 0.0))]
         name = "deliver" if version == 2 else "ship"
-        last = self.step(main, name, needs=needs, failing=0.3, tries=2)
+        last = self.step(main, name, needs=needs, failing=0.4, tries=2)
         if like == 2 and self.settings.deploy == "added":
             self.step(main, "extra", needs=[last], failing=0.2)
         self.sagas.append(main)
