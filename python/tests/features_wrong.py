@@ -62,12 +62,12 @@ def variant(
 @variant("child", "child", count=16)
 def child_undo_skipped() -> None:
     """A completed child is taken as undone, and no saga undoes it."""
-    right = Children._definition
+    right = Children._begun
 
-    def definition(self: Children, attempt: Any) -> Any:
-        return None if attempt.undo else right(self, attempt)
+    async def begun(self: Children, attempt: Any) -> Any:
+        return Outcome(SUCCEEDED, "null") if attempt.undo else await right(self, attempt)
 
-    setattr(Children, "_definition", definition)
+    setattr(Children, "_begun", begun)
 
 
 @variant("early-lost", "early")
