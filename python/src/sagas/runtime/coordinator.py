@@ -3,6 +3,7 @@
 from __future__ import annotations
 
 import asyncio
+import contextlib
 import functools
 import time
 from collections.abc import Callable, Coroutine, Sequence
@@ -34,7 +35,7 @@ from sagas.runtime.shards import Shards
 from sagas.storage.interface import Database
 
 QUIET = 1.0
-"""Seconds that closing waits for engines that it has ended."""
+"""Seconds that closing waits for the last commits, and then for engines that it has ended."""
 
 
 class Coordinator:
@@ -302,6 +303,9 @@ class Coordinator:
         self.sagas.close(closed)
         for saga in list(self.sagas.by_key.values()):
             self.shards.refuse(saga, closed)
+        with contextlib.suppress(TimeoutError):
+            async with asyncio.timeout(QUIET):
+                await self.commits.written()
         await self.store.close()
         self._threads.shutdown(wait=not late, cancel_futures=True)
         if engines:
