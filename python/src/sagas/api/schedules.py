@@ -32,7 +32,7 @@ class Schedules(Batches):
         """How inputs are stored."""
         raise NotImplementedError
 
-    def _check_input(self, saga: Saga, text: str) -> None:
+    async def _check_input(self, saga: Saga, text: str) -> None:
         """Raises what a start of the saga with this input would, as far as is known here."""
 
     async def schedule(
@@ -80,7 +80,7 @@ class Schedules(Batches):
         when = timing.timing(cron, every, timezone, catch_up)
         having = json.dumps(dict(checked(labels)))
         location, text = self._location(), serialization.write_value(input, "input")
-        self._check_input(saga, text)
+        await self._check_input(saga, text)
         words = (saga.name, saga.version), text, having, when, self._now(), self._stored()
         await beside(location, lambda link: schedules_module.Schedules(link).put(name, *words))
 

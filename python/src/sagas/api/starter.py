@@ -44,14 +44,16 @@ class Starter:
         fitted = self._shelf.fit(saga, text)
         if saga.has_children:
             children.check_key(key, saga)
-        shape, options = fitted.shape, start_options.NONE
+        options = start_options.NONE
         if deadline is None:
             deadline = saga.deadline
-        given = (labels, deadline, shape, traceparent, token)
+        given = (labels, deadline, traceparent, token)
         if any(word is not None for word in given):
             time, told = deadline_at(deadline, inside.clock()), checked(labels)
             told = told if token is None else with_token(told, token, len(text))
-            options = StartOptions(told, time, None, shape, traceparent)
+            options = StartOptions(told, time, None, None, traceparent)
+        if fitted is None:
+            return self._shape(inside, saga, key, text, options, self.accepts_new)
         return self._start(inside, saga, fitted, key, text, options, self.accepts_new)
 
     def start_child(self, saga: Saga, key: str, input: Any, options: StartOptions) -> Begun:
@@ -62,9 +64,20 @@ class Starter:
         write = serialization.write if saga.undoes else serialization.write_value
         text = write(input, "input")
         fitted = self._shelf.fit(saga, text)
+        if fitted is None:
+            return self._shape(inside, saga, key, text, options, accepts=True)
+        return self._start(inside, saga, fitted, key, text, options, accepts=True)
+
+    async def _shape(
+        self, inside: Coordinator, saga: Saga, key: str, text: str, options: StartOptions,
+        accepts: bool,
+    ) -> bool:  # fmt: skip
+        """As `_start`, of a saga whose steps come from its input. Its key is taken only then."""
+        fitted = await inside.declared.fit(self._shelf, saga, text)
+        self._access.here()  # it may be closed by now
         if fitted.shape is not None:
             options = dataclasses.replace(options, shape=fitted.shape)
-        return self._start(inside, saga, fitted, key, text, options, accepts=True)
+        return await self._start(inside, saga, fitted, key, text, options, accepts)
 
     def _start(
         self, inside: Coordinator, saga: Saga, fitted: Fitted, key: str, text: str,

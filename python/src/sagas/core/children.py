@@ -2,7 +2,8 @@
 
 from __future__ import annotations
 
-from collections.abc import Mapping
+import functools
+from collections.abc import Callable, Mapping
 from typing import Any
 
 from sagas.base.errors import NotSerializable
@@ -22,11 +23,16 @@ def key_of(attempt: Attempt) -> str:
     return children.key_of(attempt.key, attempt.name, number, attempt.undo)
 
 
-def child_input(attempt: Attempt) -> Any:
-    """Return the input of a child, as the step's function says it."""
+def child_input(attempt: Attempt) -> Callable[[], Any]:
+    """Return what returns the input of a child, as the step's function says it. A thread may call
+    it.
+
+    Raises:
+        CannotDecode: The codec failed.
+    """
     function = attempt.declared.run.function
     assert function
-    return function(attempt.task())
+    return functools.partial(function, attempt.task())
 
 
 def _written(value: Any) -> str:

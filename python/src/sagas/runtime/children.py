@@ -225,7 +225,8 @@ class Children:
     async def _input(self, attempt: Attempt, saga: Saga) -> Any:
         """What its child is started with."""
         if not attempt.undo:
-            given = children.child_input(attempt)
+            call = children.child_input(attempt)
+            given = await self._host.declared.call(attempt.instance.kind.name, call)
             child = attempt.declared.child
             if child is None or child.undoes is None:
                 return given

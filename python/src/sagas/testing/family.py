@@ -92,7 +92,7 @@ class Family:
 
     def _input(self, attempt: Attempt, saga: Saga) -> Any:
         if not attempt.undo:
-            given = children.child_input(attempt)
+            given = children.child_input(attempt)()
             if saga.undoes is None:
                 return given
             key = str(given)
