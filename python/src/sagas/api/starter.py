@@ -75,15 +75,15 @@ class Starter:
         """As `_start`, of a saga whose steps come from its input. Its key is taken only then."""
         fitted = await inside.declared.fit(self._shelf, saga, text)
         self._access.here()  # it may be closed by now
-        if fitted.shape is not None:
-            options = dataclasses.replace(options, shape=fitted.shape)
         return await self._start(inside, saga, fitted, key, text, options, accepts)
 
     def _start(
         self, inside: Coordinator, saga: Saga, fitted: Fitted, key: str, text: str,
         options: StartOptions, accepts: bool,
     ) -> Begun:  # fmt: skip
-        kind, _, wrong = fitted
+        kind, shape, wrong = fitted
+        if shape is not None:
+            options = dataclasses.replace(options, shape=shape)
         text = self._shelf.payloads.encode(text)
         is_new = wrong is None and accepts and key not in inside.sagas.by_key
         if is_new and self._lookup.guessing.is_worth():  # as far as the last ones tell

@@ -165,9 +165,7 @@ class Executor:
         if not self.closing:
             self._do(attempt, self.machine.go_on(attempt, self._clock()))
 
-    def _ask(
-        self, attempt: Attempt, decision: Decision, go_on: Callable[[Attempt], None]
-    ) -> None:
+    def _ask(self, attempt: Attempt, decision: Decision, go_on: Callable[[Attempt], None]) -> None:
         """Call functions of its definition, and go on with it."""
         assert decision.question
         self._host.spawn(self._asked(attempt, decision.question, go_on))
