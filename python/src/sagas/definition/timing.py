@@ -68,7 +68,7 @@ class Timing:
 
     @property
     def policy(self) -> str:
-        """`catch_up`, `most` and `overlap` as they are stored: what is as by default is left out."""
+        """`catch_up`, `most` and `overlap` as they are stored. Defaults are left out."""
         words = [self.catch_up.value]
         words += [f"max={self.most}"] if self.most != MOST_MISSED else []
         words += [f"overlap={self.overlap}"] if self.overlap is not Overlap.ALLOW else []

@@ -127,9 +127,8 @@ class Schedules:
                 self._link.changed("UPDATE schedules SET input = ? WHERE name = ?", stored, name)
 
     def pause(self, name: str, now: float | None = None) -> str | None:
-        """Start nothing of it from now on. Return what is said of the times that were missed before,
-        if there are any: they are not started, and the schedule's `error` says so. Raises
-        `NoSuchSchedule`.
+        """Start nothing of it from now on. Return what is said of times that were missed before:
+        they are not started, and the schedule's `error` says so. Raises `NoSuchSchedule`.
         """
         said, now = None, self._link.now() if now is None else now
         with self._link.transaction():
