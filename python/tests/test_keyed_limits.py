@@ -262,7 +262,7 @@ def test_a_small_tenant_does_not_wait_for_a_large_one(place: str, again: bool, c
         async with sagas.open(place, [saga], concurrency=1, codec=codec) as store:
             if not again:
                 await start(store)
-            await until(lambda: called)
+            await until(lambda: called and len(store._inside.slots._queued) == 10)
             opened.set()
             await store.wait_idle()
             assert (await store.wait("small")).ok and called.index("small") <= 2, called

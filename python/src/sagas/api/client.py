@@ -195,6 +195,7 @@ class Client(Schedules):
                 await heard.close()
                 await self._asker.close()
         finally:
+            self._starter.close()
             self._opened.end()
             if self._record:
                 self._record.close()
@@ -244,6 +245,7 @@ class Client(Schedules):
         if connection is not None:
             caller_connection.check_kind(connection, plain=False)
         words = self._starter.words(saga, key, input, labels, deadline, traceparent)
+        await self._starter.check_shape(saga, input)
         self._sagas[saga.name, saga.version] = saga
         new = await self._starter.start(words, connection)
         return ClientRun(self, key, words, new)

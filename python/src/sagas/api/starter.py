@@ -46,14 +46,16 @@ class Starter:
         fitted = self._shelf.fit(saga, text)
         if saga.has_children:
             children.check_key(key, saga)
-        shape, options = fitted.shape, start_options.NONE
+        options = start_options.NONE
         if deadline is None:
             deadline = saga.deadline
-        given = (labels, deadline, shape, traceparent, token)
+        given = (labels, deadline, traceparent, token)
         if any(word is not None for word in given):
             time, told = deadline_at(deadline, inside.clock()), checked(labels)
             told = told if token is None else with_token(told, token, len(text))
-            options = StartOptions(told, time, None, shape, traceparent)
+            options = StartOptions(told, time, None, None, traceparent)
+        if fitted is None:
+            return self._shape(inside, saga, key, text, options, self.accepts_new)
         return self._start(inside, saga, fitted, key, text, options, self.accepts_new)
 
     def start_child(
@@ -66,19 +68,31 @@ class Starter:
         # the input of a saga that undoes a child has the child's results
         if isinstance(saga, Kind):
             text = serialization.write(input, "input")
-            fitted = Fitted(saga, None, None)
-        else:
-            text = serialization.write_value(input, "input")
-            fitted = self._shelf.fit(saga, text)
-        if fitted.shape is not None:
-            options = dataclasses.replace(options, shape=fitted.shape)
+            return self._start(
+                inside, saga, Fitted(saga, None, None), key, text, options, accepts=True
+            )
+        text = serialization.write_value(input, "input")
+        fitted = self._shelf.fit(saga, text)
+        if fitted is None:
+            return self._shape(inside, saga, key, text, options, accepts=True)
         return self._start(inside, saga, fitted, key, text, options, accepts=True)
+
+    async def _shape(
+        self, inside: Coordinator, saga: Saga, key: str, text: str, options: StartOptions,
+        accepts: bool,
+    ) -> bool:  # fmt: skip
+        """As `_start`, of a saga whose steps come from its input. Its key is taken only then."""
+        fitted = await inside.declared.fit(self._shelf, saga, text)
+        self._access.here()  # it may be closed by now
+        return await self._start(inside, saga, fitted, key, text, options, accepts)
 
     def _start(
         self, inside: Coordinator, saga: Saga | Kind, fitted: Fitted, key: str, text: str,
         options: StartOptions, accepts: bool,
     ) -> Begun:  # fmt: skip
-        kind, _, wrong = fitted
+        kind, shape, wrong = fitted
+        if shape is not None:
+            options = dataclasses.replace(options, shape=shape)
         text = self._shelf.payloads.encode(text)
         is_new = wrong is None and accepts and key not in inside.sagas.by_key
         if is_new and self._lookup.guessing.is_worth():  # as far as the last ones tell

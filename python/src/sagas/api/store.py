@@ -326,9 +326,10 @@ class Store(RetryCalls):
         new = await self._starter.start(saga, key, input, labels, deadline, trace, token)
         return Run(self, key, new)
 
-    def _check_input(self, saga: Saga, text: str) -> None:
-        if wrong := self._shelf.fit(saga, text).wrong:
-            raise wrong
+    async def _check_input(self, saga: Saga, text: str) -> None:
+        fitted = await self._inside.declared.fit(self._shelf, saga, text)
+        if fitted.wrong:
+            raise fitted.wrong
 
     async def _start_scheduled(self, one: Schedule, key: str) -> None:
         saga = self._shelf.sagas[one.saga, one.version]

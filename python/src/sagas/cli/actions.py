@@ -10,7 +10,7 @@ from typing import Any
 
 from sagas.base.errors import CannotDecode, ConflictingReport, InvalidResult, NotAbortable
 from sagas.cli.app_option import payloads_of
-from sagas.cli.batches import WAITS, abort_all, check_keys, filter_of, show_count
+from sagas.cli.batches import WAITS, abort_all, check_keys, filter_of, show_count, warn_of
 from sagas.cli.formatting import GOOD, NO, complain, show_json
 from sagas.cli.snapshot import Snapshot
 from sagas.core import child_results, step_reports
@@ -252,9 +252,10 @@ def answer(
     if not words.all:
         return request(path, words, what, report_of(words) | told, f"{words.step} {done}", refused)
     why = Suspension.EXHAUSTED.value
+    of = filter_of(words)
     with Snapshot(path) as store:
-        waits = store.ask(lists.waits(lists.ALL, why=why, within=filter_of(words)))
-    waits = [one for one in waits if words.only in (None, one.step)]
+        waits = store.ask(lists.waits(lists.ALL, why=why, within=of, step=words.only))
+    warn_of(path, of, is_needed=not waits, step=words.only)
     if not words.yes:
         return show_count(words, len(waits), f"--yes {VERBS[what]}", "step")
     asked = []
@@ -262,7 +263,7 @@ def answer(
         words.step, words.undo = one.step, one.undo
         asked.append((one.id, report_of(words) | told))
     with admin.writing(path) as link:
-        answers = Batch(link, filter_of(words)).ask(what, asked, words.timeout)
+        answers = Batch(link, of).ask(what, asked, words.timeout)
     return show_answers(words, what, waits, answers, done)
 
 

@@ -7,10 +7,11 @@ import argparse
 from sagas.base.errors import InvalidLabel
 from sagas.base.option_values import integer_from
 from sagas.base.wording import escaped, number
-from sagas.cli.formatting import GOOD, NO, show_json
+from sagas.cli.formatting import GOOD, NO, complain, show_json
 from sagas.cli.snapshot import Snapshot
 from sagas.definition import labels as labels_module
 from sagas.definition.serialization import clean
+from sagas.inspection import unmatched
 from sagas.inspection.views import SagaView
 from sagas.storage import admin
 from sagas.storage.admin import Trouble
@@ -72,11 +73,13 @@ def check_keys(words: argparse.Namespace, has_keys: bool) -> None:
 def abort_all(path: str, words: argparse.Namespace) -> int:
     """Says how many sagas that are; with --yes aborts them."""
     with admin.writing(path) as link:
-        batch = Batch(link, filter_of(words))
+        batch = Batch(link, of := filter_of(words))
         if not words.yes:
-            left_out = batch.undoing_count()
-            return show_count(words, batch.abort_count(), "--yes aborts", left_out=left_out)
+            count, left_out = batch.abort_count(), batch.undoing_count()
+            warn_of(path, of, is_needed=not count + left_out)
+            return show_count(words, count, "--yes aborts", left_out=left_out)
         found = batch.abort({"note": words.note} if words.note else None, words.timeout)
+    warn_of(path, of, is_needed=not (found.done or found.refused or found.waiting))
     answers: dict[str, object] = dict.fromkeys(found.done, True)
     answers |= dict.fromkeys(found.waiting) | found.refused
     answers |= dict.fromkeys(found.undoing, LEFT_OUT)
@@ -88,6 +91,14 @@ def abort_all(path: str, words: argparse.Namespace) -> int:
         for key, text in said.items():
             print(f"{key}: {escaped(text)}")
     return NO if found.refused else GOOD
+
+
+def warn_of(path: str, of: Filter, is_needed: bool, step: str | None = None) -> None:
+    """Says of a filter that selects nothing which labels no saga has, and no definition's step."""
+    if is_needed and (of.labels or step):
+        with Snapshot(path) as store:
+            for warning in store.ask(unmatched.of(of, step)):
+                complain(warning)
 
 
 def show_count(
@@ -115,10 +126,13 @@ def resolve(path: str, words: argparse.Namespace) -> int:
         raise Trouble("--note must not be empty. Say what was done about it", 2)
     with admin.writing(path) as link:
         if words.all:
-            batch = Batch(link, filter_of(words))
+            batch = Batch(link, of := filter_of(words))
             if words.count:
-                return show_count(words, batch.resolve_count(), "without --count resolves")
+                count = batch.resolve_count()
+                warn_of(path, of, is_needed=not count)
+                return show_count(words, count, "without --count resolves")
             done = batch.resolve(words.note, None).done
+            warn_of(path, of, is_needed=not done)
         else:
             with link.transaction():
                 done = [key for key in words.key if resolve_one(link, key, words.note)]

@@ -25,12 +25,12 @@ from sagas.core.decisions import (
     Decision,
     Do,
 )
-from sagas.core.declared_values import due_time, limit_key
+from sagas.core.declared_values import due_time, limit_subjects, of_limits, of_until
 from sagas.core.exhaustion import FAILED_BEFORE, LEAST_PAUSE, RETRIED, backoff, go_on, yields
 from sagas.core.model import CLAIMED, FINISHED, QUEUED, RUNNING, SUSPENDED, Attempt, SagaInstance
 from sagas.core.outcomes import MOST_TEXT, Outcome, decided, failure, not_read
 from sagas.core.states import Action, OutcomeKind, Suspension
-from sagas.core.suspensions import SuspensionRow
+from sagas.core.suspensions import Subject, SuspensionRow
 from sagas.definition.blobs import BlobUnavailable
 from sagas.definition.step import Step
 
@@ -103,7 +103,8 @@ class AttemptMachine:
 
         Returns:
             `CALL`, `OFFER`, `SUSPEND`, or `REPORT` where it is given up without a call. `READ`
-            where that rests on values that are not held; then `has_values` is asked.
+            where that rests on values that are not held, and `ASK` where it rests on a function of
+            the definition; then `go_on` is asked.
         """
         instance = attempt.instance
         if is_simple(attempt):
@@ -190,17 +191,21 @@ class AttemptMachine:
             attempt.has_row = True  # an earlier attempt's
             return CALL
         if due is None:
-            if callable(step.until) and attempt.lacks():
+            returned = attempt.take_returned(Subject.UNTIL)
+            is_asked = callable(step.until) and returned is None
+            if is_asked and attempt.lacks():
                 return READ
             try:
-                due = due_time(step, attempt, now)
+                if is_asked:
+                    return Decision(Do.ASK, question=of_until(attempt))
+                due = due_time(step.until if returned is None else returned.get(), now)
             except Exception as error:
                 return self._without(attempt, error, now)
         rare.due[attempt.word] = until = max(due, 1.0)
         return self._suspend(attempt, Suspension.TIMER, until, now)
 
-    def has_values(self, attempt: Attempt, now: float) -> Decision:
-        """Decide how one goes on of which this said `READ` other than `limit`."""
+    def go_on(self, attempt: Attempt, now: float) -> Decision:
+        """Decide how one goes on of which this said `READ` or `ASK`, other than `limit`."""
         return self.begin(attempt, now)
 
     def _without(self, attempt: Attempt, error: Exception, now: float) -> Decision:
@@ -216,20 +221,23 @@ class AttemptMachine:
         """Decide by which key the limits of a step count one that may be called.
 
         Returns:
-            `CALL`; or as `ended`, if the function that says the key has raised; or `READ`, and then
-            this is asked again.
+            `CALL`; or as `ended`, if the function that says the key has raised; or `READ` or
+            `ASK`, and then this is asked again. `REPORT` where its saga drains meanwhile.
         """
-        is_keyed = not attempt.undo and attempt.declared.concurrency_by is not None
-        is_fair = attempt.instance.kind.fair_by is not None
-        if (is_keyed or (is_fair and attempt.instance.rare.tenant is None)) and attempt.lacks():
-            return READ
-        if not is_keyed:
-            return CALL
+        if attempt.instance.drains and self._may_leave(attempt):
+            return self._give_up(attempt, "not called: the saga is being undone", now)
         try:
-            attempt.rare.limit_key = attempt.rare.limit_key or limit_key(attempt)
+            if (tenant := attempt.take_returned(Subject.TENANT)) is not None:
+                attempt.instance.rare.tenant = tenant.get()
+            if (key := attempt.take_returned(Subject.LIMIT_KEY)) is not None:
+                attempt.rare.limit_key = key.get()
+            if not (subjects := limit_subjects(attempt)):
+                return CALL
+            if attempt.lacks():
+                return READ
+            return Decision(Do.ASK, question=of_limits(attempt, subjects))
         except Exception as error:
             return self._without(attempt, error, now)
-        return CALL
 
     def _suspend(
         self, attempt: Attempt, reason: Suspension, until: float | None, now: float

@@ -2,7 +2,8 @@
 
 from __future__ import annotations
 
-from collections.abc import Iterable, Mapping, Sequence
+import functools
+from collections.abc import Callable, Iterable, Mapping, Sequence
 from typing import Any
 
 from sagas.base.errors import NotSerializable
@@ -31,15 +32,20 @@ def undone_key(attempt: Attempt) -> str | None:
     if attempt.undo:
         return str(attempt.task().result["key"])
     if attempt.instance.kind.undoes is not None:  # it undoes a child of the one that is undone
-        return str(child_input(attempt))
+        return str(child_input(attempt)())
     return None
 
 
-def child_input(attempt: Attempt) -> Any:
-    """Return the input of a child, as the step's function says it."""
+def child_input(attempt: Attempt) -> Callable[[], Any]:
+    """Return what returns the input of a child, as the step's function says it. A thread may call
+    it.
+
+    Raises:
+        CannotDecode: The codec failed.
+    """
     function = attempt.declared.run.function
     assert function
-    return function(attempt.task())
+    return functools.partial(function, attempt.task())
 
 
 def _written(value: Any) -> str:

@@ -12,7 +12,7 @@ from sagas.base.errors import CannotDecode
 from sagas.core.outcomes import Outcome
 from sagas.core.saga_instance import SagaInstance as SagaInstance
 from sagas.core.states import ATTEMPT_TRANSITIONS, Action, AttemptState, Check, Suspension, check
-from sagas.core.suspensions import AttemptExtras, Lease, SuspensionRow
+from sagas.core.suspensions import AttemptExtras, Lease, Returned, Subject, SuspensionRow
 from sagas.definition import tokens
 from sagas.definition.task_data import whole
 from sagas.definition.compiled import Word
@@ -165,6 +165,10 @@ class Attempt(AcknowledgedAttempt):
     def request(self) -> Wanted:
         """The operator's command that finished it."""
         return self.extras.request if self.extras else None
+
+    def take_returned(self, subject: Subject) -> Returned | None:
+        """Take out what a function of its definition returned, which is used once."""
+        return self.extras.returned.pop(subject, None) if self.extras else None
 
     @property
     def is_unkept(self) -> bool:

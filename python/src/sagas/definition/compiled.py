@@ -55,11 +55,11 @@ def name_of(text: str) -> str:
     return found[1]
 
 
-def _simple(step: Step[Any] | None, word: str) -> Function | None:
+def _simple(step: Step[Any] | None, word: str, is_fair: bool) -> Function | None:
     """The function of a step that begins at once and is awaited here, and has no limit; of
-    others None.
+    others None. `is_fair`: its saga has tenants, also where it includes the step's.
     """
-    if step is None or step.saga.fair_by is not None or step.is_collected:
+    if step is None or is_fair or step.is_collected:
         return None
     if step.saga.undoes is not None or step.child is not None:
         return None
@@ -101,12 +101,13 @@ class Action:
         given: list[tuple[int, str]],
         hint: Decoder | None,
         context: Context,
+        is_fair: bool,
     ) -> None:
         self.name, self.word, self.given, self.hint = name, word, given, hint
         self.context = context
         self.kind = word[1]
         self.undo = self.kind == "undo"
-        self.simple = _simple(step, self.kind)
+        self.simple = _simple(step, self.kind, is_fair)
         self.inside = bool(step and step.manner(self.kind).transaction)
         self.is_remote = bool(step and step.manner(self.kind).queue)
         self.is_external = self.is_remote or bool(step and step.manner(self.kind).external)
@@ -228,10 +229,14 @@ class Kind:
     def _actions(self, kind: str, hints: list[Decoder | None], context: Context) -> list[Action]:
         """What each step does, or its compensation."""
         given = [[(number, self.names[number]) for number in below] for below in self.below]
+        is_fair = self.fair_by is not None
         return [
-            Action(name, (number, kind), self.steps[number], given[number], hints[number], context)
+            Action(
+                name, (number, kind), self.steps[number], given[number], hints[number], context,
+                is_fair,
+            )
             for number, name in enumerate(self.names)
-        ]
+        ]  # fmt: skip
 
     def _below(self, needs: list[list[int]]) -> list[list[int]]:
         """The steps that each step needs, directly or not."""

@@ -15,6 +15,7 @@ from sagas.definition.context import Context
 from sagas.definition.payloads import PLAIN as PLAIN_PAYLOADS
 from sagas.definition.payloads import Payloads
 from sagas.definition.saga import Saga
+from sagas.definition.shape import Shape
 from sagas.definition.shaped_kinds import ShapedKinds
 
 
@@ -102,6 +103,7 @@ class Shelf:
             if name in self.by_name
         }
         self._sets = dict(self._divided())
+        self._calling: dict[Saga, bool] = {}  # whether functions say which steps they have
 
     def _fixed(self) -> list[Saga]:
         """The sagas whose steps do not come from their input, sorted by name."""
@@ -173,8 +175,9 @@ class Shelf:
         """The webhooks that are told of sagas of a name."""
         return self._hooks(name)
 
-    def fit(self, saga: Saga, text: str) -> Fitted:
-        """Return the definition of a saga with an input.
+    def fit(self, saga: Saga, text: str) -> Fitted | None:
+        """Return the definition of a saga with an input; None if functions say which steps it has
+        for the input. Then `shaping` calls them.
 
         Args:
             saga: The saga.
@@ -194,11 +197,33 @@ class Shelf:
                 f"{saga.where}: saga {saga.name!r}: the store was not opened with it. Add it "
                 "to open(..., [...])"
             )
+        if saga not in self._calling:  # it is whole by now
+            self._calling[saga] = saga.calls_functions
+        return None if self._calling[saga] else self.shaped(text, self.shaping(saga, text)())
+
+    def shaping(self, saga: Saga, text: str) -> Callable[[], Shape | SagasError]:
+        """Return what calls the functions by which the steps of a saga come from its input. They
+        may be slow, so a thread calls it.
+        """
+        shape = self._shaped.shaping(saga, text)
+
+        def computed() -> Shape | SagasError:
+            try:
+                return shape()
+            except SagasError as error:
+                return error
+
+        return computed
+
+    def shaped(self, text: str, shape: Shape | SagasError) -> Fitted:
+        """Return the definition of what `shaping` found for an input."""
+        if isinstance(shape, SagasError):
+            return Fitted(None, None, shape)
         try:
-            kind, shape = self._shaped.of(saga, text)
+            kind, values = self._shaped.of(shape)
         except SagasError as error:
             return Fitted(None, None, error)
-        return Fitted(kind, shape, kind.misfit(text))
+        return Fitted(kind, values, kind.misfit(text))
 
     def announce(self, hooks: Callable[[str], Hooks]) -> None:
         """Let webhooks be told of sagas: `hooks` gives them by the name of the saga."""

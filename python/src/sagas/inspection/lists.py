@@ -210,11 +210,13 @@ def waits(
     scope: Scope = EVERYTHING,
     within: Filter | None = None,
     offered_before: float | None = None,
+    step: str | None = None,
 ) -> Question[list[Waits]]:
     """What is held, the oldest first; by default what a person has to say something about. `why`:
     of this reason alone; `key`: of one saga alone; `within`: of those sagas alone;
     `offered_before`: of all sagas also the tasks that were offered to workers before then, and
-    that none has claimed (`worker`)."""
+    that none has claimed (`worker`); `step`: of the steps with this name, or that are declared
+    with it."""
     seen, words = scope.where()
     wheres = [WAITS, seen]
     if within is not None:
@@ -241,10 +243,13 @@ def waits(
         FROM {held} h JOIN sagas s ON s.id = h.id {OF_SHARD}
         WHERE {' AND '.join(wheres)} ORDER BY h.since LIMIT ?
         """,
-        (*keys, *words, most),
+        (*keys, *words, most if step is None else ALL),  # the rows have no names of steps
     )
     names = yield from names_module.of_digests(row[2] for row in rows)
-    return [_waits(names, *row) for row in rows if row[2] in names]
+    found = (row for row in rows if row[2] in names)
+    return [
+        _waits(names, *row) for row in found if step is None or names.is_of(step, row[2], row[4])
+    ][:most]
 
 
 def _waits(

@@ -230,9 +230,11 @@ class Children:
         if attempt.undo:
             undone = await self._child_to_undo(attempt)
         elif attempt.instance.kind.undoes is not None:  # a child of the one that is undone
-            undone = str(children.child_input(attempt))
+            undone = str(children.child_input(attempt)())
         else:
-            return attempt.declared.child, children.child_input(attempt)
+            call = children.child_input(attempt)
+            given = await self._host.declared.call(attempt.instance.kind.name, call)
+            return attempt.declared.child, given
         ended = await self._carried.end(undone)
         kind = self._host.shelf.undo_kind(ended.kind)
         if kind is None:

@@ -26,6 +26,7 @@ from sagas.runtime.client_starts import Starts
 from sagas.runtime.commit_queue import CommitQueue
 from sagas.runtime.deadlines import Deadlines
 from sagas.runtime.deadlocks import Waits
+from sagas.runtime.declared_calls import DeclaredCalls
 from sagas.runtime.executor import Executor
 from sagas.runtime.external_queue import ExternalQueue
 from sagas.runtime.instances import Instances
@@ -51,6 +52,7 @@ class Coordinator:
         executor: What calls functions.
         commits: What writes to the store.
         shards: The shards of this program.
+        declared: What calls functions of definitions.
         external: The tasks of external workers.
         waits: Functions that wait for sagas.
         deadlines: When sagas are aborted.
@@ -85,6 +87,7 @@ class Coordinator:
         self._threads = ThreadPoolExecutor(threads, "sagas-step")
         self._jobs: set[asyncio.Task[None]] = set()
         self._timer: asyncio.TimerHandle | None = None
+        self.declared = DeclaredCalls(threads)
         self.external = ExternalQueue(self)
         self.sagas = Instances(self.loop)
         self.executor = Executor(self, self.external, concurrency, self._threads, tracer)
@@ -308,16 +311,23 @@ class Coordinator:
                 await self.commits.written()
         await self.store.close()
         self._threads.shutdown(wait=not late, cancel_futures=True)
+        self.declared.close()
         if engines:
             await asyncio.wait([engine.buried for engine in engines], timeout=QUIET)
 
     async def _late(self, shutdown_timeout: float | None) -> set[asyncio.Task[None]]:
         """Wait for the functions that run; return the tasks of those that are not over in time."""
         calls = self.executor.calls
-        ending = asyncio.create_task(calls.end(shutdown_timeout))
+        ending = asyncio.create_task(self._ended(shutdown_timeout))
         either: list[asyncio.Future[Any]] = [ending, self._lifespan.hurry]
         await asyncio.wait(either, return_when=asyncio.FIRST_COMPLETED)
         if ending.done():
             return ending.result()
         ending.cancel()
         return {job for job in calls.running.values() if job}
+
+    async def _ended(self, shutdown_timeout: float | None) -> set[asyncio.Task[None]]:
+        late, _ = await asyncio.gather(
+            self.executor.calls.end(shutdown_timeout), self.declared.end(shutdown_timeout)
+        )
+        return late

@@ -46,12 +46,14 @@ class BatchResult:
         waiting: The keys of those that have no answer yet: it is carried out once their program
             comes to it.
         undoing: The keys of those that an abort left out, because each undoes a child.
+        warnings: What may be misspelt, if the filter selects nothing: labels that no saga has.
     """
 
     done: list[str] = dataclasses.field(default_factory=list)
     refused: dict[str, str] = dataclasses.field(default_factory=dict)
     waiting: list[str] = dataclasses.field(default_factory=list)
     undoing: list[str] = dataclasses.field(default_factory=list)
+    warnings: list[str] = dataclasses.field(default_factory=list)
 
 
 def resolve_one(link: Source, key: str, note: str, by: str | None = None) -> bool:

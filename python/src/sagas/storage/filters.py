@@ -3,8 +3,6 @@
 from __future__ import annotations
 
 import dataclasses
-import json
-import re
 from typing import Any
 
 from sagas.definition import labels as labels_module
@@ -12,7 +10,7 @@ from sagas.definition.arguments import BELOW, root_of
 from sagas.definition.children import undoes_child
 from sagas.definition.labels import Labels
 from sagas.definition.undo_text import name_of
-from sagas.storage.queries import IN_OPEN_LOGS, PHASES, UNDOES_CHILD, UNDOING_KEYS
+from sagas.storage.queries import ERROR, IN_OPEN_LOGS, PHASES, UNDOES_CHILD, UNDOING_KEYS
 from sagas.storage.sqlite.schema import PLANNED
 
 MISSES = "('missed', 'fail', 'undo_missed', 'undo_fail')"
@@ -21,17 +19,16 @@ LABELED = "s.id IN (SELECT id FROM labels WHERE name = ? AND value = ?)"
 WITH_LABEL = "(SELECT b.value FROM labels b WHERE b.id = s.id AND b.name = ?) = ?"
 """For sagas that come in an order, or that something else has selected: each one's label is looked
 up."""
-KEYED = "s.id IN (SELECT id FROM sagas WHERE key LIKE ? ESCAPE '!')"
+KEYED = "s.id IN (SELECT id FROM sagas WHERE instr(key, ?) > 0)"
 """The keys alone are looked through, by their index."""
 WITH_ERROR = f"""(EXISTS (SELECT 1 FROM attempts x WHERE x.id = s.id AND x.event IN {MISSES}
-  AND x.value LIKE ? ESCAPE '!')
+  AND instr({ERROR}, ?) > 0)
   OR EXISTS (SELECT 1 FROM suspensions x WHERE x.id = s.id AND x.number > 0
-  AND x.detail LIKE ? ESCAPE '!'))"""
+  AND instr(x.detail, ?) > 0))"""
 """For few sagas: each one's attempts are looked up."""
 AMONG_ERRORS = f"""s.id IN (
-  SELECT x.id FROM attempts x WHERE x.event IN {MISSES} AND x.value LIKE ? ESCAPE '!'
-  UNION SELECT x.id FROM suspensions x WHERE x.number > 0
-  AND x.detail LIKE ? ESCAPE '!')"""
+  SELECT x.id FROM attempts x WHERE x.event IN {MISSES} AND instr({ERROR}, ?) > 0
+  UNION SELECT x.id FROM suspensions x WHERE x.number > 0 AND instr(x.detail, ?) > 0)"""
 """For many: all attempts are looked through once."""
 IN_ORDER = {
     phase: text.replace(IN_OPEN_LOGS, "").replace(f"{PLANNED} AND", f"{PLANNED} IS TRUE AND")
@@ -40,11 +37,6 @@ IN_ORDER = {
 """As `PHASES`, for sagas that come in an order: so that no other index is used."""
 FEW = ("open", "stuck", "recovered", "undo_failed", "resolved")
 """The phases that few sagas of a store are in."""
-
-
-def part(text: str) -> str:
-    """A pattern of what contains a text."""
-    return "%" + re.sub(r"([!%_])", r"!\1", text) + "%"
 
 
 @dataclasses.dataclass(frozen=True, slots=True)
@@ -175,15 +167,15 @@ class Filter:
             wheres.append(WITH_LABEL if in_order or each_label else LABELED)
             words += label
         if self.search:
-            wheres.append(KEYED if not of_few else "s.key LIKE ? ESCAPE '!'")
-            words.append(part(self.search))
+            wheres.append(KEYED if not of_few else "instr(s.key, ?) > 0")
+            words.append(self.search)
         times, bounds = self.times()
         wheres += [f"+{condition}" for condition in times]
         words += bounds
         if self.error:
             is_few = of_few or bool(self.labels) or self.phase in FEW
             wheres.append(WITH_ERROR if is_few else AMONG_ERRORS)
-            words += [part(json.dumps(self.error, ensure_ascii=False)[1:-1]), part(self.error)]
+            words += [self.error, self.error]
         return " AND ".join(wheres), words
 
     def times(self) -> tuple[list[str], list[Any]]:

@@ -189,11 +189,21 @@ WHERE r.answer IS NULL AND r.id > ? ORDER BY r.id LIMIT ?
 """Of a file, which forgets with a saga what was asked of its key."""
 
 
+ERROR = "json_extract(x.value, '$.error')"
+"""What an attempt `x` raised, of a row that has it as JSON."""
+ERROR_IN_POSTGRESQL = r"""CASE WHEN
+  x.value ~ '\\u0000|\\ud[89ab]..(?!\\ud[c-f])|(?<!\\ud[89ab]..)\\ud[c-f]'
+  THEN x.value ELSE x.value::json ->> 'error' END"""
+"""The same. A text with a NUL or half of a pair, which PostgreSQL does not take from JSON, stays as
+it is.
+"""
+
+
 def for_postgresql(query: str, mark: str = "%s") -> str:
     """A query as psycopg and PostgreSQL take it, with a mark for each value."""
     query = query.replace(IN_OPEN_LOGS, "").replace("json_group_object", "json_object_agg")
-    query = query.replace(SORTED_AT, "s.at")
-    return query.replace("?", mark)
+    query = query.replace(SORTED_AT, "s.at").replace("instr(", "strpos(")
+    return query.replace("?", mark).replace(ERROR, ERROR_IN_POSTGRESQL)  # which has ? of its own
 
 
 def labels_of(told: str | None) -> dict[str, str]:

@@ -94,7 +94,7 @@ class Family:
     def _input(self, attempt: Attempt) -> Any:
         key = children.undone_key(attempt)
         if key is None:
-            return children.child_input(attempt)
+            return children.child_input(attempt)()
         simulation, kind, token = self._members[key]
         saga_instance = simulation.saga
         undone = children.left_by(self.trials[key].states, ())

@@ -235,6 +235,10 @@ class Simulation:
             if attempt.outcome.called:
                 self._note(attempt, attempt.outcome)
             self._driver.report(attempt)
+        elif decision.do is Do.ASK:
+            assert decision.question
+            attempt.rare.returned |= decision.question.answers()
+            self._do(attempt, self._machine.go_on(attempt, self._clock()))
         elif decision.do is Do.OFFER:
             self._put(self._clock(), Due.ANSWER, attempt)
         elif decision.do is Do.FOLLOW and attempt not in self._followed:
