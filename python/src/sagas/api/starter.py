@@ -11,6 +11,7 @@ from sagas.api.store_access import StoreAccess
 from sagas.base.errors import Closed, KeyConflict, StoreUnavailable
 from sagas.core.model import SagaInstance
 from sagas.definition import arguments, children, serialization, start_options, undo_sagas
+from sagas.definition.compiled import Kind
 from sagas.definition.labels import Labels, checked, with_token
 from sagas.definition.payloads import ABSENT
 from sagas.definition.saga import Saga
@@ -55,20 +56,26 @@ class Starter:
             options = StartOptions(told, time, None, shape, traceparent)
         return self._start(inside, saga, fitted, key, text, options, self.accepts_new)
 
-    def start_child(self, saga: Saga, key: str, input: Any, options: StartOptions) -> Begun:
-        """Starts a child, also where the store starts no new sagas: its parent is not new."""
+    def start_child(
+        self, saga: Saga | Kind, key: str, input: Any, options: StartOptions
+    ) -> Begun:  # fmt: skip
+        """Starts a child, also where the store starts no new sagas: its parent is not new. What
+        undoes a child comes as its definition."""
         inside = self._access.here()
         arguments.key(key, or_child=True)
         # the input of a saga that undoes a child has the child's results
-        write = serialization.write if saga.undoes else serialization.write_value
-        text = write(input, "input")
-        fitted = self._shelf.fit(saga, text)
+        if isinstance(saga, Kind):
+            text = serialization.write(input, "input")
+            fitted = Fitted(saga, None, None)
+        else:
+            text = serialization.write_value(input, "input")
+            fitted = self._shelf.fit(saga, text)
         if fitted.shape is not None:
             options = dataclasses.replace(options, shape=fitted.shape)
         return self._start(inside, saga, fitted, key, text, options, accepts=True)
 
     def _start(
-        self, inside: Coordinator, saga: Saga, fitted: Fitted, key: str, text: str,
+        self, inside: Coordinator, saga: Saga | Kind, fitted: Fitted, key: str, text: str,
         options: StartOptions, accepts: bool,
     ) -> Begun:  # fmt: skip
         kind, _, wrong = fitted
@@ -81,7 +88,7 @@ class Starter:
         return self._look(inside, saga, fitted, key, text, options, accepts)
 
     async def _look(
-        self, inside: Coordinator, saga: Saga, fitted: Fitted, key: str, text: str,
+        self, inside: Coordinator, saga: Saga | Kind, fitted: Fitted, key: str, text: str,
         options: StartOptions, accepts: bool,
     ) -> bool:  # fmt: skip
         """As `_start`, of a key that may be there."""

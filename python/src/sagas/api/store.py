@@ -111,7 +111,7 @@ class Store(RetryCalls):
     @property
     def sagas(self) -> builtins.list[Saga]:
         """The definitions that it was opened with."""
-        return [*self._shelf.sagas.values()]
+        return [*self._shelf.declared]
 
     @property
     def codec(self) -> Codec | None:

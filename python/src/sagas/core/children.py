@@ -26,6 +26,15 @@ def number_of(attempt: Attempt) -> int:
     return attempt.attempt + attempt.failures
 
 
+def undone_key(attempt: Attempt) -> str | None:
+    """Return the key of the child that an attempt undoes; None if it starts one."""
+    if attempt.undo:
+        return str(attempt.task().result["key"])
+    if attempt.instance.kind.undoes is not None:  # it undoes a child of the one that is undone
+        return str(child_input(attempt))
+    return None
+
+
 def child_input(attempt: Attempt) -> Any:
     """Return the input of a child, as the step's function says it."""
     function = attempt.declared.run.function

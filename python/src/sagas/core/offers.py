@@ -12,6 +12,18 @@ def task_name(saga: str, step: str, action: str) -> str:
     return f"{saga}/{step}/{action}"
 
 
+def task_of(attempt: Attempt) -> str:
+    """Return the name under which workers ask for an attempt.
+
+    A step of a saga that undoes a child is the compensation of the child's step, for the worker of
+    that.
+    """
+    undoes = attempt.instance.kind.undoes
+    if undoes is not None:
+        return task_name(undoes, attempt.name, Action.COMPENSATE)
+    return task_name(attempt.saga, attempt.declared_name, attempt.kind)
+
+
 def offer(attempt: Attempt, shard: int, now: float) -> Offer:
     """Return the row that offers an attempt.
 
@@ -22,9 +34,8 @@ def offer(attempt: Attempt, shard: int, now: float) -> Offer:
     why = instance.why_draining if instance.draining and not attempt.undo else None
     if attempt.is_remote:
         return (attempt.token(), shard, *attempt.row, "", None, int(now * 1000), now, why)
-    task = task_name(attempt.saga, attempt.declared_name, attempt.kind)
     bound = attempt.declared.concurrency if attempt.kind == Action.RUN else None
-    return (attempt.token(), shard, *attempt.row, task, bound, None, now, why)
+    return (attempt.token(), shard, *attempt.row, task_of(attempt), bound, None, now, why)
 
 
 def first_offer(attempt: Attempt, shard: int, now: float) -> Offer:

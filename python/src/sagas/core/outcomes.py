@@ -130,6 +130,11 @@ def delivered(kind: OutcomeKind, value: str) -> Outcome:
     return Outcome(kind, value)
 
 
+def parked(text: str) -> Outcome:
+    """Return the outcome of an attempt that this program cannot make, and another one may."""
+    return _told(CANNOT_DECODE, text)
+
+
 def unknown(text: str) -> Outcome:
     """Return the outcome of a call that may have had its effect."""
     return _told(UNKNOWN, text)

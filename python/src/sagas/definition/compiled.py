@@ -13,11 +13,13 @@ import tomllib
 from sagas.base.errors import CannotDecode, InvalidInput
 from sagas.definition import (
     decoders,
+    listed_steps,
     mismatches,
     serialization,
     shape_text,
     shape_validation,
     type_checks,
+    undo_text,
 )
 from sagas.definition.context import Context
 from sagas.definition.declaration import Declared
@@ -117,7 +119,7 @@ Hooks = Mapping[str, tuple[str, ...]]
 class Kind:
     """A definition on a log's shelf. `steps` has None where the program has no such step any
     more. `context`: what their functions share; `payloads`: how their values are stored; `hooks`:
-    who is told of its sagas.
+    who is told of its sagas; `undoes`: the name of the child that its sagas undo, or None.
     """
 
     def __init__(
@@ -131,6 +133,9 @@ class Kind:
         listed = shape_text.steps(text) if is_shaped else tomllib.loads(text)["step"]
         self.layout: Layout | None = shape_text.layout(text, listed) if is_shaped else None
         self.text, self.name = text, name_of(text)
+        self.undoes = undo_text.child_of(text)
+        if self.undoes is None and saga is not None and saga.undoes is not None:
+            self.undoes = saga.undoes.name  # a text of an older release
         self.names: list[str] = [step["name"] for step in listed]
         self.heads = [f'"{name}":' for name in self.names]
         self.steps: list[Step[Any] | None] = self._declared_steps(saga)
@@ -310,10 +315,11 @@ class Kind:
                 return (
                     f"it includes saga {name!r} (version {version}) as {path!r}, and here is {has}"
                 )
-        for listed, step in zip(tomllib.loads(self.text)["step"], self.steps):
-            name = listed["name"]
+        what = "function" if self.undoes is None else "compensation"
+        for listed, step in zip(listed_steps.of(self.text), self.steps):
             if step is None:
-                return f"step {name!r} has no function in this program"
-            if listed.get("undo", 0) != "never" and not step.has_compensation:
-                return f"step {name!r} has no compensation in this program"
+                return f"step {listed.name!r} has no {what} in this program"
+            is_there = step.has_compensation and not (step.undo.implied and listed.is_compensated)
+            if listed.undo != "never" and not is_there:
+                return f"step {listed.name!r} has no compensation in this program"
         return None

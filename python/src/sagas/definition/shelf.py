@@ -7,8 +7,8 @@ import json
 from collections.abc import Callable, Iterable, Iterator, Sequence
 from typing import Any, NamedTuple
 
-from sagas.base.errors import DefinitionError, SagasError
-from sagas.definition import definition_text, shape_text, undo_sagas, validation
+from sagas.base.errors import DefinitionError, MissingStep, SagasError
+from sagas.definition import definition_text, shape_text, undo_sagas, undo_text, validation
 from sagas.definition.capacity import MOST_DEFINITIONS, SHARD_CAPACITY
 from sagas.definition.compiled import Hooks, Kind, name_of, version_of
 from sagas.definition.context import Context
@@ -33,8 +33,9 @@ def digest_of_texts(texts: list[str]) -> str:
 
 
 class DefinitionSet(NamedTuple):
-    """The definitions with which a shard begins. Of sagas whose steps come from their input there
-    are none, and no digest: they come with the sagas.
+    """The definitions with which a shard begins. Of sagas whose steps come from their input, and of
+    those that undo children of earlier definitions, there are none, and no digest: they come with
+    the sagas.
     """
 
     digest: str = ""
@@ -59,7 +60,12 @@ class Fitted(NamedTuple):
 
 
 class Shelf:
-    """The sagas that a store was opened with, and the definitions of older logs by them."""
+    """The sagas that a store was opened with, and the definitions of older logs by them.
+
+    Attributes:
+        declared: The sagas.
+        sagas: The same, and those that undo their children, by name and version.
+    """
 
     def __init__(self, sagas: Iterable[Saga], payloads: Payloads = PLAIN_PAYLOADS) -> None:
         self.sagas: dict[tuple[str, int], Saga] = {}
@@ -81,6 +87,7 @@ class Shelf:
             self.sagas[name] = saga
         if not self.sagas:
             raise DefinitionError("a store needs at least one saga")
+        self.declared = list(self.sagas.values())
         self.sagas = undo_sagas.with_undo_sagas(self.sagas)
         self.shelf, self.texts = shelf_of(self.sagas.values())
         self._kinds: dict[str, Kind] = {}
@@ -124,10 +131,41 @@ class Shelf:
         if shape_text.is_shaped(text):
             return self._shaped.kind(text)
         if text not in self._kinds:
-            saga = self.sagas.get((name_of(text), version_of(text)))
-            kind = self._kinds[text] = Kind(text, saga, self.context, self.payloads)
+            kind = self._kinds[text] = Kind(text, self._saga(text), self.context, self.payloads)
             kind.hooks = self._hooks_of(kind)
         return self._kinds[text]
+
+    def _saga(self, text: str) -> Saga | None:
+        """The saga with the functions of a definition. One that undoes children has those of the
+        children's own definition, whatever the program declares today.
+        """
+        version = version_of(text)
+        saga = self.sagas.get((name_of(text), version))
+        if saga is not None and saga.undo_text == text:
+            return saga
+        child = saga.undoes if saga else self.sagas.get((undo_text.child_of(text) or "", version))
+        return saga if child is None else undo_sagas.of_text(child, text)
+
+    def undo_kind(self, child: Kind) -> Kind | None:
+        """Return the definition of the saga that undoes a completed child.
+
+        Args:
+            child: The definition that the child ran with.
+
+        Returns:
+            None where there is nothing to undo.
+
+        Raises:
+            MissingStep: This program lacks a compensation.
+        """
+        lacks, saga = undo_sagas.lacks(child.saga, child.text), child.saga
+        if lacks is not None or saga is None:
+            raise MissingStep(
+                f"a child of saga {child.name!r} (version {child.version}) is to be undone, but "
+                f"{lacks}. Declare it again"
+            )
+        text = undo_sagas.of_child(saga, child.text)
+        return None if text is None else self.kind(text)
 
     def hooks(self, name: str) -> Hooks:
         """The webhooks that are told of sagas of a name."""
@@ -181,4 +219,4 @@ class Shelf:
 
     def set_of(self, kind: Kind) -> DefinitionSet:
         """The definitions of the logs that take new sagas of this one."""
-        return GROWING if kind.layout is not None else self._sets[kind]
+        return self._sets.get(kind, GROWING)

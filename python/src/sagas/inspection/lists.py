@@ -57,9 +57,14 @@ SUSPENDED = f"""(
     coalesce((SELECT count FROM suspensions u WHERE {SAME.format("u", "e")}), 0), e.since, e.until,
     e.worker
   FROM external_attempts e
-  WHERE e.outcome IS NULL AND e.worker IS NOT NULL AND e.until IS NOT NULL{{e}})"""
+  WHERE e.outcome IS NULL AND e.worker IS NOT NULL AND e.until IS NOT NULL{{e}}{{unclaimed}})"""
 """What is suspended, and what a worker has; of what is offered again nobody waits for a time, and
 no worker has it, though its row says who had it last. With a further condition of each."""
+UNCLAIMED = """
+  UNION ALL SELECT e.id, e.step, e.action, e.number, 'worker', 0, e.offered_at, NULL, NULL
+  FROM external_attempts e
+  WHERE e.outcome IS NULL AND e.task > '' AND e.worker IS NULL AND e.offered_at < ?"""
+"""What is offered to workers since an earlier time, and none has claimed."""
 OF_KEY = " AND {}.id = (SELECT id FROM sagas WHERE key = ?)"
 PERSON = f"(reason = 'approval' OR {HELD_BADLY})"
 WAITS = "NOT (reason = 'wait' AND until = 0) AND number > 0"
@@ -202,9 +207,12 @@ def waits(
     key: str | None = None,
     scope: Scope = EVERYTHING,
     within: Filter | None = None,
+    offered_before: float | None = None,
 ) -> Question[list[Waits]]:
     """What is held, the oldest first; by default what a person has to say something about. `why`:
-    of this reason alone; `key`: of one saga alone; `within`: of those sagas alone."""
+    of this reason alone; `key`: of one saga alone; `within`: of those sagas alone;
+    `offered_before`: of all sagas also the tasks that were offered to workers before then, and
+    that none has claimed (`worker`)."""
     seen, words = scope.where()
     wheres = [WAITS, seen]
     if within is not None:
@@ -216,13 +224,15 @@ def waits(
     if why is not None:
         wheres.append("reason = ?")
         words.append(why)
-    held, keys = "suspensions", list[str]()
+    held, keys = "suspensions", list[Any]()
     if key is not None and person:
         wheres.append(f"h.id = h.id{OF_KEY.format('h')}")
         words.append(key)
     elif not person:
         of = {part: OF_KEY.format(part) if key is not None else "" for part in ("u", "e")}
-        held, keys = SUSPENDED.format(**of), [key, key] if key is not None else []
+        unclaimed = "" if offered_before is None else UNCLAIMED
+        held, keys = SUSPENDED.format(**of, unclaimed=unclaimed), [key, key] if key else []
+        keys += [offered_before] if unclaimed else []
     rows = yield Query(
         f"""
         SELECT s.key, s.saga, d.definition, {HELD}

@@ -11,6 +11,7 @@ from sagas.base.errors import (
     Closed,
     InvalidResult,
     KeyConflict,
+    MissingStep,
     Moved,
     NoSuchSaga,
     SagasError,
@@ -23,7 +24,7 @@ from sagas.core.outcomes import SUCCEEDED, Outcome
 from sagas.core.results import SagaResult
 from sagas.core.states import Suspension
 from sagas.definition import children as child_keys
-from sagas.definition import tokens, undo_sagas
+from sagas.definition import tokens
 from sagas.definition.arguments import BELOW
 from sagas.definition.capacity import SHARD_CAPACITY
 from sagas.definition.compiled import Kind
@@ -60,7 +61,7 @@ class ChildEnd(NamedTuple):
 class Carrier(Protocol):
     """What starts, finds and aborts sagas by their keys, wherever they are executed."""
 
-    async def start(self, saga: Saga, key: str, given: Any, options: StartOptions) -> bool:
+    async def start(self, saga: Saga | Kind, key: str, given: Any, options: StartOptions) -> bool:
         """Start a saga, also where the store starts no new ones. False: the key has one."""
 
     async def end(self, key: str) -> ChildEnd:
@@ -136,8 +137,8 @@ class Children:
                 break
             except Closed:
                 return
-            except CannotDecode as error:
-                outcome = outcomes.raised(error, attempt.manner)
+            except (CannotDecode, MissingStep) as error:
+                outcome = outcomes.parked(str(error))
                 break
             except (TemporaryError, Moved, NoSuchSaga) as error:
                 logger.info("child of %r is looked at again: %s", attempt.key, error)
@@ -156,7 +157,7 @@ class Children:
             found = await self._begun(attempt)
         except (TemporaryError, Moved, NoSuchSaga):
             raise
-        except CannotDecode:
+        except (CannotDecode, MissingStep):
             raise
         except SagasError as error:
             return outcomes.failure(f"{type(error).__name__}: {error}", final=True)
@@ -190,29 +191,22 @@ class Children:
             KeyConflict: The key is another saga's.
             SagasError: The child cannot be started.
         """
-        key, saga = children.key_of(attempt), self._definition(attempt)
-        if saga is None:
-            return Outcome(SUCCEEDED, "null")  # there is no compensation to be called
+        key = children.key_of(attempt)
         while not await self._is_there(attempt, key):
             await self._values.fill(attempt)
             try:
-                given = await self._input(attempt, saga)
+                saga, given = await self._new(attempt)
             except SagasError:
                 raise
             except Exception as error:  # of the step's function
                 return outcomes.raised(error, attempt.manner)
             finally:
                 attempt.instance.release()
+            if saga is None:
+                return Outcome(SUCCEEDED, "null")  # there is no compensation to be called
             if await self._carried.start(saga, key, given, await self._options(attempt, saga)):
                 break
         return key
-
-    def _definition(self, attempt: Attempt) -> Saga | None:
-        """What its child is of; None where there is nothing to be undone."""
-        child = attempt.declared.child
-        assert child
-        name = undo_sagas.name_of(child.name) if attempt.undo else child.name
-        return self._host.shelf.sagas.get((name, child.version))
 
     async def _is_there(self, attempt: Attempt, key: str) -> bool:
         """Whether its child is in the store. Raises `KeyConflict`."""
@@ -225,30 +219,37 @@ class Children:
             )
         return False
 
-    async def _input(self, attempt: Attempt, saga: Saga) -> Any:
-        """What its child is started with."""
-        if not attempt.undo:
-            given = children.child_input(attempt)
-            child = attempt.declared.child
-            if child is None or child.undoes is None:
-                return given
-            key = str(given)
-        else:
-            key = await self._child_to_undo(attempt)
+    async def _new(self, attempt: Attempt) -> tuple[Saga | Kind | None, Any]:
+        """What its child is of, and is started with; nothing where there is nothing to be undone.
+        What undoes a child is made of the definition that the child ran with.
+
+        Raises:
+            MissingStep: This program lacks a compensation.
+        """
+        key = await self._child_to_undo(attempt)
+        if key is None:
+            return attempt.declared.child, children.child_input(attempt)
         ended = await self._carried.end(key)
+        kind = self._host.shelf.undo_kind(ended.kind)
+        if kind is None:
+            return None, None
         ((name,),) = await self._host.store.read(NAME, ended.id // SHARD_CAPACITY)
         token = tokens.saga_token(name, ended.id % SHARD_CAPACITY)
         earlier = await self._earlier(attempt)
         before = [(await self._carried.end(one)).end.states for one in earlier]
         undone = children.left_by(ended.end.states, before)
-        return children.undo_input(
+        return kind, children.undo_input(
             key, token, ended.kind, ended.text, ended.results, undone, earlier
         )
 
-    async def _child_to_undo(self, attempt: Attempt) -> str:
-        """The key of the child that an attempt undoes. Raises `InvalidResult` where the step's
-        result has none, as somebody may have reported it before that was checked.
+    async def _child_to_undo(self, attempt: Attempt) -> str | None:
+        """The key of the child that an attempt undoes; None if it starts one. Raises
+        `InvalidResult` where the step's result has none, as somebody may have reported it before
+        that was checked.
         """
+        if not attempt.undo:
+            undoes = attempt.instance.kind.undoes is not None
+            return str(children.child_input(attempt)) if undoes else None
         result = attempt.task().result
         key = result.get("key") if isinstance(result, dict) else None
         if isinstance(key, str):
@@ -281,17 +282,17 @@ class Children:
         """Whether a saga has the key."""
         return bool(await self._host.store.read(PARENT, key))
 
-    async def _options(self, attempt: Attempt, saga: Saga) -> StartOptions:
+    async def _options(self, attempt: Attempt, saga: Saga | Kind) -> StartOptions:
         """Labels and trace context of the parent, and the earlier deadline; what undoes a child has
         no deadline.
         """
         parent, now = attempt.instance, self._host.clock()
         rows = await self._host.store.read(LABELS, parent.id)
         labels: dict[str, str] = {name: value for name, value in rows}
-        times = [parent.options.deadline, deadline_at(saga.deadline, now)]
-        is_undoing = attempt.undo or saga.undoes is not None
-        known = [] if is_undoing else [at for at in times if at is not None]
-        deadline = min(known, default=None)
+        deadline = None
+        if isinstance(saga, Saga):
+            times = parent.options.deadline, deadline_at(saga.deadline, now)
+            deadline = min((at for at in times if at is not None), default=None)
         return StartOptions(labels, deadline, parent.id, traceparent=parent.options.traceparent)
 
     # -- aborted

@@ -5,7 +5,7 @@ from __future__ import annotations
 import asyncio
 import functools
 import time
-from collections.abc import Callable, Coroutine
+from collections.abc import Callable, Coroutine, Sequence
 from concurrent.futures import ThreadPoolExecutor
 from typing import Any
 
@@ -13,9 +13,11 @@ from sagas.base.errors import Closed, SagasError
 from sagas.base.events import Teller
 from sagas.base.fork_guard import private
 from sagas.base.logger import logger
+from sagas.core import undo_check
 from sagas.core.batch import Batch, LogRow
 from sagas.core.limits import Slots
 from sagas.core.shard import ShardDriver
+from sagas.core.undo_check import CompletedChild
 from sagas.definition.shelf import Shelf
 from sagas.definition.tracing import Tracer
 from sagas.runtime import decode_check, remote_steps
@@ -123,9 +125,11 @@ class Coordinator:
         self.shards.close_all_over()
         self._timer = self.loop.call_later(1.0, self._tick, 0.0)
 
-    def lacks(self, texts: list[str], places: list[int]) -> str | None:
+    def lacks(
+        self, texts: list[str], places: list[int], completed: Sequence[CompletedChild]
+    ) -> str | None:  # fmt: skip
         """Return what this program has no function for, of the definitions at these places of a
-        shard.
+        shard, and of the completed children that its open sagas may undo.
         """
         for place in places:
             try:
@@ -135,7 +139,10 @@ class Coordinator:
             lacks = kind.lacks()
             if lacks:
                 return f"saga {kind.name!r} (version {kind.version}) has open sagas, but {lacks}"
-        return None
+        try:
+            return undo_check.lacking(self.shelf.kind, completed)
+        except (ValueError, LookupError, TypeError, SagasError):  # a text of another shard
+            return None
 
     def _tick(self, offered: float) -> None:
         """Look at what nobody tells. `offered`: when shards were offered to other nodes."""

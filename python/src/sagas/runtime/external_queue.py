@@ -15,11 +15,11 @@ from sagas.base.errors import CannotDecode, LeaseLost, SagasError, StoreUnavaila
 from sagas.base.logger import logger
 from sagas.core.lease_signature import Signer
 from sagas.core.model import Attempt
-from sagas.core.offers import task_name
+from sagas.core.offers import task_name, task_of
 from sagas.core.suspensions import Lease
 from sagas.definition.compiled import Kind
 from sagas.definition.control import Progress
-from sagas.definition import shape_validation
+from sagas.definition import compensation_task, shape_validation, undo_text
 from sagas.definition.shape_values import ShapeValues
 from sagas.definition.task import Task
 from sagas.definition.task_data import Told
@@ -125,7 +125,7 @@ class ExternalQueue(ExternalReports):
             return
         if attempt.instance.draining:
             self.owner.executor.drain(attempt.instance)
-        self.wake(task_name(attempt.saga, attempt.declared_name, attempt.kind))
+        self.wake(task_of(attempt))
 
     def withdraw(self, attempt: Attempt) -> None:
         """Its saga is being undone: it is taken back, unless a worker has it. That is a commit of
@@ -306,8 +306,9 @@ class ExternalQueue(ExternalReports):
         """What a worker is handed; None where that cannot be computed."""
         now, attempt = self.owner.clock(), self.find(claim.attempt)
         if attempt is None:
-            task = await self._task(claim)
+            kind, task = await self._task(claim)
         else:
+            kind = attempt.instance.kind
             attempt.rare.lease = Lease(claim.lease, worker, now, now + claim.seconds)
             attempt.fresh = False
             await self.owner.executor.values.fill(attempt)
@@ -320,6 +321,9 @@ class ExternalQueue(ExternalReports):
             index=task.index if task.has_item else None, undo=task.is_compensation,
             attempt=task.attempt,
         )  # fmt: skip
+        if kind.undoes is not None:
+            sees = undo_text.sees_of(kind.text).get(task.step, ())
+            task = compensation_task.of(task, kind.undoes, sees)
         lease = self._signer.issue(claim.attempt, claim.lease, holder)
         try:
             given = given_values.text_of(task)
@@ -333,8 +337,8 @@ class ExternalQueue(ExternalReports):
             return None
         return LeasedTask(claim.attempt, lease, now + claim.seconds, task, given)
 
-    async def _task(self, claim: Claim) -> Task[Any]:
-        """What a worker is handed of an attempt that another node drives."""
+    async def _task(self, claim: Claim) -> tuple[Kind, Task[Any]]:
+        """The definition, and what a worker is handed, of an attempt that another node drives."""
         read, undo = self.owner.store.read, claim.action == "undo"
         rows = await read(OF_SAGA, claim.id)
         ((key, text, deadline, traceparent, definition, shape),) = rows
@@ -355,7 +359,7 @@ class ExternalQueue(ExternalReports):
             results.get(claim.step) if undo else None, hint, kind.decoders, deadline,
             kind.actions[claim.action][claim.step].context, traceparent=traceparent, place=place,
         )  # fmt: skip
-        return Task(told)
+        return kind, Task(told)
 
     async def heartbeat(
         self, token: str, lease: str, holder: str, seconds: float, told: Progress | None

@@ -11,7 +11,7 @@ from sagas.definition import labels as labels_module
 from sagas.definition.arguments import BELOW, root_of
 from sagas.definition.children import undoes_child
 from sagas.definition.labels import Labels
-from sagas.definition.undo_sagas import name_of
+from sagas.definition.undo_text import name_of
 from sagas.storage.queries import IN_OPEN_LOGS, PHASES, UNDOES_CHILD, UNDOING_KEYS
 from sagas.storage.sqlite.schema import PLANNED
 

@@ -33,6 +33,7 @@ from sagas.core.batch import (  # fmt: skip
     Tail,
 )
 from sagas.core.step_transactions import StepTransactions
+from sagas.core.undo_check import CompletedChild
 from sagas.storage.external import ExternalAttempts
 from sagas.storage.record_file import RecordFile
 
@@ -49,9 +50,9 @@ Then = Callable[[Sequence[Batch], "BaseException | None", frozenset[int]], None]
 and the logs of which nothing was written (`Lost`).
 """
 
-Drives = Callable[[list[str], list[int]], "str | None"]
-"""Of a log's definitions and of the places of those that have open sagas: None where this
-program has all functions, else what it lacks.
+Drives = Callable[[list[str], list[int], Sequence[CompletedChild]], "str | None"]
+"""Of a log's definitions, of the places of those that have open sagas, and of the completed
+children below these: None where this program has all functions, else what it lacks.
 """
 
 

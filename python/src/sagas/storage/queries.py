@@ -12,8 +12,10 @@ from collections.abc import Callable, Sequence
 from typing import Any
 
 from sagas.base.errors import NoSuchSaga
+from sagas.core import undo_check
 from sagas.core.batch import Known, LogRow, SagaRow
 from sagas.core.held_values import LARGE
+from sagas.core.undo_check import CompletedChild
 from sagas.definition.arguments import BELOW
 from sagas.definition.capacity import SHARD_CAPACITY
 from sagas.definition.children import UNDO
@@ -63,6 +65,28 @@ ORDER BY s.id, r.step, r.action, r.number
 OPEN_HELD = f"SELECT {HELD} FROM sagas s CROSS JOIN suspensions h WHERE {OPEN} AND h.id = s.id"
 """SQLite goes by a CROSS JOIN from left to right: by the open sagas first."""
 PLACES = f"SELECT DISTINCT definition_index FROM sagas s WHERE {OPEN}"
+COMPLETED_CHILDREN = f"""
+WITH RECURSIVE below(shard, id, parent) AS (
+  SELECT l.shard, c.id, c.parent FROM shards l CROSS JOIN sagas s CROSS JOIN children c
+  WHERE EXISTS (SELECT 1 FROM children) AND {{which}} AND s.phase IS NULL AND c.parent = s.id
+    AND s.id >= l.shard * {SHARD_CAPACITY} AND s.id < (l.shard + 1) * {SHARD_CAPACITY}
+  UNION ALL SELECT b.shard, c.id, c.parent FROM below b CROSS JOIN children c WHERE c.parent = b.id)
+SELECT DISTINCT b.shard, p.phase IS NULL, q.definition, substr(s.key, length(p.key) + 3),
+  d.definition
+FROM below b CROSS JOIN sagas s CROSS JOIN sagas p CROSS JOIN shard_definitions d
+  CROSS JOIN shard_definitions q
+WHERE s.id = b.id AND s.phase = 'ended' AND NOT s.{PLANNED}
+  AND p.id = b.parent AND (p.phase IS NULL OR p.phase = 'ended' AND NOT p.{PLANNED})
+  AND NOT EXISTS (SELECT 1 FROM sagas u WHERE u.key = s.key || '{UNDO}' AND u.phase IS NOT NULL)
+  AND d.shard = s.id / {SHARD_CAPACITY} AND d.place = s.definition_index
+  AND q.shard = p.id / {SHARD_CAPACITY} AND q.place = p.definition_index
+"""
+"""The children below open sagas of shards that have completed and are not undone: of each the
+shard, whether its parent is open, that one's definition, what its key has behind the parent's, and
+its definition.
+"""
+COMPLETED_IN_FILE = COMPLETED_CHILDREN.format(which="l.closed = 0")
+ALL_DEFINITIONS = "SELECT definition, text FROM definitions"
 COUNT = "SELECT count(*) FROM sagas s WHERE s.id >= ? AND s.id < ?"
 FIND = f"SELECT {SAGA} FROM sagas WHERE key = ?"
 FIND_MANY = {
@@ -217,6 +241,11 @@ class Rows:
     def places(self, log: int) -> list[int]:
         """The places of the definitions of a log's open sagas."""
         return [place for (place,) in self.rows(PLACES, *bounds(log))]
+
+    def completed_children(self) -> dict[int, list[CompletedChild]]:
+        """The completed children below the open sagas of each log."""
+        rows = self.rows(COMPLETED_IN_FILE)
+        return undo_check.by_shard(rows, self.rows(ALL_DEFINITIONS)) if rows else {}
 
     def find_now(self, key: str) -> SagaRow | None:
         """The saga with this key."""
