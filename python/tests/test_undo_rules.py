@@ -485,6 +485,12 @@ def test_over_http(tmp_path: pathlib.Path) -> None:
             told = client.post("/v1/bulk/abort", json={"filter": {}}).json()
             assert (told["count"], told["keys"], told["undoing"]) == (2, ["t", "h"], 1)
             assert error_of(stranger.post("/v1/bulk/abort", json=bulk)) == "Forbidden"
+            with service.client() as page:
+                assert page.post("/ui/login", data={"token": every, "next": "/ui"}).status_code == 303
+                assert "Abort…" not in page.get(f"/ui{path.removeprefix('/v1')}").text and "Abort…" in page.get("/ui/sagas/t").text
+                form = page.get("/ui/sagas/h/steps/kid/done").text
+                assert "enter null as the key" in form and "&#34;key&#34;: &#34;h/:kid&#34;" in form
+                assert "enter null as the key" not in page.get("/ui/sagas/t/steps/kid/done?undo=true").text
             complete, filter = "/v1/sagas/h/steps/kid/complete", {"kind": "exhausted", "definition": "hand", "step": "kid"}
             assert error_of(stranger.post(complete, json={"result": result(None, results={})})) == "NoSuchSaga"
             for wrong in (None, result("t/:kid", results={}), result("nonsense", results={})):

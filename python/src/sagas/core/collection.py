@@ -35,9 +35,15 @@ def has_nothing_to_undo(attempt: Attempt) -> bool:
     if not attempt.undo:
         return _undoes_child(attempt) and attempt.name in _undone_before(attempt)
     step = attempt.declared
-    if (not step.is_collected and step.child is None) or attempt.own is None:
+    if not step.is_collected and step.child is None:
         return False
-    result = serialization.read(attempt.own)
+    try:
+        own = attempt.own
+    except CannotDecode:  # the call is told as such
+        return False
+    if own is None:
+        return False
+    result = serialization.read(own)
     if step.child is not None:
         return child_results.is_none(result)
     return serialization.failed(result) is not None

@@ -217,8 +217,8 @@ def check_started(saga: Saga) -> None:
     child = getattr(saga, "undoes", None)
     if child is not None:
         raise DefinitionError(
-            f"saga {saga.name!r} undoes {child.name!r} as a child, so only parents of such children "
-            f"start it. Start {child.name!r}, or a saga of another name"
+            f"saga {saga.name!r} undoes {child.name!r} as a child, so only parents of such "
+            f"children start it. Start {child.name!r}, or a saga of another name"
         )
 
 
