@@ -127,7 +127,8 @@ class Store(RetryCalls):
             StoreUnavailable: The file or the server does not answer.
             InvalidStore: It is no store, or not one that this program can go on from.
             MissingCodec: Its values are encoded, and no codec was given.
-            MissingStep: A saga that is not over needs a step that this program has no function for.
+            MissingStep: A saga that is not over needs a step that this program has no function for,
+                or may undo a completed child whose compensation this program does not have.
             EngineError: The program `sagas` cannot be started, or refuses a shard.
             RuntimeError: The store is open already.
         """

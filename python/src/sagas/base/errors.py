@@ -115,6 +115,7 @@ class WrongStore(InvalidError):
 class MissingStep(InvalidError):
     """An open saga needs a step, or a compensation, that this program does not have.
 
+    That may be a compensation of a completed child, which a saga above it can still undo.
     Declare the function again, or run the older program with `open(..., accept_new=False)` until
     its sagas have ended. Over PostgreSQL another node may have it: then nothing is raised.
     """

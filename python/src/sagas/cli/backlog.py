@@ -123,14 +123,17 @@ def stats(path: str, words: argparse.Namespace) -> int:
 
 
 def definitions(path: str, words: argparse.Namespace) -> int:
-    """Count the sagas of each version of each definition."""
+    """Count the sagas of each version of each definition.
+
+    UNDOABLE are those that have completed as children, and that an open saga may undo.
+    """
     with Snapshot(path) as store:
         found = store.ask(lists.definitions())
     if words.json:
         show_json([dataclasses.asdict(one) for one in found])
     else:
-        rows = [(one.saga, one.version, one.open, one.total) for one in found]
-        print(table(["SAGA", "VERSION", "OPEN", "TOTAL"], rows))
+        rows = [(one.saga, one.version, one.open, one.undoable, one.total) for one in found]
+        print(table(["SAGA", "VERSION", "OPEN", "UNDOABLE", "TOTAL"], rows))
     return GOOD
 
 

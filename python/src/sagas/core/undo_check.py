@@ -38,10 +38,9 @@ def by_shard(
     found: dict[int, list[CompletedChild]] = {}
     texts = {digest: text for digest, text in definitions}
     for shard, is_open, parent, below, child in rows:
-        if ":" not in below:  # else it undoes a child
-            step = below.partition("/")[0]
-            one = CompletedChild(bool(is_open), texts[parent], step, texts[child])
-            found.setdefault(shard, []).append(one)
+        step = below.partition("/")[0]
+        one = CompletedChild(bool(is_open), texts[parent], step, texts[child])
+        found.setdefault(shard, []).append(one)
     return found
 
 

@@ -87,7 +87,8 @@ class ChildSteps:
         started counts. The child's key is `KEY/:STEP`, by the saga's own key and the step's name.
         The step succeeds with a `ChildResult` once the child has completed. If the child ends
         otherwise, the step fails. An abort of the saga aborts the child. The compensation starts a
-        saga of the child's compensations, with the key `KEY/:STEP:undo`.
+        saga of the child's compensations, with the key `KEY/:STEP:undo`. Its steps, needs and costs
+        are those of the definition that the child ran with.
 
         Args:
             saga: The child's definition, which the store must have, too.

@@ -31,6 +31,7 @@ from sagas.storage.queries import (
     PHASES,
     RESULTS,
     SAGA,
+    UNDOABLE,
     UNDOES_CHILD,
     UNDOING_KEYS,
     labels_of,
@@ -140,12 +141,13 @@ def definitions() -> Question[list[DefinitionCount]]:
         is_long=True,
     )
     heads: dict[str, str] = {digest: head for digest, head in (yield Query(HEADS, is_long=True))}
-    found = dict[tuple[str, int], tuple[int, int]]()
+    undoable = {row[:2]: row[2] for row in (yield Query(UNDOABLE, is_long=True))}
+    found = dict[tuple[str, int], tuple[int, int, int]]()
     for digest, saga, total, open in rows:
         if digest in heads:  # else it was let go meanwhile
             name = saga, version_of(heads[digest])
-            before = found.get(name, (0, 0))
-            found[name] = open + before[0], total + before[1]
+            before, held = found.get(name, (0, 0, 0)), undoable.get((digest, saga), 0)
+            found[name] = open + before[0], total + before[1], held + before[2]
     return [DefinitionCount(*name, *counts) for name, counts in sorted(found.items())]
 
 

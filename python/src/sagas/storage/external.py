@@ -35,8 +35,8 @@ until = CASE WHEN e.outcome IS NULL THEN e.until END, outcome = NULL,
 cancelled = coalesce(excluded.cancelled, e.cancelled)
 WHERE e.outcome IS NULL OR e.outcome IN ('suspended', 'withdrawn') OR e.outcome = 'person'
 """
-"""One that is offered already keeps its place and its lease; what a worker reported stands. The name
-of its task may be that of an older release."""
+"""One that is offered already keeps its place and its lease; what a worker reported stands. The
+task may have a name that an older release gave it."""
 TAKES = """(
   {outcome} = 'succeeded' AND lease >= {lease}
     AND (outcome IS NULL OR outcome IN ('unknown', 'suspended')

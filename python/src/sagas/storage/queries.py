@@ -65,26 +65,38 @@ ORDER BY s.id, r.step, r.action, r.number
 OPEN_HELD = f"SELECT {HELD} FROM sagas s CROSS JOIN suspensions h WHERE {OPEN} AND h.id = s.id"
 """SQLite goes by a CROSS JOIN from left to right: by the open sagas first."""
 PLACES = f"SELECT DISTINCT definition_index FROM sagas s WHERE {OPEN}"
-COMPLETED_CHILDREN = f"""
+BELOW = f"""
 WITH RECURSIVE below(shard, id, parent) AS (
   SELECT l.shard, c.id, c.parent FROM shards l CROSS JOIN sagas s CROSS JOIN children c
   WHERE EXISTS (SELECT 1 FROM children) AND {{which}} AND s.phase IS NULL AND c.parent = s.id
     AND s.id >= l.shard * {SHARD_CAPACITY} AND s.id < (l.shard + 1) * {SHARD_CAPACITY}
   UNION ALL SELECT b.shard, c.id, c.parent FROM below b CROSS JOIN children c WHERE c.parent = b.id)
-SELECT DISTINCT b.shard, p.phase IS NULL, q.definition, substr(s.key, length(p.key) + 3),
-  d.definition
+"""
+"""The sagas below the open ones of shards, with the shards of these, and their parents."""
+COMPLETED = f"""
 FROM below b CROSS JOIN sagas s CROSS JOIN sagas p CROSS JOIN shard_definitions d
-  CROSS JOIN shard_definitions q
 WHERE s.id = b.id AND s.phase = 'ended' AND NOT s.{PLANNED}
   AND p.id = b.parent AND (p.phase IS NULL OR p.phase = 'ended' AND NOT p.{PLANNED})
+  AND substr(s.key, length(s.key) - {len(UNDO) - 1}) <> '{UNDO}'
   AND NOT EXISTS (SELECT 1 FROM sagas u WHERE u.key = s.key || '{UNDO}' AND u.phase IS NOT NULL)
   AND d.shard = s.id / {SHARD_CAPACITY} AND d.place = s.definition_index
-  AND q.shard = p.id / {SHARD_CAPACITY} AND q.place = p.definition_index
 """
-"""The children below open sagas of shards that have completed and are not undone: of each the
-shard, whether its parent is open, that one's definition, what its key has behind the parent's, and
-its definition.
+"""Those of them that have completed and that are not undone: `s`, with its parent `p` and its
+definition `d`.
 """
+COMPLETED_CHILDREN = f"""
+{BELOW} SELECT DISTINCT b.shard, p.phase IS NULL,
+  (SELECT q.definition FROM shard_definitions q
+   WHERE q.shard = p.id / {SHARD_CAPACITY} AND q.place = p.definition_index),
+  substr(s.key, length(p.key) + 3), d.definition {COMPLETED}
+"""
+"""Of each the shard, whether its parent is open, that one's definition, what its key has behind the
+parent's, and its definition.
+"""
+UNDOABLE = f"""
+{BELOW.format(which="l.closed = 0")} SELECT d.definition, s.saga, count(*) {COMPLETED} GROUP BY 1, 2
+"""
+"""How many they are of each definition, in the whole store."""
 COMPLETED_IN_FILE = COMPLETED_CHILDREN.format(which="l.closed = 0")
 ALL_DEFINITIONS = "SELECT definition, text FROM definitions"
 COUNT = "SELECT count(*) FROM sagas s WHERE s.id >= ? AND s.id < ?"
