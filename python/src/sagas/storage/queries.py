@@ -16,7 +16,7 @@ from sagas.core import undo_check
 from sagas.core.batch import Known, LogRow, SagaRow
 from sagas.core.held_values import LARGE
 from sagas.core.undo_check import CompletedChild
-from sagas.definition.arguments import BELOW
+from sagas.definition import arguments
 from sagas.definition.capacity import SHARD_CAPACITY
 from sagas.definition.children import UNDO
 from sagas.definition.labels import TOKEN
@@ -73,12 +73,16 @@ WITH RECURSIVE below(shard, id, parent) AS (
   UNION ALL SELECT b.shard, c.id, c.parent FROM below b CROSS JOIN children c WHERE c.parent = b.id)
 """
 """The sagas below the open ones of shards, with the shards of these, and their parents."""
+BEHIND = f"substr(s.key, length(p.key) + {len(arguments.BELOW) + 1})"
+"""What the key of a child `s` has behind that of its parent `p`."""
 COMPLETED = f"""
 FROM below b CROSS JOIN sagas s CROSS JOIN sagas p CROSS JOIN shard_definitions d
 WHERE s.id = b.id AND s.phase = 'ended' AND NOT s.{PLANNED}
   AND p.id = b.parent AND (p.phase IS NULL OR p.phase = 'ended' AND NOT p.{PLANNED})
-  AND substr(s.key, length(s.key) - {len(UNDO) - 1}) <> '{UNDO}'
-  AND NOT EXISTS (SELECT 1 FROM sagas u WHERE u.key = s.key || '{UNDO}' AND u.phase IS NOT NULL)
+  AND replace({BEHIND}, '{UNDO}', '') = {BEHIND}
+  AND NOT EXISTS (
+    SELECT 1 FROM sagas u
+    WHERE u.key = s.key || '{UNDO}' AND u.phase = 'ended' AND NOT u.{PLANNED})
   AND d.shard = s.id / {SHARD_CAPACITY} AND d.place = s.definition_index
 """
 """Those of them that have completed and that are not undone: `s`, with its parent `p` and its
@@ -88,7 +92,7 @@ COMPLETED_CHILDREN = f"""
 {BELOW} SELECT DISTINCT b.shard, p.phase IS NULL,
   (SELECT q.definition FROM shard_definitions q
    WHERE q.shard = p.id / {SHARD_CAPACITY} AND q.place = p.definition_index),
-  substr(s.key, length(p.key) + 3), d.definition {COMPLETED}
+  {BEHIND}, d.definition {COMPLETED}
 """
 """Of each the shard, whether its parent is open, that one's definition, what its key has behind the
 parent's, and its definition.
@@ -126,7 +130,7 @@ step
 had failed or they were aborted; `undo_failed`: those of these of which a compensation failed for
 good. Once a person has resolved such a saga it is `resolved`, as one that was stuck.
 """
-UNDOES_CHILD, UNDOING_KEYS = "s.key LIKE ?", f"%{BELOW}%{UNDO}%"
+UNDOES_CHILD, UNDOING_KEYS = "s.key LIKE ?", f"%{arguments.BELOW}%{UNDO}%"
 """A saga `s` undoes a child, as `definition.children.undoes_child` says it of a key; with the word
 for it."""
 DAMAGED = f"""FROM shards l CROSS JOIN sagas s
