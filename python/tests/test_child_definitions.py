@@ -4,22 +4,22 @@ from __future__ import annotations
 
 import asyncio
 import contextlib
-import logging
 import pathlib
-from collections.abc import Callable
 from typing import Any
 
 import pytest
 from cases import QUICK, Task, run, until
-from serving import served
 from test_command import Shell
 
 import sagas
 import sagas.testing
+from sagas.api import worker_task
 from sagas.cli import backlog
 from sagas.definition import definition_text, listed_steps, undo_sagas, undo_text
+from sagas.definition.context import Context
 from sagas.definition.shelf import Shelf
 from sagas.definition.start_options import StartOptions
+from sagas.server import json_views
 
 
 class World:
@@ -294,6 +294,9 @@ def test_definitions_that_undo_children() -> None:
     older = "".join(line for line in saga.toml().splitlines(keepends=True) if not line.startswith(("# undoes", "# sees")))
     kind = Shelf(world.parent(child)).kind(older)
     assert kind.undoes == "child" and kind.lacks() is None and kind.saga and kind.saga.undo_text == older
+    other = sagas.Saga("child-undo", version=3)
+    other.step(lambda task: None, name="x")
+    assert Shelf([other]).kind(saga.toml()).lacks() == "this program did not open the store with that saga"
     less = Shelf(world.parent(world.child("x", version=3))).kind(saga.toml())
     assert less.lacks() == "step 'y' has no compensation in this program"
     assert [(step.name, step.sees, step.tries) for step in undo_text.read(older)] == [("y", (), 1), ("x", (), 1)]
@@ -337,11 +340,10 @@ class Backwards:
         return data[::-1]
 
 
-@pytest.mark.parametrize("codec", [None, Backwards()])
-def test_workers_undo_a_child(place: str, codec: Any, capsys: pytest.CaptureFixture[str], monkeypatch: pytest.MonkeyPatch) -> None:
+def test_workers_undo_a_child(place: str, capsys: pytest.CaptureFixture[str], monkeypatch: pytest.MonkeyPatch) -> None:
     """The worker of the child's step is handed its compensation, as of the child, also by another node; until one claims it, that is listed."""
     monkeypatch.setattr(backlog, "UNCLAIMED", -1.0)
-    shell = Shell(place, capsys)
+    shell, codec = Shell(place, capsys), Backwards()
 
     async def main() -> None:
         async with contextlib.AsyncExitStack() as stack:
@@ -363,6 +365,9 @@ def test_workers_undo_a_child(place: str, codec: Any, capsys: pytest.CaptureFixt
             assert (found.result, found.results, found.input) == ("R-7", {"plan": {"rooms": 2}}, None)
             assert found.original_idempotency_key == task.task.idempotency_key
             assert found.idempotency_key == task.task.idempotency_key.replace("-run", "-undo")
+            told = worker_task.task_of(json_views.task(undo, one.now()), Context())  # as a `Worker` gets it
+            assert worker_task.word_of(told) == "leaf/room/undo" and (told.result, told.key) == (found.result, found.key)
+            assert told.idempotency_key == found.idempotency_key and told.attempt_id != undo.attempt_id
             await other.workers.report(undo.attempt_id, undo.lease, result=None)
             assert (await started.wait(60)).states == UNDONE
             assert (await one.wait("t/:stay:undo", 60)).ok
@@ -389,43 +394,6 @@ def test_a_task_that_an_older_release_offered(tmp_path: pathlib.Path) -> None:
             assert (await store.wait("t", 60)).states == UNDONE
 
     run(main())
-
-
-ONE = 'format = 2\nname = "one"\n[[step]]\nname = "a"\n'
-APP = """
-import sagas
-leaf = sagas.Saga("leaf")
-leaf.step(external=True, name="room", keep=9).compensation(external=True)
-top = sagas.Saga("top")
-kid = top.child(leaf, name="kid", input=lambda task: {"nights": 2})
-@top.step(needs=[kid])
-def end(task):
-    raise sagas.Fail("no")
-KNOWN = [top, leaf]
-"""
-
-
-def test_workers_over_http(tmp_path: pathlib.Path) -> None:
-    """A `Worker` has the function of the step and of its compensation, and nothing of the saga that undoes the child."""
-    (tmp_path / "leaf_app.py").write_text(APP)
-    found = list[tuple[Any, ...]]()
-    with served(tmp_path, {"one.toml": ONE}, "--app", "leaf_app:KNOWN") as service, sagas.ServiceClient(service.url) as client:
-        worker = sagas.Worker(service.url)
-
-        @worker.step("leaf", "room")
-        def room(task: Task) -> str:
-            found.append((task.idempotency_key, task.input))
-            return "R-7"
-
-        @worker.compensation("leaf", "room")
-        def undo(task: Task) -> None:
-            found.append((task.original_idempotency_key, task.input, task.result, task.key, task.saga))
-            worker.stop()
-
-        started = client.start("top", "t", None)
-        worker.run()
-        assert started.wait(timeout=60).states == {"kid": "undone", "end": "failed"}
-    assert found[1] == (*found[0], "R-7", "t/:kid", "leaf")
 
 
 # -- many children, and children that do not complete

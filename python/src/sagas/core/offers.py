@@ -34,7 +34,8 @@ def offer(attempt: Attempt, shard: int, now: float) -> Offer:
     why = instance.why_draining if instance.draining and not attempt.undo else None
     if attempt.is_remote:
         return (attempt.token(), shard, *attempt.row, "", None, int(now * 1000), now, why)
-    bound = attempt.declared.concurrency if attempt.kind == Action.RUN else None
+    is_action = attempt.kind == Action.RUN and instance.kind.undoes is None
+    bound = attempt.declared.concurrency if is_action else None
     return (attempt.token(), shard, *attempt.row, task_of(attempt), bound, None, now, why)
 
 

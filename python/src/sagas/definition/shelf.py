@@ -139,12 +139,14 @@ class Shelf:
         """The saga with the functions of a definition. One that undoes children has those of the
         children's own definition, whatever the program declares today.
         """
-        version = version_of(text)
+        version, child_name = version_of(text), undo_text.child_of(text)
         saga = self.sagas.get((name_of(text), version))
         if saga is not None and saga.undo_text == text:
             return saga
-        child = saga.undoes if saga else self.sagas.get((undo_text.child_of(text) or "", version))
-        return saga if child is None else undo_sagas.of_text(child, text)
+        if child_name is None and (saga is None or saga.undoes is None):
+            return saga
+        child = self.sagas.get((child_name, version)) if child_name else saga and saga.undoes
+        return undo_sagas.of_text(child, text) if child else None
 
     def undo_kind(self, child: Kind) -> Kind | None:
         """Return the definition of the saga that undoes a completed child.

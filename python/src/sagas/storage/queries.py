@@ -73,26 +73,23 @@ WITH RECURSIVE below(shard, id, parent) AS (
   UNION ALL SELECT b.shard, c.id, c.parent FROM below b CROSS JOIN children c WHERE c.parent = b.id)
 """
 """The sagas below the open ones of shards, with the shards of these, and their parents."""
-BEHIND = f"substr(s.key, length(p.key) + {len(arguments.BELOW) + 1})"
-"""What the key of a child `s` has behind that of its parent `p`."""
 COMPLETED = f"""
 FROM below b CROSS JOIN sagas s CROSS JOIN sagas p CROSS JOIN shard_definitions d
 WHERE s.id = b.id AND s.phase = 'ended' AND NOT s.{PLANNED}
   AND p.id = b.parent AND (p.phase IS NULL OR p.phase = 'ended' AND NOT p.{PLANNED})
-  AND replace({BEHIND}, '{UNDO}', '') = {BEHIND}
-  AND NOT EXISTS (
-    SELECT 1 FROM sagas u
+  AND substr(s.key, length(p.key)) NOT LIKE '%%{UNDO}%%'
+  AND NOT EXISTS (SELECT 1 FROM sagas u
     WHERE u.key = s.key || '{UNDO}' AND u.phase = 'ended' AND NOT u.{PLANNED})
   AND d.shard = s.id / {SHARD_CAPACITY} AND d.place = s.definition_index
 """
-"""Those of them that have completed and that are not undone: `s`, with its parent `p` and its
-definition `d`.
+"""Those of them that have completed, undo no child and are not undone: `s`, with its parent `p` and
+its definition `d`. For psycopg, each % is there twice, which means the same.
 """
 COMPLETED_CHILDREN = f"""
 {BELOW} SELECT DISTINCT b.shard, p.phase IS NULL,
   (SELECT q.definition FROM shard_definitions q
    WHERE q.shard = p.id / {SHARD_CAPACITY} AND q.place = p.definition_index),
-  {BEHIND}, d.definition {COMPLETED}
+  substr(s.key, length(p.key) + 3), d.definition {COMPLETED}
 """
 """Of each the shard, whether its parent is open, that one's definition, what its key has behind the
 parent's, and its definition.
