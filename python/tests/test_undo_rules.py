@@ -13,6 +13,7 @@ from urllib.parse import quote
 import pytest
 from cases import Task, run, until
 from serving import error_of, served, start, token
+from test_children import Backwards
 from test_command import Shell
 from test_service_webhooks import Receiver, table, written
 from test_service_workers import ONE
@@ -216,6 +217,42 @@ def test_what_is_undone_of_a_grandchild_stays_undone(place: str) -> None:
     run(main())
     low_key = "t/:kid/:below"
     assert calls == [f"y {low_key}", f"x {low_key}", f"x {low_key}"]
+
+
+def test_what_others_undid_is_not_asked_again(place: str) -> None:
+    """A compensation that is external is reported once, and not again in the next saga; with a codec, too."""
+    broken, calls = [True], list[str]()
+    child, top = sagas.Saga("child"), sagas.Saga("top")
+
+    def undo(task: Task) -> None:
+        calls.append(task.step)
+        if broken:
+            raise sagas.Fail("cannot")
+
+    a = child.step(lambda task: "x" * 5000, name="a", keep=9)
+    a.compensation(on_exhausted="fail")(undo)
+    child.step(lambda task: None, name="b", needs=[a], keep=9).compensation(external=True)
+    kid = top.child(child, name="kid", input=lambda task: task.input)
+
+    def last(task: Task) -> None:
+        raise sagas.Fail("no")
+
+    top.step(last, name="fin", needs=[kid])
+
+    async def main() -> None:
+        async with sagas.open(place, [top, child], codec=Backwards()) as store:
+            found = await store.start(top, "t", "y" * 5000)
+            await until(lambda: store.get("t/:kid:undo"))
+            await until(lambda: store.active_attempts("t/:kid:undo"))
+            await store.complete("t/:kid:undo", "b")
+            await until(lambda: [one for one in store.active_attempts("t") if one.waits == "exhausted"])
+            broken.clear()
+            await store.retry("t", "kid", undo=True)
+            assert (await found.wait(60)).states["kid"] == "undone"
+            assert (await store.wait("t/:kid:undo/2", 60)).states == {"b": "committed", "a": "committed"}
+
+    run(main())
+    assert calls == ["a", "a"]
 
 
 async def is_list(asked: Callable[[], Any], wanted: list[str]) -> bool:
