@@ -31,16 +31,17 @@ def by_shard(
     """Return completed children by the shards of the open sagas above them.
 
     Args:
-        rows: The shard, whether the parent is open, the digest of its definition, what the child's
-            key has behind the parent's, and the digest of the child's definition.
+        rows: The shard, whether the parent is open, the digest of its definition, what
+            follows the parent's key in the child's, and the digest of the child's definition.
         definitions: Digests and texts of definitions.
     """
     found: dict[int, list[CompletedChild]] = {}
     texts = {digest: text for digest, text in definitions}
     for shard, is_open, parent, below, child in rows:
-        step = below.partition("/")[0]
-        one = CompletedChild(bool(is_open), texts[parent], step, texts[child])
-        found.setdefault(shard, []).append(one)
+        if parent in texts and child in texts:  # else its shard is damaged
+            step = below.partition("/")[0]
+            one = CompletedChild(bool(is_open), texts[parent], step, texts[child])
+            found.setdefault(shard, []).append(one)
     return found
 
 

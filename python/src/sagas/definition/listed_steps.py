@@ -15,7 +15,7 @@ if TYPE_CHECKING:
 MOST_KEPT = 16
 """Texts whose steps stay in memory. A text has up to 1 MiB, and up to 1,024 steps."""
 COMPENSATED = "# compensated"
-"""Behind the name of a step that has a compensation: its cost alone does not say so, since what
+"""After the name of a step that has a compensation: its cost alone does not say so, since what
 undoes nothing may cost nothing, too."""
 MARKED = re.compile(rf'^name = "(.*)"\n(?:# of .*\n)?{COMPENSATED}$', re.M)
 Cost = Union[int, str]

@@ -26,7 +26,7 @@ from sagas.definition.undo_text import Compensation
 def undo_saga(child: Saga) -> Saga | None:
     """Return the saga that undoes a completed one of today's definition.
 
-    Its steps are the compensations of those steps that can be undone, each behind those of the
+    Its steps are the compensations of those steps that can be undone, each after those of the
     steps that need its own. A compensation that fails leaves an effect in place, at the step's cost
     of keeping it.
 
@@ -131,10 +131,10 @@ def _made(child: Saga, steps: Sequence[Compensation], text: str) -> Saga:
 
 
 def _declare(
-    saga: Saga, step: Step[Any], needs: list[str], told: Compensation, sees: frozenset[str]
+    saga: Saga, step: Step[Any], needs: list[str], one: Compensation, sees: frozenset[str]
 ) -> None:
     """Add the step that undoes a step of the child."""
-    cost, skip = _cost(told.cost), _cost(told.skip)
+    cost, skip = _cost(one.cost), _cost(one.skip)
     if step.child is not None and step.undo.implied:
         saga.child(
             step.child, input=_key_of(step.name), name=step.name, needs=needs, undo=NEVER,
@@ -193,18 +193,18 @@ def _undoing(
         if result is not None:
             known[one.name] = result
 
-    def told(task: Any) -> Task[Any]:
+    def own(task: Any) -> Task[Any]:
         return compensation_task.of(task, step.saga.name, sees, hint, known)
 
     if inspect.iscoroutinefunction(function):
 
         async def undo_later(task: Any) -> Any:
-            return await function(told(task))
+            return await function(own(task))
 
         return undo_later
 
     def undo(task: Any) -> Any:
-        return function(told(task))
+        return function(own(task))
 
     return undo
 

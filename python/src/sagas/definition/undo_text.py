@@ -19,7 +19,7 @@ ENDING = "-undo"
 UNDOES = re.compile(r"^# undoes (\S+)$", re.M)
 """In the head: the name of the child."""
 SEES = re.compile(r'^name = "(.*)"\n# sees(.*)$', re.M)
-"""Behind the name of a step: the steps of the child whose results its compensation may read."""
+"""After the name of a step: the steps of the child whose results its compensation may read."""
 
 
 @dataclasses.dataclass(frozen=True, slots=True)

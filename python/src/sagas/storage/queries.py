@@ -91,8 +91,8 @@ COMPLETED_CHILDREN = f"""
    WHERE q.shard = p.id / {SHARD_CAPACITY} AND q.place = p.definition_index),
   substr(s.key, length(p.key) + 3), d.definition {COMPLETED}
 """
-"""Of each the shard, whether its parent is open, that one's definition, what its key has behind the
-parent's, and its definition.
+"""Of each the shard, whether its parent is open, that one's definition, what follows the parent's
+key in its own, and its definition.
 """
 UNDOABLE = f"""
 {BELOW.format(which="l.closed = 0")} SELECT d.definition, s.saga, count(*) {COMPLETED} GROUP BY 1, 2
