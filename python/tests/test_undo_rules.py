@@ -573,3 +573,6 @@ def test_in_a_simulation() -> None:
         assert found.states["kid"] == state
     found = sagas.testing.run(top, fail={kid: 1, last: 1}, answers={kid: result(None)})
     assert found.states["kid"] == "undone" and not found.children
+    world = Hand()
+    found = sagas.testing.run(world.top, "fails", answers={world.kid: result("test/:kid"), "sign": sagas.Fail("no")})
+    assert found.states["kid"] == "undone" and world.undone == ["gone test/:kid", "first test/:kid"]

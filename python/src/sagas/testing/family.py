@@ -97,7 +97,9 @@ class Family:
             return children.child_input(attempt)
         simulation, kind, token = self._members[key]
         saga_instance = simulation.saga
-        return children.undo_input(key, token, kind, saga_instance.text, saga_instance.results)
+        undone = children.left_by(self.trials[key].states, ())
+        text, results = saga_instance.text, saga_instance.results
+        return children.undo_input(key, token, kind, text, results, undone)
 
 
 def _named(scenario: Scenario) -> set[str]:
