@@ -13,8 +13,8 @@ CHILDREN = child_results.CHILDREN.format(PHASE)
 
 
 def is_of_child(attempt: Attempt, outcome: Outcome) -> bool:
-    """Whether it is said that the child of an attempt is done. One that undoes a child has a result
-    that nobody reads.
+    """Whether an operator reports that the child of an attempt is done. The result of an attempt
+    that undoes a child is never read.
     """
     starts_child = attempt.declared.child is not None and not attempt.undo
     is_done = outcome.kind is SUCCEEDED
@@ -27,5 +27,5 @@ async def check(read: Read, attempt: Attempt, outcome: Outcome) -> None:
     steps = None if child is None or child.is_shaped else [step.name for step in child.steps]
     rows = await read(CHILDREN, attempt.instance.id)
     result = serialization.read(outcome.value)
-    found = [(str(key), str(phase)) for key, phase in rows]
-    child_results.check(attempt.key, attempt.name, result, found, steps)
+    phases = [(str(key), str(phase)) for key, phase in rows]
+    child_results.check(attempt.key, attempt.name, result, phases, steps)

@@ -19,7 +19,7 @@ def check(
     key: str, step: str, result: Any, rows: Collection[tuple[str, str]],
     steps: Collection[str] | None,
 ) -> None:  # fmt: skip
-    """Check a result that somebody reports of a step that starts a child.
+    """Check a result that is reported by hand for a step that starts a child.
 
     Args:
         key: The saga's key.

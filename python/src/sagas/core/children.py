@@ -63,7 +63,7 @@ def undo_input(
         kind: The child's definition.
         text: The child's input, as it is stored.
         results: The results of the child's steps, as they are stored, by the steps' numbers.
-        undone: The steps of which nothing is left to undo.
+        undone: The steps that have nothing left to undo.
         earlier: The keys of the sagas that have undone a part of the child.
     """
     decode = kind.payloads.decode
@@ -80,16 +80,16 @@ def undo_input(
 
 
 def left_by(child: Mapping[str, str], earlier: Iterable[Mapping[str, str]]) -> set[str]:
-    """Return the steps of a child of which nothing is left to undo.
+    """Return the steps of a child that have nothing left to undo.
 
     Args:
         child: The states of its steps, by name.
         earlier: Those of the steps of the sagas that were to undo it before.
     """
-    found = {name for name, state in child.items() if state != StepState.COMMITTED}
+    undone = {name for name, state in child.items() if state != StepState.COMMITTED}
     for states in earlier:
-        found |= {name for name, state in states.items() if state == StepState.COMMITTED}
-    return found
+        undone |= {name for name, state in states.items() if state == StepState.COMMITTED}
+    return undone
 
 
 def outcome(end: Ended, kind: Kind, results: Mapping[int, str]) -> Outcome | None:

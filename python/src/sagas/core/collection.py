@@ -39,7 +39,7 @@ def has_nothing_to_undo(attempt: Attempt) -> bool:
         return False
     try:
         own = attempt.own
-    except CannotDecode:  # the call is told as such
+    except CannotDecode:  # the attempt is suspended for that when its values are read
         return False
     if own is None:
         return False
@@ -69,7 +69,7 @@ def _undone_before(attempt: Attempt) -> Sequence[str]:
     instance = attempt.instance
     try:
         given = serialization.read(instance.kind.payloads.decode(instance.text))
-    except CannotDecode:  # the call is told as such
+    except CannotDecode:  # the attempt is suspended for that when its values are read
         return ()
-    found: Sequence[str] = given.get("undone", ()) if isinstance(given, dict) else ()
-    return found
+    undone: Sequence[str] = given.get("undone", ()) if isinstance(given, dict) else ()
+    return undone

@@ -207,7 +207,7 @@ class Shelf:
             kind.hooks = self._hooks_of(kind)
 
     def _hooks_of(self, kind: Kind) -> Hooks:
-        """The webhooks that are told of sagas of a definition; of one that undoes children, those
+        """The webhooks that get posts of sagas of a definition; of one that undoes children, those
         of the children as well.
         """
         found, child = self._hooks(kind.name), kind.saga and kind.saga.undoes

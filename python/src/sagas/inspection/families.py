@@ -22,7 +22,7 @@ MOST = 1024
 
 
 def seen_by(view: SagaView, scope: Scope) -> SagaView:
-    """A saga for somebody who may see some sagas alone."""
+    """Return a saga with those of its relatives that are in a scope."""
     children = [one for one in view.children if scope.has_saga(one.saga, one.key)]
     parent = view.parent
     if parent and not scope.has_saga(parent.saga, parent.key):

@@ -244,8 +244,8 @@ class Children:
 
     async def _child_to_undo(self, attempt: Attempt) -> str | None:
         """The key of the child that an attempt undoes; None if it starts one. Raises
-        `InvalidResult` where the step's result has none, as somebody may have reported it before
-        that was checked.
+        `InvalidResult` if the step's result has none, as a result by hand in a store of an earlier
+        release may.
         """
         if not attempt.undo:
             undoes = attempt.instance.kind.undoes is not None
