@@ -120,6 +120,9 @@ const (
 var (
 	// ErrNoResult means that a step has no result that is in effect.
 	ErrNoResult = errors.New("sagas: no result")
+	// ErrCannotDecode means that the codec or the blob store of WithCodec and WithBlobs cannot read a
+	// value.
+	ErrCannotDecode = errors.New("sagas: cannot decode")
 	// ErrNoItem means that a task is of a step that is not there for items.
 	ErrNoItem = errors.New("sagas: no item")
 	// ErrInvalidArgument means that an argument of a call of this package is not valid. Nothing was

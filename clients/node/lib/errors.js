@@ -16,6 +16,9 @@ export class Unreachable extends SagasError {}
 /** The saga was not over in time. It goes on. */
 export class WaitTimeout extends SagasError {}
 
+/** The codec or the blob store that you passed cannot read a value of the service. */
+export class CannotDecode extends SagasError {}
+
 /** Throw it in a function that had no effect, if retries are useless. */
 export class Fail extends SagasError {}
 

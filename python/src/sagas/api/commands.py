@@ -150,6 +150,8 @@ class Commands:
             while attempt is not None and attempt.pending:
                 await self._access.inside.executor.changes.wait(attempt)
                 self._access.inside  # raises, where it was closed meanwhile
+            if self._access.inside.sagas.by_key.get(key) is not live:
+                continue  # its shard was lost meanwhile
             if attempt is not None and live.busy.get(attempt.word) is not attempt:
                 continue
             if attempt is None or not exhaustion.may_retry(attempt):

@@ -103,7 +103,9 @@ def open(
           failed    send: sagas.Fail: sold out
     """
     words = locals()
-    return Store(**words)
+    store = Store(**words)
+    store.opened_with = words
+    return store
 
 
 def _without_async(make: Callable[P, Store]) -> Callable[P, SyncStore]:

@@ -106,13 +106,18 @@ class Starter:
         if live and live.text == ABSENT and (row := await inside.store.find(key)):
             there = row.saga, row.input
         if there:
-            error = relocation.conflict(key, kind or saga, text, *there, payloads)
+            kind_or_saga, store = kind or saga, inside.store
+            error = await relocation.conflict_there(
+                store, key, kind_or_saga, text, *there, payloads
+            )
             if error and live and not live.committed and not inside.store.shared:
                 # that start may have no right to the key either
                 row = await inside.store.find(key)
                 if row:
                     there = row.saga, row.input
-                    error = relocation.conflict(key, kind or saga, text, *there, payloads)
+                    error = await relocation.conflict_there(
+                        store, key, kind_or_saga, text, *there, payloads
+                    )
                     live = None
             if error:
                 raise error
@@ -156,7 +161,10 @@ class Starter:
         row = await self._lookup.find(live.key)
         if row is None:
             return False
-        error = relocation.conflict(live.key, live.kind, live.text, row.saga, row.input)
+        store = self._access.inside.store
+        error = await relocation.conflict_there(
+            store, live.key, live.kind, live.text, row.saga, row.input
+        )
         if error:
             raise error
         return True

@@ -132,7 +132,10 @@ class Attempt(AcknowledgedAttempt):
         self.outcome, self.at = outcome, at
 
     def forget(self) -> None:
-        """Finish one that the store does not have: nothing comes of it any more."""
+        """Finish one that the store does not have: nothing comes of it any more, and nobody waits
+        for its row.
+        """
+        self.pending = None
         if self.state is not FINISHED:
             self._to(FINISHED)
 

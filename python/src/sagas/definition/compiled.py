@@ -278,11 +278,11 @@ class Kind:
                 )
         return None
 
-    def unread(self, text: str, results: dict[int, str]) -> str | None:
-        """What this program cannot read of a saga that is not over: its input, or the result of a
-        step that stands. None where it can read all of it."""
+    def unread(self, text: str | None, results: dict[int, str]) -> str | None:
+        """What this program cannot read of a saga that is not over: its input, if that is given, or
+        the result of a step that stands. None where it can read all of it."""
         try:
-            text = self.payloads.decode(text)
+            text = None if text is None else self.payloads.decode(text)
             results = {step: self.payloads.decode(told) for step, told in results.items()}
         except CannotDecode as error:
             return str(error)
@@ -290,7 +290,7 @@ class Kind:
             zip(self.inputs, (one.hint for one in self.actions["undo"]))
         ):
             for hint in (run, undo):
-                if hint and (fault := _fault(text, hint)):
+                if hint and text is not None and (fault := _fault(text, hint)):
                     return f"step {self.names[number]!r}: input{fault}"
         for number, text in results.items():
             hint = self.decoders.get(self.names[number])

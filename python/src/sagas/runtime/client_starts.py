@@ -21,7 +21,7 @@ from sagas.definition.shelf import Shelf
 from sagas.definition.start_options import StartOptions
 from sagas.runtime.commit_queue import CommitQueue
 from sagas.runtime.instances import Instances
-from sagas.runtime.relocation import conflict
+from sagas.runtime.relocation import conflict_there
 from sagas.storage.interface import Database
 
 MANY = 64
@@ -152,7 +152,9 @@ class Starts:
         declared, payloads = self._definitions.sagas[saga, version], self._definitions.payloads
         if there and there.id >= 0:
             batch = Batch(-1, self._clock())
-            error = conflict(key, declared, text, there.saga, there.input, payloads)
+            error = await conflict_there(
+                self._store, key, declared, text, there.saga, there.input, payloads
+            )
             batch.more.begun.append((id, there.id if error is None else None))
             await self._commits.kept(batch)
             return

@@ -9,7 +9,7 @@ from collections.abc import Callable, Coroutine, Sequence
 from concurrent.futures import ThreadPoolExecutor
 from typing import Any
 
-from sagas.base.errors import Closed, SagasError
+from sagas.base.errors import Closed, InvalidStore, SagasError
 from sagas.base.events import Teller
 from sagas.base.fork_guard import private
 from sagas.base.logger import logger
@@ -77,6 +77,8 @@ class Coordinator:
         self.loop = asyncio.get_running_loop()
         self.forks = private.forks
         self.closed: SagasError | None = None
+        self.refusal: asyncio.Future[InvalidStore] = self.loop.create_future()
+        """Why it cannot execute anything, and will not be able to."""
         self.listeners: list[Callable[[], None]] = []
         self._is_feeding = False
         self._threads = ThreadPoolExecutor(threads, "sagas-step")
@@ -186,6 +188,11 @@ class Coordinator:
     def offered(self) -> None:
         """Another node has something for workers."""
         self.external.offered_elsewhere()
+
+    def refused(self, error: InvalidStore) -> None:
+        """The server has no tables of the store, and this node may not make them."""
+        if not self.refusal.done():
+            self.refusal.set_result(error)
 
     def logs(self) -> list[int]:
         """Return the shards that this program drives, or is about to close."""

@@ -21,6 +21,7 @@ from sagas.core.outcomes import Outcome
 from sagas.core.shard import ShardDriver
 from sagas.core.states import OutcomeKind, Suspension
 from sagas.core.suspensions import SuspensionRow
+from sagas.definition.blobs import BlobUnavailable
 from sagas.definition.tracing import Tracer
 from sagas.runtime import remote_steps
 from sagas.runtime.calls import Calls
@@ -61,7 +62,7 @@ class Executor:
         self.slots = Slots(concurrency, self._start, host.feed)
         self.fleet = Fleet(host, self.slots.enter)
         remote = functools.partial(remote_steps.call, external)
-        self.values = ValueReader(host)
+        self.values = ValueReader(host, self._unread)
         self.calls = Calls(
             self, host, self.slots, self.fleet, threads, remote, tracer, self.values.fill
         )
@@ -159,6 +160,11 @@ class Executor:
         """Its values are held by now."""
         if not self.closing:
             self._do(attempt, self.machine.has_values(attempt, self._clock()))
+
+    def _unread(self, attempt: Attempt, error: BlobUnavailable) -> None:
+        """Its values cannot be read now."""
+        if not self.closing:
+            self._do(attempt, self.machine.unread(attempt, error, self._clock()))
 
     def _note(self, attempt: Attempt, row: SuspensionRow | None = None) -> None:
         """For its history. Of what others do the table of external attempts tells."""

@@ -17,6 +17,7 @@ from sagas.core.lease_signature import Signer
 from sagas.core.model import Attempt
 from sagas.core.offers import task_name, task_of
 from sagas.core.suspensions import Lease
+from sagas.definition.blobs import BlobUnavailable
 from sagas.definition.compiled import Kind
 from sagas.definition.control import Progress
 from sagas.definition import compensation_task, shape_validation, undo_text
@@ -253,8 +254,8 @@ class ExternalQueue(ExternalReports):
                 found.append(task := await self._leased(claim, worker, holder))
                 most = max(most, task.size if task else 0)
                 size += task.size if task else 0
-            except CannotDecode as error:
-                await self.park(claim.attempt, claim.lease, str(error))
+            except (CannotDecode, BlobUnavailable) as error:
+                await self.park(claim.attempt, claim.lease, error)
             except BaseException as error:
                 is_passing = isinstance(error, (StoreUnavailable, asyncio.CancelledError))
                 self._unwanted([one for one in claims if is_passing or one is not claim])
@@ -279,7 +280,7 @@ class ExternalQueue(ExternalReports):
         """As `Store.workers.set_aside`."""
         self._raise_if_closed()
         number = self._signer.number(task.attempt_id, task.lease, holder)
-        await self.park(task.attempt_id, number, why)
+        await self.park(task.attempt_id, number, CannotDecode(why))
 
     async def _give_back(self, attempt: str, lease: int) -> None:
         with contextlib.suppress(StoreUnavailable):  # then it runs out

@@ -65,7 +65,7 @@ ORDER BY s.id, r.step, r.action, r.number
 OPEN_HELD = f"SELECT {HELD} FROM sagas s CROSS JOIN suspensions h WHERE {OPEN} AND h.id = s.id"
 """SQLite goes by a CROSS JOIN from left to right: by the open sagas first."""
 PLACES = f"SELECT DISTINCT definition_index FROM sagas s WHERE {OPEN}"
-BELOW = f"""
+DESCENDANTS = f"""
 WITH RECURSIVE below(shard, id, parent) AS (
   SELECT l.shard, c.id, c.parent FROM shards l CROSS JOIN sagas s CROSS JOIN children c
   WHERE EXISTS (SELECT 1 FROM children) AND {{which}} AND s.phase IS NULL AND c.parent = s.id
@@ -86,7 +86,7 @@ WHERE s.id = b.id AND s.phase = 'ended' AND NOT s.{PLANNED}
 its definition `d`. For psycopg, each % is there twice, which means the same.
 """
 COMPLETED_CHILDREN = f"""
-{BELOW} SELECT DISTINCT b.shard, p.phase IS NULL,
+{DESCENDANTS} SELECT DISTINCT b.shard, p.phase IS NULL,
   (SELECT q.definition FROM shard_definitions q
    WHERE q.shard = p.id / {SHARD_CAPACITY} AND q.place = p.definition_index),
   substr(s.key, length(p.key) + 3), d.definition {COMPLETED}
@@ -95,7 +95,8 @@ COMPLETED_CHILDREN = f"""
 key in its own, and its definition.
 """
 UNDOABLE = f"""
-{BELOW.format(which="l.closed = 0")} SELECT d.definition, s.saga, count(*) {COMPLETED} GROUP BY 1, 2
+{DESCENDANTS.format(which="l.closed = 0")}
+SELECT d.definition, s.saga, count(*) {COMPLETED} GROUP BY 1, 2
 """
 """How many they are of each definition, in the whole store."""
 COMPLETED_IN_FILE = COMPLETED_CHILDREN.format(which="l.closed = 0")
@@ -310,6 +311,10 @@ class Questions:
     async def read(self, query: str, *words: Any) -> list[tuple[Any, ...]]:
         """Rows of a query."""
         raise NotImplementedError
+
+    async def read_stored(self, query: str, *words: Any) -> list[tuple[Any, ...]]:
+        """As `read`, with references in place of values that are outside of the database."""
+        return await self.read(query, *words)
 
     async def read_long(self, query: str, *words: Any) -> list[tuple[Any, ...]]:
         """As `read`, of what may be many megabytes."""
