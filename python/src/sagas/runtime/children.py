@@ -225,13 +225,9 @@ class Children:
 
         Raises:
             MissingStep: This program lacks a compensation.
-            InvalidResult: The step has no child that could be undone.
         """
-        if attempt.undo:
-            undone = await self._child_to_undo(attempt)
-        elif attempt.instance.kind.undoes is not None:  # a child of the one that is undone
-            undone = str(children.child_input(attempt)())
-        else:
+        undone = await self._child_to_undo(attempt)
+        if undone is None:
             call = children.child_input(attempt)
             given = await self._host.declared.call(attempt.instance.kind.name, call)
             return attempt.declared.child, given
@@ -248,10 +244,14 @@ class Children:
             undone, token, ended.kind, ended.text, ended.results, done, earlier
         )
 
-    async def _child_to_undo(self, attempt: Attempt) -> str:
-        """The key of the child that an attempt undoes. Raises `InvalidResult` if the step's result
-        has none, as a result by hand in a store of an earlier release may.
+    async def _child_to_undo(self, attempt: Attempt) -> str | None:
+        """The key of the child that an attempt undoes; None if it starts one. Raises
+        `InvalidResult` if the step's result has none, as a result by hand in a store of an earlier
+        release may.
         """
+        if not attempt.undo:
+            undoes = attempt.instance.kind.undoes is not None
+            return str(children.child_input(attempt)()) if undoes else None
         result = attempt.task().result
         key = result.get("key") if isinstance(result, dict) else None
         if isinstance(key, str):
