@@ -23,6 +23,7 @@ from html.parser import HTMLParser
 from pathlib import Path
 from urllib.parse import unquote, urlsplit
 
+import known_names
 from selenium import webdriver
 from selenium.webdriver.chrome.options import Options
 from selenium.webdriver.chrome.service import Service
@@ -271,6 +272,7 @@ def main() -> int:
             *wrong_in_code(),
             *wrong_in_files(),
             *wrong_in_mutants(),
+            *known_names.unknown(TOP),
             *look(site),
         ]
     print("\n".join(sorted(set(wrong))), end="\n" if wrong else "")

@@ -38,15 +38,16 @@ def states(count: int, word: str, last: str) -> str:
     return json.dumps({"states": [word] * (count - 1) + [last]}, separators=(",", ":"))
 
 
-def named(name: str, needs: int, steps: int = 1024) -> str:
-    """A definition of steps with so many needs, of which the first step has that name. A step needs nine steps at most, the nearest before it."""
+def named(name: str, needs: int, steps: int = 1024, lines: str = "") -> str:
+    """A definition of steps with so many needs, of which the first step has that name. A step needs nine steps at most, the nearest before it.
+    Each has these lines, too."""
     names = [name] + [f"s{step}" for step in range(1, steps)]
     text, left = 'format = 1\nname = "named"\n', needs
     for step in range(steps):
         count = min(9, step, left)
         left -= count
         needed = ",".join(f'"{names[step - before]}"' for before in range(1, count + 1))
-        text += f'\n[[step]]\nname = "{names[step]}"\nneeds = [{needed}]\n'
+        text += f'\n[[step]]\nname = "{names[step]}"\nneeds = [{needed}]\n{lines}'
     return text
 
 

@@ -27,7 +27,8 @@ const mostPage = 1000
 // requests may be repeated: the key makes a start one saga, and the same report is one report. Then
 // the error is an *UnreachableError. The context ends a call earlier.
 type Client struct {
-	conn *connection
+	conn   *connection
+	values values
 }
 
 // NewClient makes a client of a service. It sends nothing. The error is ErrInvalidArgument if the
@@ -41,7 +42,7 @@ func NewClient(url string, options ...Option) (*Client, error) {
 	if err != nil {
 		return nil, err
 	}
-	return &Client{conn}, nil
+	return &Client{conn, values{s.codec, s.blobs}}, nil
 }
 
 // Started is the answer to a start.
@@ -136,6 +137,9 @@ func (c *Client) get(ctx context.Context, key, more string, wait time.Duration) 
 	found := new(Saga)
 	r := request{method: "GET", path: "/v1/sagas/" + escaped(key) + more, wait: wait}
 	if err := c.conn.send(ctx, r, nil, found); err != nil {
+		return nil, err
+	}
+	if err := c.values.read(ctx, found); err != nil {
 		return nil, err
 	}
 	return found, nil

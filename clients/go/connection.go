@@ -37,6 +37,8 @@ type settings struct {
 	http     *http.Client
 	logger   Logger
 	timeout  time.Duration
+	codec    Codec
+	blobs    Blobs
 }
 
 // Option configures a Client. It is also a WorkerOption.

@@ -73,6 +73,7 @@ const (
 	ErrInvalidKey           ProblemName = "InvalidKey"
 	ErrInvalidInput         ProblemName = "InvalidInput"
 	ErrInvalidLabel         ProblemName = "InvalidLabel"
+	ErrInvalidResult        ProblemName = "InvalidResult"
 	ErrNotSerializable      ProblemName = "NotSerializable"
 	ErrTooLarge             ProblemName = "TooLarge"
 	ErrUnauthorized         ProblemName = "Unauthorized"
@@ -87,6 +88,7 @@ const (
 	ErrStepNotWaiting       ProblemName = "StepNotWaiting"
 	ErrConflictingReport    ProblemName = "ConflictingReport"
 	ErrSagaOver             ProblemName = "SagaOver"
+	ErrNotAbortable         ProblemName = "NotAbortable"
 	ErrCountChanged         ProblemName = "CountChanged"
 	ErrInvalidLease         ProblemName = "InvalidLease"
 	ErrNoSuchTask           ProblemName = "NoSuchTask"
@@ -118,6 +120,9 @@ const (
 var (
 	// ErrNoResult means that a step has no result that is in effect.
 	ErrNoResult = errors.New("sagas: no result")
+	// ErrCannotDecode means that the codec or the blob store of WithCodec and WithBlobs cannot read a
+	// value.
+	ErrCannotDecode = errors.New("sagas: cannot decode")
 	// ErrNoItem means that a task is of a step that is not there for items.
 	ErrNoItem = errors.New("sagas: no item")
 	// ErrInvalidArgument means that an argument of a call of this package is not valid. Nothing was

@@ -172,6 +172,22 @@ export interface ClientOptions {
   token?: string;
   /** Seconds for which a request, or the opening of a stream, is repeated until it is answered (default: 60). */
   timeout?: number;
+  /** Decodes inputs and results, if the store of the service has a codec (default: they are `{"$codec": ..}`). */
+  codec?: Codec;
+  /** Reads large inputs and results, if the store of the service has a blob store (default: they are `{"$blob": ..}`). */
+  blobs?: Blobs;
+}
+
+/** Decodes what the codec of the service's store encoded. */
+export interface Codec {
+  /** Gives the JSON of a value. */
+  decode(data: Uint8Array): Uint8Array | Promise<Uint8Array>;
+}
+
+/** Reads what is in the blob store of the service's store. */
+export interface Blobs {
+  /** Gives a value by its key; `undefined` or `null` if there is none. */
+  get(key: string): Uint8Array | null | undefined | Promise<Uint8Array | null | undefined>;
 }
 
 /** A saga that `start` started, or found. */
@@ -211,9 +227,9 @@ export class Client<D extends Definitions<D> = AnyDefinitions> {
   readonly url: string;
   /** Starts a saga, or finds the one with this key. It is stored when this returns. Throws `KeyConflict`, `NoSuchDefinition`, `InvalidRequest`. */
   start<S extends Name<D>>(definition: S, key: string, input?: Input<D, S>, options?: StartOptions): Promise<Run<D, S>>;
-  /** Gives the saga with this key, or `null`. */
+  /** Gives the saga with this key, or `null`. Throws `CannotDecode`. */
   get<S extends Name<D> = Name<D>>(key: string, options?: CallOptions): Promise<Saga<Input<D, S>, Results<D, S>> | null>;
-  /** Waits until a saga is over. Throws `WaitTimeout`, `NoSuchSaga`. */
+  /** Waits until a saga is over. Throws `WaitTimeout`, `NoSuchSaga`, `CannotDecode`. */
   wait<S extends Name<D> = Name<D>>(key: string, options?: WaitOptions): Promise<Saga<Input<D, S>, Results<D, S>>>;
   /** Aborts a saga. Gives whether this call did it; `false` if it is over, or was aborted before. Throws `NoSuchSaga`. */
   abort(key: string, options?: AbortOptions): Promise<boolean>;
@@ -329,6 +345,8 @@ export class SagasError extends Error {
 export class InvalidArgument extends SagasError {}
 /** No service answered in time. The request may have been carried out: repeat it with the same key. */
 export class Unreachable extends SagasError {}
+/** The codec or the blob store that you passed cannot read a value of the service. */
+export class CannotDecode extends SagasError {}
 /** The saga was not over in time. It goes on. */
 export class WaitTimeout extends SagasError {}
 /** Throw it in a function that had no effect, if retries are useless. */
@@ -367,6 +385,8 @@ export class StepNotWaiting extends Problem {}
 export class ConflictingReport extends Problem {}
 /** The saga is over. */
 export class SagaOver extends Problem {}
+/** The saga undoes a child, so it is not aborted. */
+export class NotAbortable extends Problem {}
 /** Another worker has the task, or an operator must decide. */
 export class LeaseLost extends Problem {}
 /** The lease was not issued to this worker for this task. */

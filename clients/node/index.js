@@ -3,7 +3,7 @@
 export { Client, Run } from "./lib/client.js";
 export { Worker } from "./lib/worker.js";
 export {
-  Aborted, ConflictingReport, Fail, Forbidden, InvalidArgument, InvalidLease, InvalidRequest, KeyConflict, LeaseLost,
-  NoSuchDefinition, NoSuchSaga, NoSuchTask, Problem, Retry, SagaOver, SagasError, StepNotWaiting, Unauthorized, Unknown,
-  Unreachable, WaitTimeout,
+  Aborted, CannotDecode, ConflictingReport, Fail, Forbidden, InvalidArgument, InvalidLease, InvalidRequest, KeyConflict,
+  LeaseLost, NoSuchDefinition, NoSuchSaga, NoSuchTask, NotAbortable, Problem, Retry, SagaOver, SagasError,
+  StepNotWaiting, Unauthorized, Unknown, Unreachable, WaitTimeout,
 } from "./lib/errors.js";

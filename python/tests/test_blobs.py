@@ -96,6 +96,14 @@ async def texts(store: sagas.Store) -> list[str]:
     return [text for (text,) in await inner.read(query)]
 
 
+def values_in(folder: pathlib.Path) -> list[pathlib.Path]:
+    """The values of a folder, without the marks of the store."""
+    found = os.walk(folder)  # which passes over what is deleted meanwhile
+    paths = (pathlib.Path(place, name) for place, _, names in found for name in names)
+    whole = [path for path in paths if path.suffix != ".part"]
+    return [path for path in whole if len(path.relative_to(folder).parts) == 3]
+
+
 @pytest.fixture(params=["memory", "folder", "table"])
 def blobs(request: pytest.FixtureRequest, tmp_path: pathlib.Path) -> Any:
     if request.param == "memory":
@@ -153,8 +161,7 @@ def test_large_values_are_outside(
     saga, blobs = copy(undone), sagas.FolderBlobStore(folder)
 
     def files() -> list[pathlib.Path]:
-        found = os.walk(folder)  # which passes over what is deleted meanwhile
-        return [pathlib.Path(place, name) for place, _, names in found for name in names]
+        return values_in(folder)
 
     async def main() -> None:
         async with at(place, blobs, saga, codec=codec) as store:
@@ -239,7 +246,7 @@ def test_large_items_are_outside(place: str, tmp_path: pathlib.Path, codec: Any)
     given = {"parcels": {f"key {number}": "x" * THRESHOLD for number in range(3)}}
 
     def files() -> int:
-        return sum(len(names) for _, _, names in os.walk(folder))
+        return len(values_in(folder))
 
     async def shapes(store: sagas.Store) -> list[str]:
         inner: Any = store._access.inside.store._inner  # type: ignore[attr-defined]
@@ -347,8 +354,7 @@ def test_a_service_has_them(tmp_path: pathlib.Path) -> None:
         assert task["results"] == {"a": LARGE + "1"}
         assert report(client, task, result=None).status_code == 200
         assert client.get("/v1/sagas/k/wait?seconds=60").json()["phase"] == "completed"
-        files_of = (path for path in (tmp_path / "large").rglob("*") if path.is_file())
-        kept = [path.read_bytes() for path in files_of]
+        kept = [path.read_bytes() for path in values_in(tmp_path / "large")]
         assert len(kept) == 2 and not any(LARGE.encode() in data for data in kept)
     for wrong in (["--codec", "os:sep"], ["--codec", "os"], ["--blobs", "os:sep"]):
         command = [sys.executable, "-m", "sagas", "serve", "x.db", "--definitions", "definitions"]

@@ -23,7 +23,7 @@ from sagas.definition.start_options import StartOptions
 from sagas.inspection import families, lists
 from sagas.runtime import retention
 from sagas.server import json_views
-from sagas.storage.filters import Filter, Scope
+from sagas.storage.filters import NOTHING, Filter, Scope
 
 
 class Trip:
@@ -130,8 +130,9 @@ def test_a_completed_child_is_undone(place: str, capsys: pytest.CaptureFixture[s
     told = [json_views.saga(view) for view in views]
     assert [(one["step"], one["definition"]) for one in told[0]["children"]] == [("stay", "hotel"), ("stay:undo", "hotel-undo")]
     assert told[0]["parent"] is None and told[1]["parent"]["key"] == "t" and told[1]["children"] == []
-    seen = families.seen_by(views[0], lambda name: name == "hotel")
-    assert [one.key for one in seen.children] == ["t/:stay"] and families.seen_by(views[1], lambda name: False).parent is None
+    seen = families.seen_by(views[0], Scope(frozenset({"hotel"})))
+    assert [one.key for one in seen.children] == ["t/:stay", "t/:stay:undo"]
+    assert families.seen_by(views[0], NOTHING).children == [] and families.seen_by(views[1], NOTHING).parent is None
 
 
 def test_a_child_fails(place: str) -> None:
@@ -294,7 +295,7 @@ def test_keys_and_inputs_that_cannot_be(place: str) -> None:
 
     async def main() -> None:
         async with world.open(place) as store:
-            with pytest.raises(sagas.InvalidKey, match="must have at most 501 characters"):
+            with pytest.raises(sagas.InvalidKey, match="must have at most 497 characters"):
                 await store.start(world.trip, "x" * 502, {"days": 3})
             for taken in ("t/:stay", "/:", "t/:stay:undo", "t/:whatever"):
                 with pytest.raises(sagas.InvalidKey, match="only keys of child sagas have '/:'"):

@@ -383,6 +383,47 @@ def test_a_client_and_a_worker(url: str) -> None:
     assert holds_secret(url) == []
 
 
+def test_a_result_of_a_worker_is_never_plain(place: str) -> None:
+    """Not in the table of the store until its node takes it over, and not in a file behind it. The
+    same report again is one, and another one is refused."""
+    made = sagas.Saga("made")
+    made.step(external=True, name="a", undo=0)
+
+    async def main() -> None:
+        store = sagas.open(place, [made], codec=Encryption(a=OLD))
+        store.leased = True
+        async with store:
+            await store.start(made, "k", None)
+            (task,) = await until(lambda: store.workers.claim([("made", "a", "run")], holder="w"))
+
+            async def report(result: Any) -> bool:
+                return await store.workers.report(task.attempt_id, task.lease, result, holder="w")
+
+            table: Any = store._access.inside.store.external
+            seen, keep = list[str](), table.report
+
+            async def kept(token: str, lease: int, outcome: str, value: str) -> Any:
+                seen.append(value)
+                shard = await keep(token, lease, outcome, value)
+                if len(seen) == 1:  # the node does not take it over yet
+                    assert not await report([SECRET])
+                    with pytest.raises(sagas.ConflictingReport):
+                        await report(["another"])
+                return shard
+
+            table.report = kept
+            assert await report([SECRET])
+            assert (await store.wait("k")).results == {"a": [SECRET]}
+            assert not await report([SECRET])
+            assert len(seen) == 4 and SECRET not in "".join(seen)
+
+    run(main())
+    assert holds_secret(place) == []
+    if not place.startswith("postgresql:"):
+        for path in pathlib.Path(place).parent.glob("store.db*"):
+            assert SECRET.encode() not in path.read_bytes()
+
+
 def test_a_start_that_one_node_cannot_decode(url: str, monkeypatch: pytest.MonkeyPatch) -> None:
     """It is left to a node that can: it holds up no other start, and can be aborted."""
     monkeypatch.setattr(client_starts, "MANY", 2)

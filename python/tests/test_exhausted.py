@@ -273,7 +273,9 @@ def test_how_often_it_failed(place: str, capsys: pytest.CaptureFixture[str]) -> 
 def test_more_attempts_than_a_definition_has(
     place: str, tmp_path: pathlib.Path, more: dict[str, Any]
 ) -> None:
-    """They are counted over a kill: the call that was struck is made once more."""
+    """They are counted over a kill: the call that was struck is made once more, and the one before
+    it is not counted where its row was on its way.
+    """
     notes = Notes(tmp_path)
     notes.strike = 6
     kind = alone(notes, tries=3, **more)
@@ -285,7 +287,7 @@ def test_more_attempts_than_a_definition_has(
             started = await store.start(kind, "k")
             if "max_attempts" in more:
                 end = await started.wait(60)
-                assert end.states == {"a": "failed"} and len(notes.lines) in (12, 13)
+                assert end.states == {"a": "failed"} and len(notes.lines) in (12, 13, 14)
                 return
             await until(lambda: len(notes.lines) > 20)
             notes.broken.unlink()

@@ -1200,6 +1200,25 @@ def test_closing(place: str) -> None:
     run(main())
 
 
+def test_closing_writes_what_waits_for_a_commit(
+    place: str, monkeypatch: pytest.MonkeyPatch
+) -> None:
+    """Also if nobody waits for it any more: no commit fails because the database is closed."""
+    told: list[sagas.Event] = []
+    monkeypatch.setattr("sagas.storage.sqlite.writer.AT_ONCE", 0.0)
+
+    async def main() -> None:
+        saga = simple(lambda task: None)
+        async with sagas.open(place, [saga], on_event=told.append) as store:
+            jobs = [asyncio.create_task(store.deliveries.due("shop")) for _ in range(3)]
+            await asyncio.sleep(0)
+            for job in jobs:
+                job.cancel()
+
+    run(main())
+    assert [event for event in told if event.name == "commit_failed"] == []
+
+
 def test_closing_while_starts_wait(place: str, monkeypatch: pytest.MonkeyPatch) -> None:
     """Sagas that wait for a log, and logs that wait for a child, keep nobody: who was not told of a start gets Closed."""
     monkeypatch.setattr("sagas.definition.shelf.SHARD_CAPACITY", 4)

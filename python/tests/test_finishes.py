@@ -269,27 +269,37 @@ def test_a_refusal_is_told_once_what_it_rests_on_is_stored(url: str) -> None:
     run(main())
 
 
-def test_a_retry_is_said_again_of_where_the_shard_is(url: str) -> None:
-    """It was on its way to the store when the shard moved."""
-    saga, calls = sagas.Saga("retried"), list[str]()
+@pytest.mark.parametrize("on_its_way", ["retry", "failure"])
+def test_a_retry_is_said_again_of_where_the_shard_is(url: str, on_its_way: str) -> None:
+    """It was on its way to the store when the shard moved, or waited for what failed before it."""
+    saga, calls, may_fail = sagas.Saga("retried"), list[str](), asyncio.Event()
 
     @saga.step(on_exhausted="ask")
     async def call(task: Task) -> str:
         calls.append(task.attempt_id)
         if len(calls) == 1:
+            await may_fail.wait()
             raise ValueError("fails")
         return "done"
 
     async def main() -> None:
         async with sagas.open(url, [saga], lease=2) as store:
             await store.start(saga, "k")
-            await until(lambda: has_waited(store))
-            while not await store.attention():  # so that only the retry is on its way then
-                await asyncio.sleep(0.01)
+            await until(lambda: bool(calls))
+            if on_its_way == "retry":
+                may_fail.set()
+                while not await store.attention():
+                    await asyncio.sleep(0.01)
             with held(url, lost=True) as reached:
+                may_fail.set()
+                await until(lambda: has_waited(store))
                 says = asyncio.create_task(store.retry("k", "call"))
                 await reached()
-            await asyncio.wait_for(says, 60)
+            if on_its_way == "retry":
+                await asyncio.wait_for(says, 60)
+            else:  # the store has no failure
+                with pytest.raises(sagas.StepNotWaiting):
+                    await asyncio.wait_for(says, 60)
             assert (await store.wait("k", 60)).results["call"] == "done"
 
     def has_waited(store: sagas.Store) -> bool:

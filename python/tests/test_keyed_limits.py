@@ -5,6 +5,7 @@ from __future__ import annotations
 import asyncio
 import contextlib
 import dataclasses
+import json
 import os
 import pathlib
 import signal
@@ -24,6 +25,7 @@ from test_codec import OLD, Encryption
 from witness import notes_of, witness_at
 
 import sagas
+from sagas.runtime import fleet_limits
 
 
 @dataclasses.dataclass
@@ -105,6 +107,63 @@ def test_a_limit_holds_for_each_key_by_itself(place: str, limit: str, in_thread:
     if place.startswith("postgresql") and limit == "fleet_concurrency":
         with psycopg.connect(place) as link:
             assert link.execute("SELECT count(*) FROM sagas.limit_slots").fetchone() == (0,)
+
+
+def rows_of(url: str) -> list[tuple[str, str | None]]:
+    with psycopg.connect(url) as link:
+        return link.execute("SELECT name, node FROM sagas.limit_slots WHERE name NOT LIKE 'plain/%'").fetchall()
+
+
+def test_rows_of_keys_are_those_of_calls(url: str) -> None:
+    """A key of any length has a row for each call, under a digest, and none behind it. What another node had that is gone, and what an older release kept, goes at the opening; a limit of the step itself keeps its rows."""
+    keys = [1, "IBAN DE89", "x" * 9000, ["\ud800", None]]
+    inside, opened = Counter[str](), asyncio.Event()
+    saga, plain = sagas.Saga("bank"), sagas.Saga("plain")
+    plain.step(lambda task: None, name="a", fleet_concurrency=2)
+
+    @saga.step(fleet_concurrency=3, concurrency_by=lambda given: given)
+    async def move(task: Task) -> None:
+        inside[str(task.input)[:20]] += 1
+        await opened.wait()
+
+    async def main() -> None:
+        async with sagas.open(url, [saga, plain], concurrency=32) as store:
+            await (await store.start(plain, "plain")).wait()
+            runs = [await store.start(saga, f"k{at}-{n}", key) for at, key in enumerate(keys) for n in range(4)]
+            await until(lambda: len(inside) == 4 and set(inside.values()) == {3})
+            names = Counter(name for name, node in rows_of(url) if node)
+            assert len(rows_of(url)) == 12 and set(names.values()) == {3}
+            assert not any("DE89" in name or len(name) > 60 for name in names)
+            opened.set()
+            for one in runs:
+                assert (await one.wait()).ok
+            await until(lambda: rows_of(url) == [])
+            with psycopg.connect(url) as link:
+                for slot, node in ((2, None), (3, "gone/1")):
+                    link.execute("INSERT INTO sagas.limit_slots VALUES('bank/move/\"x\"', 'limit', %s, %s)", [slot, node])
+        async with sagas.open(url, [saga, plain]):
+            assert rows_of(url) == []
+            with psycopg.connect(url) as link:
+                assert link.execute("SELECT count(*) FROM sagas.limit_slots").fetchone() == (2,)
+
+    run(main())
+
+
+def test_a_place_of_a_node_that_is_gone_is_taken(url: str) -> None:
+    """Its rows do not hold up a key."""
+    inside = Inside(1)
+    saga = bank(inside, False, fleet_concurrency=2)
+
+    async def main() -> None:
+        async with sagas.open(url, [saga]) as store:
+            name = f"bank/move/{fleet_limits.digest_of('bank/move', json.dumps('a'))}"
+            with psycopg.connect(url) as link:
+                for slot in (1, 2):
+                    link.execute("INSERT INTO sagas.limit_slots VALUES(%s, 'limit', %s, 'gone/1')", [name, slot])
+            assert (await (await store.start(saga, "k", Order("a"))).wait()).ok
+            await until(lambda: rows_of(url) == [(name, "gone/1")])
+
+    run(main())
 
 
 def test_a_key_is_of_all_nodes(url: str) -> None:
@@ -203,7 +262,7 @@ def test_a_small_tenant_does_not_wait_for_a_large_one(place: str, again: bool, c
         async with sagas.open(place, [saga], concurrency=1, codec=codec) as store:
             if not again:
                 await start(store)
-            await until(lambda: called)
+            await until(lambda: called and len(store._inside.slots._queued) == 10)
             opened.set()
             await store.wait_idle()
             assert (await store.wait("small")).ok and called.index("small") <= 2, called

@@ -793,10 +793,10 @@ def test_a_log_that_could_not_be_given_back(url: str, monkeypatch: pytest.Monkey
         lease = node_lease.Lease(asker, "n", 10.0, "")
         await lease.begin()
         with pytest.raises(sagas.StoreUnavailable):
-            await lease.take(lambda texts, places: next(said), [])
+            await lease.take(lambda *_: next(said), [])
         owner = "SELECT owner FROM sagas.shards WHERE closed = 0"
         assert await asker.ask(owner) == [(lease.node,)] and not lease.left
-        assert await lease.take(lambda texts, places: next(said), []) == []
+        assert await lease.take(lambda *_: next(said), []) == []
         assert await asker.ask(owner) == [(None,)] and lease.left
         await asker.close()
 

@@ -143,6 +143,11 @@ def test_old_logs_go_as_a_whole_and_their_keys_are_free(place: str, capsys: pyte
             with pytest.raises(sagas.KeyConflict):
                 await store.start(kind, f"k{ROOM}", "another")
             assert all(said.startswith("yes") for said in (await store.audit()).values())
+            await until(lambda: is_closed(open))
+
+    def is_closed(log: int) -> bool:
+        with contextlib.closing(admin.connect(place)) as link:
+            return [tuple(row) for row in link.ask(f"SELECT closed FROM shards WHERE shard = {log}")] == [(1,)]
 
     run(again())
     assert store_command.main([place, "prune", "--older-than", "0s"]) == 0

@@ -22,6 +22,7 @@ from test_codec import NEW, OLD, Encryption
 from test_command import Shell
 
 import sagas
+from sagas.cli import store_command
 from sagas.definition import timing
 from sagas.runtime import scheduler
 from sagas.storage import admin
@@ -429,3 +430,143 @@ def test_each_time_comes_once_over_killed_nodes(place: str, tmp_path: pathlib.Pa
         seconds = [datetime.datetime.fromisoformat(time).timestamp() for time in times]
         assert seconds == [seconds[0] + number for number in range(len(seconds))]
     assert {*noted()} <= {*keys(place)}
+
+
+SECOND = datetime.timedelta(seconds=1)
+
+
+def test_how_many_missed_times_are_started(place: str) -> None:
+    """The last ones, at most so many, by several nodes; the others are told."""
+    clock, told = Clock(), list[str]()
+
+    def listen(event: sagas.Event) -> None:
+        if event.name == "schedule_missed":
+            told.append(str(event.detail))
+
+    async def main() -> None:
+        async with sagas.open(place, [kind := nightly()], clock=clock) as store:
+            await store.schedule("e", kind, every=SECOND, catch_up="all", max=3)
+            await store.schedule("c", kind, cron="0 * * * *", catch_up="all", max=2)
+            found = {one.name: (one.catch_up, one.max, one.overlap) for one in await store.schedules()}
+            assert found == {"e": ("all", 3, "allow"), "c": ("all", 2, "allow")}
+        clock.now += 90 * DAY
+        async with contextlib.AsyncExitStack() as nodes:
+            count = 1 if "://" not in place else 3
+            for _ in range(count):
+                await nodes.enter_async_context(sagas.open(place, [kind], clock=clock, on_event=listen))
+            await until(lambda: len(keys(place)) >= 5)
+
+    run(main())
+    last = [f"e@2026-05-30T{at}Z" for at in ("11:59:58", "11:59:59", "12:00:00")]
+    assert keys(place) == ["c@2026-05-30T11:00:00Z", "c@2026-05-30T12:00:00Z", *last]
+    assert {"e: only the last 3 missed times are started", "c: only the last 2 missed times are started"} == {*told}
+
+
+def test_times_that_were_missed_before_a_pause(
+    place: str, capsys: pytest.CaptureFixture[str], caplog: pytest.LogCaptureFixture
+) -> None:
+    """They are not started, which the command says, and the schedule, and the log of a program."""
+
+    async def main() -> None:
+        clock = Clock()
+        async with sagas.open(place, [kind := nightly()], clock=clock) as store:
+            for name, catch_up in (("a", "all"), ("l", "last"), ("s", "skip")):
+                await store.schedule(name, kind, every=EVERY, catch_up=catch_up)
+        assert store_command.main([place, "schedules", "pause", "a"]) == 0  # by the clock of today
+        assert "a: 100 missed times before the pause were not started" in capsys.readouterr().err
+        async with sagas.Client(place) if "://" in place else sagas.open(
+            place, [kind], clock=clock, accept_new=False
+        ) as store:
+            clock.now += DAY
+            await store.pause_schedule("l")
+            await store.pause_schedule("l")
+            await store.pause_schedule("s")
+            await store.resume_schedule("a")
+            errors = {one.name: one.error for one in await store.schedules()}
+        assert errors == {
+            "a": "100 missed times before the pause were not started",
+            "l": "1 missed time before the pause was not started",
+            "s": None,
+        }
+        assert caplog.text.count("schedule 'l': 1 missed time before the pause was not started") == 1
+        assert keys(place) == []
+
+    run(main())
+
+
+@pytest.mark.parametrize("overlap", ["skip", "queue", "allow"])
+def test_a_time_while_the_saga_before_is_open(place: str, overlap: str) -> None:
+    """It is left out, waits, or is started."""
+    clock, told = Clock(), list[str]()
+    opened = asyncio.Event()
+
+    async def work(task: Task) -> None:
+        await opened.wait()
+
+    async def main() -> None:
+        kind = simple(work)
+        listen = lambda event: told.append(event.name)  # noqa: E731
+        async with sagas.open(place, [kind], clock=clock, on_event=listen) as store:
+            await store.schedule("n", kind, every=EVERY, overlap=overlap)
+            for turn in (1, 2):
+                clock.now += EVERY.total_seconds()
+                store._inside.look()
+                if turn == 1 or overlap == "allow":
+                    await until(lambda: len(keys(place)) == turn)
+                elif overlap == "skip":
+                    await until(lambda: "schedule_missed" in told)
+            if overlap == "queue":
+                await asyncio.sleep(0.1)
+            assert len(keys(place)) == (2 if overlap == "allow" else 1)
+            opened.set()
+            await store.wait_idle()
+            if overlap == "queue":
+                await until(lambda: len(keys(place)) == 2)
+            await store.wait_idle()
+        assert len(keys(place)) == (1 if overlap == "skip" else 2)
+
+    run(main())
+
+
+def test_a_program_that_lacks_the_definition(place: str) -> None:
+    """It is told once, and the schedule says so until a program starts it."""
+    clock, told = Clock(), list[str]()
+    other = sagas.Saga("other")
+    other.step(name="a", undo=0)(lambda task: None)
+
+    def listen(event: sagas.Event) -> None:
+        told.append(f"{event.name}: {event.detail}")
+
+    async def main() -> None:
+        async with sagas.open(place, [kind := nightly()], clock=clock) as store:
+            await store.schedule("n", kind, every=EVERY)
+        clock.now += DAY
+        async with sagas.open(place, [other], clock=clock, on_event=listen) as store:
+
+            async def error() -> str | None:
+                return (await store.schedules())[0].error
+
+            await until(error)
+            store._inside.look()
+            await asyncio.sleep(0)
+            assert await error() == "no program has its saga 'simple' (version 1)"
+        assert told == ["schedule_failed: n: no program has its saga 'simple' (version 1)"]
+        async with sagas.open(place, [kind], clock=clock) as store:
+            await until(lambda: keys(place))
+
+            async def has_no_error() -> bool:
+                return (await store.schedules())[0].error is None
+
+            await until(has_no_error)
+
+    run(main())
+
+
+def test_bounds_and_overlaps_that_are_none() -> None:
+    for words in ({"max": 0}, {"max": True}, {"max": "3"}, {"max": 10_001}, {"overlap": "queued"}):
+        most, overlap = words.get("max", 100), words.get("overlap", "allow")
+        with pytest.raises(sagas.InvalidSchedule, match=next(iter(words))):
+            timing.timing(None, SECOND, "UTC", "all", most, overlap)
+    some = timing.timing(None, SECOND, "UTC", "all", 7, "queue")
+    assert timing.policy_of(some.policy) == (some.catch_up, 7, some.overlap)
+    assert timing.timing(None, SECOND, "UTC", "last").policy == "last"

@@ -23,6 +23,7 @@ from cases import Task, ended, run, simple, surely_ended, until
 from judge import judge
 from moments import Node
 from server import Pair, Server, free_port, paired, serving
+from serving import LONG, served
 from witness import Witness, witness_at
 
 import sagas
@@ -493,12 +494,26 @@ def test_tables_that_are_gone(url: str, caplog: pytest.LogCaptureFixture) -> Non
             assert (await ended(store, kind, "k")).ok
             with psycopg.connect(url, autocommit=True) as link:
                 link.execute("DROP SCHEMA sagas CASCADE")
-                await until(lambda: "the tables of the store are gone" in caplog.text)
+                with pytest.raises(sagas.InvalidStore, match="the tables of the store are gone"):
+                    await store.serve()
                 await asyncio.sleep(2.5)  # further beats
                 assert link.execute("SELECT to_regclass('sagas.sagas')").fetchone() == (None,)
 
     run(main())
     assert caplog.text.count("the tables of the store are gone") == 1
+
+
+def test_a_program_ends_whose_tables_are_gone(url: str, tmp_path: pathlib.Path) -> None:
+    """One without async, and the service."""
+    with served(tmp_path, store=url) as service:
+        with sagas.open_sync(url, [simple(lambda task: "done")]) as store:
+            with psycopg.connect(url, autocommit=True) as link:
+                link.execute("DROP SCHEMA sagas CASCADE")
+            with pytest.raises(sagas.InvalidStore, match="the tables of the store are gone"):
+                store.serve()
+        assert service.process and service.process.wait(LONG) == 4
+        assert "sagas serve: postgresql://" in service.told()
+        assert "the tables of the store are gone" in service.told().splitlines()[-1]
 
 
 @pytest.mark.parametrize("is_over", [True, False])

@@ -168,3 +168,20 @@ def test_reports_of_many_are_of_the_step(client: httpx.Client) -> None:
     assert (told["done"], told["left"]) == (1, 0)
     assert client.get("/v1/sagas/asks-undo/wait").json()["states"]["a"] == "undone"
     assert client.get("/v1/sagas/asks-a").json()["states"]["a"] == "begun"
+
+
+def test_a_filter_that_selects_nothing_by_mistake(client: httpx.Client) -> None:
+    """Labels that are empty are refused, and what nothing has is said."""
+    told = {"definition": "order", "key": "labeled", "labels": {"customer": "7"}}
+    assert client.post("/v1/sagas", json=told).status_code == 201
+    answer = client.post("/v1/bulk/abort", json={"filter": {"labels": {}}})
+    assert answer.status_code == 422 and "filter.labels: this selects every saga" in answer.text
+    for labels, text in (
+        ({"custmer": "7"}, "no saga has a label 'custmer'; did you mean 'customer'?"),
+        ({"customer": "8"}, "no saga has the label customer='8'"),
+    ):
+        answer = client.post("/v1/bulk/abort", json={"filter": {"labels": labels}})
+        assert answer.json()["count"] == 0 and answer.json()["warnings"] == [text]
+    some = {"filter": {"kind": "exhausted", "step": "reviev"}}
+    answer = client.post("/v1/bulk/retry", json=some)
+    assert "no definition has a step 'reviev'; did you mean 'review'?" in answer.json()["warnings"]

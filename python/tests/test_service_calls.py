@@ -503,13 +503,16 @@ def test_a_stuck_one_is_resolved(client: httpx.Client) -> None:
 
 
 def test_an_answer_is_sent_at_once(client: httpx.Client) -> None:
-    """Its body does not wait until the client's system has acknowledged its head, which takes 40 ms on a connection that is kept."""
-    took = []
-    for _ in range(60):
+    """Its body does not wait until the client's system has acknowledged its head: each answer would take 40 ms on a connection that is kept."""
+
+    def seconds() -> float:
         began = time.monotonic()
         get(client, "/health/live")
-        took.append(time.monotonic() - began)
-    assert min(took[40:]) < 0.03
+        return time.monotonic() - began
+
+    for _ in range(40):
+        seconds()
+    assert any(seconds() < 0.03 for _ in range(500))
 
 
 def test_figures_and_life(client: httpx.Client) -> None:

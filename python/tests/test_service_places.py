@@ -11,6 +11,7 @@ import pathlib
 import re
 import socket
 import struct
+import sys
 import time
 from collections.abc import AsyncIterator
 from typing import Any
@@ -19,10 +20,10 @@ import pytest
 from driving import program
 from hypothesis import given
 from hypothesis import strategies as st
-from serving import DEFINITIONS, LONG, served, start, token
+from serving import DEFINITIONS, LONG, Served, served, start, token
 from test_service_denial import inside
 
-from sagas.server import uvicorn_server
+from sagas.server import command, uvicorn_server
 from sagas.server.request_framing import Malformed, RequestFraming
 from sagas.server.settings import PlaceSettings
 
@@ -436,3 +437,61 @@ def test_what_is_no_request_is_refused(tmp_path: pathlib.Path) -> None:
                 assert statuses == ([b"200"] if before else []) + [b"400"], (request_text, found)
                 assert b"urn:sagas:problem:MalformedRequest" in found
     assert '"level": "error"' not in service.told()
+
+
+STUCK = '''
+import pathlib
+import threading
+import sagas
+
+saga = sagas.Saga("stuck")
+
+@saga.step
+def waits(task: sagas.Task) -> None:
+    pathlib.Path("called").touch()
+    threading.Event().wait()
+
+SAGAS = [saga]
+'''
+QUICK = """
+import dataclasses
+import sys
+from sagas.__main__ import main
+from sagas.server import command, uvicorn_server
+uvicorn_server.FOR_REQUESTS = uvicorn_server.FOR_CLOSE = 0.2
+settings_of = command.settings_of
+command.settings_of = lambda words: dataclasses.replace(settings_of(words), shutdown_timeout=0.1)
+sys.exit(main(sys.argv[1:]))
+"""
+
+
+class Quick(Served):
+    """A service whose stop has little time."""
+
+    def command(self) -> list[str]:
+        _, module, sagas, *words = super().command()
+        assert (module, sagas) == ("-m", "sagas")
+        return [sys.executable, "-c", QUICK, *words]
+
+
+def until_there(path: pathlib.Path) -> None:
+    """Waits for a file."""
+    deadline = time.monotonic() + LONG
+    while not path.exists():
+        assert time.monotonic() < deadline
+        time.sleep(0.02)
+
+
+def test_a_stop_that_hangs_ends_the_process(tmp_path: pathlib.Path) -> None:
+    """A function that never returns holds it up: the process ends, and says so."""
+    (tmp_path / "stuck.py").write_text(STUCK)
+    service = Quick(tmp_path, DEFINITIONS, "--app", "stuck:SAGAS")
+    try:
+        service.start()
+        with service.client() as client:
+            start(client, "stuck", "k")
+        until_there(tmp_path / "called")
+        assert service.stop() == command.OVERDUE
+        assert "the stop has taken too long" in service.told()
+    finally:
+        service.kill()

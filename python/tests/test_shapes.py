@@ -36,7 +36,7 @@ from shaped import (
 
 import sagas
 from sagas.definition import serialization
-from sagas.definition.shelf import Shelf
+from sagas.definition.shelf import Fitted, Shelf
 
 
 def names(saga: sagas.Saga, input: Any) -> dict[str, list[str]]:
@@ -550,6 +550,11 @@ def test_a_wrong_type_of_items_is_found(tmp_path: pathlib.Path) -> None:
     assert "ItemTask[Order, Letter]" in error and "ItemTask[Any, Parcel]" in error
 
 
+def fitted(shelf: Shelf, saga: sagas.Saga, text: str) -> Fitted:
+    """The definition of a saga with an input, whose functions are called here."""
+    return shelf.fit(saga, text) or shelf.shaped(text, shelf.shaping(saga, text)())
+
+
 def test_definitions_that_differ_in_costs_share_the_rest() -> None:
     """Each has the text that it has if it is written alone, also read back from a store."""
     saga = sagas.Saga("costs")
@@ -574,7 +579,7 @@ def test_definitions_that_differ_in_costs_share_the_rest() -> None:
         for last in (0, 1)
     ]
     shelf, again = Shelf([saga]), Shelf([saga])
-    kinds = [shelf.fit(saga, serialization.write(given)).kind for given in inputs]
+    kinds = [fitted(shelf, saga, serialization.write(given)).kind for given in inputs]
     shared: dict[int, list[str]] = {}
     for given, kind in zip(inputs, kinds):
         assert kind is not None

@@ -41,7 +41,7 @@ as() {
 
 # The commands and the program of the quick start, as the README has them.
 sed -n '/^## Quick start/,/^## /p' "$root/root/sagas/README.md" | awk '/^```python/ { on = 1; next } /^```/ { on = 0 } on' >"$root/root/server.py"
-install=$(sed -n '/^## Quick start/,/^## /p' "$root/root/sagas/README.md" | awk '/^```$/ { on = !on; next } on && /venv/')
+install=$(sed -n '/^## Quick start/,/^## /p' "$root/root/sagas/README.md" | awk '/^```/ { is_open = !is_open; on = is_open && $0 == "```"; next } on && /venv/')
 begin=$SECONDS
 as "$install && cd ~ && python server.py" >"$root/root/said" 2>&1 || { cat "$root/root/said"; echo "fresh: the quick start failed"; exit 1; }
 grep -q '^server customer-1: recovered, plan of cost 14$' "$root/root/said" || { cat "$root/root/said"; echo "fresh: the quick start prints something else"; exit 1; }

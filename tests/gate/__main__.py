@@ -1,11 +1,12 @@
 """Proves and tests everything, and says what it cost.
 
-    ./test                      the full suite: scripts of seconds first, then `rt ci`, with mutants
-    and the other scripts beside it ./test --mutants            the same with all mutants and twins;
-    writes crates/mutants.csv ./test --mutants CRATE ..   the mutants and twins of crates, or
-    CRATE/NAME, over what ./build left ./test --since REVISION     what a change needs, over what is
-    built; it is no gate ./test --quick [NAME ..]    all scripts, or the scripts named, over the
-    release; proves nothing
+    ./test                      the full suite: scripts of seconds first, then `rt ci`, with
+                                mutants and the other scripts beside it
+    ./test --mutants            the same with all mutants and twins; writes crates/mutants.csv
+    ./test --mutants CRATE ..   the mutants and twins of crates, or CRATE/NAME, over what ./build
+                                left
+    ./test --since REVISION     what a change needs, over what is built; it is no gate
+    ./test --quick [NAME ..]    all scripts, or the scripts named, over the release; proves nothing
 
 A script `tests/NAME.sh` ends with status 0, or with 77 if the machine lacks what the script is
 about. The last line on standard output is `N passed, M failed`, and `, K skipped` if something was.

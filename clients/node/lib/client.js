@@ -4,6 +4,7 @@ import { Connection } from "./connection.js";
 import { InvalidArgument, NoSuchSaga, WaitTimeout } from "./errors.js";
 import { EventStream } from "./events.js";
 import { write } from "./json.js";
+import { Values } from "./values.js";
 import { sagaOf, summaryOf } from "./views.js";
 
 const PATIENCE = 60; // seconds
@@ -51,9 +52,11 @@ export class Run {
 export class Client {
   #connection;
   #timeout;
+  #values;
 
-  constructor(url, { token, timeout = PATIENCE } = {}) {
+  constructor(url, { token, timeout = PATIENCE, codec, blobs } = {}) {
     if (!(timeout > 0)) throw new InvalidArgument("timeout: it is a number of seconds above 0");
+    this.#values = new Values(codec, blobs);
     this.#connection = new Connection(url, token);
     this.#timeout = timeout;
   }
@@ -73,7 +76,7 @@ export class Client {
 
   async get(key, { signal } = {}) {
     try {
-      return sagaOf(await this.#ask("GET", path(key), { signal }));
+      return sagaOf(await this.#values.saga(await this.#ask("GET", path(key), { signal })));
     } catch (error) {
       if (error instanceof NoSuchSaga) return null;
       throw error;
@@ -88,7 +91,7 @@ export class Client {
       const told = await this.#ask("GET", `${path(key)}/wait?seconds=${wait.toFixed(3)}`, {
         signal, seconds: wait + BEYOND, patience: Math.max(LATE, Math.min(left, this.#timeout)) + wait,
       });
-      if (told.over) return sagaOf(told);
+      if (told.over) return sagaOf(await this.#values.saga(told));
       if (performance.now() >= until) {
         const waits = told.waits.map(({ step, why }) => `${step} (${why})`).join(", ");
         throw new WaitTimeout(`'${key}' is still open after ${timeout} s${waits && `: it waits for ${waits}`}`);

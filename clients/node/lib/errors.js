@@ -16,6 +16,9 @@ export class Unreachable extends SagasError {}
 /** The saga was not over in time. It goes on. */
 export class WaitTimeout extends SagasError {}
 
+/** The codec or the blob store that you passed cannot read a value of the service. */
+export class CannotDecode extends SagasError {}
+
 /** Throw it in a function that had no effect, if retries are useless. */
 export class Fail extends SagasError {}
 
@@ -60,6 +63,8 @@ export class StepNotWaiting extends Problem {}
 export class ConflictingReport extends Problem {}
 /** The saga is over. */
 export class SagaOver extends Problem {}
+/** The saga undoes a child, so it is not aborted. */
+export class NotAbortable extends Problem {}
 /** Another worker has the task, or an operator must decide. */
 export class LeaseLost extends Problem {}
 /** The lease was not issued to this worker for this task. */
@@ -69,9 +74,9 @@ export class InvalidRequest extends Problem {}
 
 const CLASSES = {
   Unauthorized, Forbidden, NoSuchSaga, NoSuchDefinition, NoSuchTask, KeyConflict, StepNotWaiting, ConflictingReport,
-  SagaOver, LeaseLost, InvalidLease, InvalidRequest,
+  SagaOver, NotAbortable, LeaseLost, InvalidLease, InvalidRequest,
   InvalidKey: InvalidRequest, InvalidInput: InvalidRequest, NotSerializable: InvalidRequest,
-  InvalidLabel: InvalidRequest, TooLarge: InvalidRequest, BodyTooLarge: InvalidRequest,
+  InvalidLabel: InvalidRequest, InvalidResult: InvalidRequest, TooLarge: InvalidRequest, BodyTooLarge: InvalidRequest,
 };
 const MOST_TEXT = 1000;
 

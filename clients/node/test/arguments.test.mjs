@@ -11,6 +11,8 @@ const client = new Client("http://127.0.0.1:1", { timeout: 0.01 });
 for (const [what, call] of Object.entries({
   "a token of a file, with its line break": () => new Client("http://a", { token: "sagas_s3cret\n" }),
   "a worker's token": () => new Worker("http://a", { token: "sagas_s3crét" }),
+  "a codec that cannot decode": () => new Client("http://a", { codec: {} }),
+  "a blob store that gives nothing": () => new Client("http://a", { blobs: { put() {} } }),
   "an address without a scheme": () => new Client("app:s3cret@a:8080"),
   "an address with a password": () => new Client("http://app:s3cret@a:8080"),
   "an address with a port that is none": () => new Client("http://app:s3cret@a:99999"),

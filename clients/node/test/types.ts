@@ -13,7 +13,9 @@ interface Known {
   trip: { input: { to: string }; results: Results };
 }
 
-const client = new Client<Known>(["http://127.0.0.1:8080", new URL("http://127.0.0.1:8081")], { token: "t", timeout: 5 });
+const client = new Client<Known>(["http://127.0.0.1:8080", new URL("http://127.0.0.1:8081")], {
+  token: "t", timeout: 5, codec: { decode: (data) => data }, blobs: { get: async (key: string) => new TextEncoder().encode(key) },
+});
 
 async function call(): Promise<void> {
   const run = await client.start("trip", "order-1", { to: "Rome" }, { labels: { customer: "7" }, deadline: 60 });

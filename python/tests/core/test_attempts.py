@@ -199,8 +199,19 @@ def test_the_next_attempt_of_a_wait_does_not_wait_again() -> None:
     assert MACHINE.begin(attempt, NOW).row == SuspensionRow(Suspension.TIMER, NOW + 7)
 
 
+def answered(attempt: Attempt) -> Decision:
+    """What becomes of one that begins with a question to its definition, whose functions are called."""
+    decision = MACHINE.begin(attempt, NOW)
+    assert decision.do is Do.ASK and decision.question and attempt.state is AttemptState.CLAIMED
+    assert decision.question.words == "until="
+    attempt.rare.returned |= decision.question.answers()
+    return MACHINE.go_on(attempt, NOW)
+
+
 def test_a_wait_until_a_time_that_the_program_says() -> None:
-    assert MACHINE.begin(attempt_of("later"), NOW).row == SuspensionRow(Suspension.TIMER, NOW + 50)
+    attempt = attempt_of("later")
+    assert answered(attempt).row == SuspensionRow(Suspension.TIMER, NOW + 50)
+    assert not attempt.rare.returned
 
 
 @pytest.mark.parametrize(
@@ -215,8 +226,18 @@ def test_a_wait_until_a_time_that_the_program_says() -> None:
 )
 def test_a_wait_that_cannot_say_its_time_has_failed(text: str, kind: OutcomeKind, told: str) -> None:
     attempt = attempt_of("later", text=text)
-    assert MACHINE.begin(attempt, NOW) is REPORT
+    assert answered(attempt) is REPORT
     assert attempt.outcome and attempt.outcome.kind is kind and told in error_of(attempt)
+
+
+def test_a_wait_of_a_saga_that_drains_while_its_definition_is_asked() -> None:
+    """What its function returned is not used: it is given up."""
+    attempt = attempt_of("later", 1)
+    decision = MACHINE.begin(attempt, NOW)
+    assert decision.question
+    attempt.instance.draining = True
+    attempt.rare.returned |= decision.question.answers()
+    assert MACHINE.drain(attempt.instance, NOW) == [] and MACHINE.go_on(attempt, NOW) is REPORT
 
 
 def test_a_wait_of_a_saga_that_drains_is_given_up_before_it_waits() -> None:

@@ -12,7 +12,7 @@ import pytest
 import sagas
 from sagas.core import outcomes
 from sagas.core.attempts import AttemptMachine
-from sagas.core.decisions import CALL, REPORT, Do
+from sagas.core.decisions import CALL, REPORT, Decision, Do
 from sagas.core.model import Attempt, SagaInstance
 from sagas.core.states import AttemptState, OutcomeKind, Suspension
 from sagas.definition.shelf import Shelf
@@ -57,27 +57,43 @@ def attempt_of(given: Any, kind: str = "run") -> Attempt:
     return Attempt(instance, 0, kind, 1, fresh=True)
 
 
+def limited(attempt: Attempt) -> tuple[str, Decision]:
+    """Which functions were called for the limits of its step, and what is decided then."""
+    decision, words = AttemptMachine().limit(attempt, 5.0), ""
+    if decision.do is Do.ASK:
+        assert decision.question and attempt.state is AttemptState.CLAIMED
+        words = decision.question.words
+        attempt.rare.returned |= decision.question.answers()
+        decision = AttemptMachine().limit(attempt, 5.0)
+    return words, decision
+
+
 def test_the_key_of_a_limit_is_asked_for_once() -> None:
     """A compensation has none; whoever cannot say it is not called."""
     attempt = attempt_of({"account": "a"})
-    assert AttemptMachine().limit(attempt, 5.0) == CALL and attempt.rare.limit_key == '["a"]'
+    assert limited(attempt) == ("fair_by= and concurrency_by=", CALL) and attempt.rare.limit_key == '["a"]'
     attempt.instance.text = "{}"
-    assert AttemptMachine().limit(attempt, 5.0) == CALL
+    assert limited(attempt) == ("", CALL)
     undo = attempt_of({"account": "raises"}, "undo")
-    assert AttemptMachine().limit(undo, 5.0) == CALL and undo.extras is None
+    assert limited(undo) == ("fair_by=", CALL) and undo.rare.limit_key is None
     for given, kind in [("raises", OutcomeKind.FAILED), ("fails", OutcomeKind.FAILED_PERMANENTLY), ("odd", OutcomeKind.FAILED)]:
         attempt = attempt_of({"account": given})
-        assert AttemptMachine().limit(attempt, 5.0) == REPORT and attempt.state is AttemptState.FINISHED
+        assert limited(attempt)[1] == REPORT and attempt.state is AttemptState.FINISHED
         assert attempt.outcome and attempt.outcome.kind is kind
     attempt = attempt_of({"number": 7})
-    decision = AttemptMachine().limit(attempt, 5.0)
+    decision = limited(attempt)[1]
     assert decision.do is Do.SUSPEND and attempt.reason is Suspension.CANNOT_DECODE
 
 
 def test_whose_a_saga_is() -> None:
     """Where its definition cannot say that, it is nobody's."""
-    assert attempt_of({"account": "a"}).instance.tenant == '"a"'
-    assert attempt_of({}).instance.tenant == "null"
+    for given, tenant in (({"account": "a"}, '"a"'), ({}, "null")):
+        attempt = attempt_of(given)
+        assert attempt.instance.tenant is None
+        limited(attempt)
+        assert attempt.instance.tenant == tenant
+        attempt.instance.forget()  # its functions that run have slots of this tenant
+        assert attempt.instance.tenant == tenant
 
 
 class Odd(Exception):

@@ -347,6 +347,41 @@ def test_aborts_are_asked_again_or_answered() -> None:
     assert found.aborted == [abort] and abort.done is False and shard.aborts == []
 
 
+def aborted_by_the_log(shard: ShardDriver) -> recovery.Recovery:
+    """A shard that was taken up after its engine ended, and of which the log has an abort."""
+    loaded = rows()
+    loaded.text = event("abort", "draining")
+    shard.fail()
+    shard.to(ShardState.LOADING)
+    shard.loaded(loaded)
+    reply = shown("draining", None, ["running", "waiting"]).replace("false", "true", 1)
+    known = {saga.key: saga for saga in shard.sagas.values()}
+    told = json.dumps({"busy": [{"saga": 0, "step": 0, "task": "run", "attempt": 1}]})
+    return recovery.recover(loaded, [told, reply], NOW, shard, known)
+
+
+@pytest.mark.parametrize("is_answered", [False, True])
+def test_a_saga_is_aborted_by_one_abort(is_answered: bool) -> None:
+    """Of two that were asked when the engine ended, by the first: by neither if another one was
+    answered before.
+    """
+    shard = driver()
+    saga = begun(shard).instance
+    if is_answered:
+        before = Abort(saga)
+        shard.abort(before)
+        shard.requests(0)
+        kept(shard, come(shard, event("abort", "draining")))
+        assert before.done
+    aborts = [Abort(saga), Abort(saga)]
+    for abort in aborts:
+        shard.abort(abort)
+    shard.requests(0)
+    found = aborted_by_the_log(shard)
+    assert found.aborted == aborts
+    assert [abort.done for abort in aborts] == [not is_answered, False]
+
+
 def test_a_saga_that_comes_from_the_store_has_its_options() -> None:
     """Another program started it: deadline and trace context are in the store."""
     shard = driver()

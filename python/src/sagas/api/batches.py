@@ -6,17 +6,18 @@ import asyncio
 import builtins
 import contextlib
 import threading
-from collections.abc import Callable
+from collections.abc import Callable, Iterable
 from typing import TypeVar
 
 from sagas.base.errors import StoreUnavailable
+from sagas.base.logger import logger
 from sagas.core.attention import Attention
 from sagas.core.results import DefinitionCount, Summary
 from sagas.definition import arguments
-from sagas.definition.labels import Labels, checked
+from sagas.definition.labels import Labels, checked, selecting
 from sagas.definition.payloads import Payloads
 from sagas.definition.saga import Saga
-from sagas.inspection import lists, pages
+from sagas.inspection import lists, pages, unmatched
 from sagas.inspection.question import Question
 from sagas.storage import admin
 from sagas.storage.batches import Batch, BatchResult
@@ -178,15 +179,16 @@ class Batches:
             timeout: Seconds to wait for answers (default: until all nodes that run answered).
 
         Returns:
-            The keys of the sagas, by what came of it.
+            The keys of the sagas, by what came of it. If the filter selects nothing, its `warnings`
+            say which labels no saga has.
 
         Raises:
-            InvalidLabel: A label is not valid.
+            InvalidLabel: A label is not valid, or `labels` is empty, which would mean every saga.
             StoreUnavailable: The database does not answer; what was asked before is executed.
             Closed: The store is closed.
         """
         told = {"by": by, "note": note}
-        found = Filter(saga=name_of(saga), labels=checked(labels))
+        found = Filter(saga=name_of(saga), labels=selecting(labels))
         return await self._run(found, lambda batch: batch.abort(told, timeout))
 
     async def resolve_all(
@@ -206,13 +208,13 @@ class Batches:
             labels: Labels that the sagas have, all of these (default: any).
 
         Returns:
-            The keys of the sagas, as `done`.
+            The keys of the sagas, as `done`; `warnings` as of `abort_all`.
 
         Raises:
-            InvalidLabel: A label is not valid.
+            InvalidLabel: As of `abort_all`.
         """
         arguments.text("note", note, "what was done about it")
-        found = Filter(saga=name_of(saga), labels=checked(labels))
+        found = Filter(saga=name_of(saga), labels=selecting(labels))
         return await self._run(found, lambda batch: batch.resolve(note, by))
 
     async def _run(self, filter: Filter, work: Callable[[Batch], BatchResult]) -> BatchResult:
@@ -222,8 +224,20 @@ class Batches:
             beside(self._location(), lambda link: work(Batch(link, filter, stop)))
         )
         try:
-            return await asyncio.shield(job)
+            result = await asyncio.shield(job)
         except asyncio.CancelledError:
             stop.set()
             await asyncio.wait([job])
             raise
+        if not (result.done or result.refused or result.waiting):
+            result.warnings = await self._unmatched(filter)
+        return result
+
+    async def _unmatched(
+        self, filter: Filter, step: str | None = None, names: Iterable[str] = ()
+    ) -> builtins.list[str]:
+        """What is said, and logged, of what a filter names and nothing has."""
+        warnings = await self._answer(unmatched.of(filter, step, names))
+        for warning in warnings:
+            logger.warning("%s", warning)
+        return warnings

@@ -22,7 +22,7 @@ from sagas.core import attention, history, step_reports
 from sagas.core.batch import Known, SagaRow
 from sagas.core.outcomes import Outcome, reported
 from sagas.core.results import HistoryEvent, SagaResult
-from sagas.definition import arguments, payloads, serialization
+from sagas.definition import arguments, children, payloads, serialization
 from sagas.definition.blobs import LEAST, BlobStore
 from sagas.definition.blobs import check as check_blobs
 from sagas.definition.compiled import Kind, version_of
@@ -195,6 +195,7 @@ class Client(Schedules):
                 await heard.close()
                 await self._asker.close()
         finally:
+            self._starter.close()
             self._opened.end()
             if self._record:
                 self._record.close()
@@ -244,6 +245,7 @@ class Client(Schedules):
         if connection is not None:
             caller_connection.check_kind(connection, plain=False)
         words = self._starter.words(saga, key, input, labels, deadline, traceparent)
+        await self._starter.check_shape(saga, input)
         self._sagas[saga.name, saga.version] = saga
         new = await self._starter.start(words, connection)
         return ClientRun(self, key, words, new)
@@ -281,6 +283,7 @@ class Client(Schedules):
         row = await self._row(key)
         if row.phase is not None:
             return False
+        children.check_abortable(key)
         return bool(await self._request(row, "abort", "null"))
 
     async def complete(

@@ -21,6 +21,7 @@ from sagas.definition.saga import Saga
 from sagas.definition.shape import Shape
 from sagas.definition.start_options import Deadline, deadline_at
 from sagas.runtime import relocation
+from sagas.runtime.declared_calls import DeclaredCalls
 from sagas.storage import codec_note
 from sagas.storage.postgresql import caller_connection, connections, notifications, replication
 
@@ -155,6 +156,15 @@ class StartTeller:
             self._tells = False
 
 
+def shape_check(saga: Saga, input: Any) -> Callable[[], object] | None:
+    """What calls the functions by which the steps of a saga come from its input, and raises what
+    they raise; None if they do not come from it."""
+    if not saga.is_shaped:
+        return None
+    plain = serialization.write_value(input, "input")
+    return lambda: shape_text.write(Shape(saga, plain))
+
+
 class ClientStarter:
     """Writes starts, in transactions of its own or of the callers."""
 
@@ -162,7 +172,7 @@ class ClientStarter:
         self._payloads, self._tracer = payloads, tracing.tracer()
         self._asker, self._path, self._most = asker, path, most
         self._digests: WeakKeyDictionary[Saga, str | None] = WeakKeyDictionary()
-        self._teller = StartTeller(asker)
+        self._teller, self._declared = StartTeller(asker), DeclaredCalls(most)
         self._checked: WeakSet[caller_connection.Given] = WeakSet()
         """connections that were given, and are to the store's database"""
 
@@ -181,8 +191,6 @@ class ClientStarter:
             self._digests[saga] = digest_of(definition_text.declared(saga)) if saga.parts else None
         about = {"key": key, "saga": saga.name, "version": saga.version, "of": saga}
         plain = serialization.write_value(input, "input")
-        if saga.is_shaped:
-            shape_text.write(Shape(saga, plain))  # what raises here would be refused by the nodes
         text = self._payloads.encode(plain)
         about |= {"payloads": self._payloads, "path": self._path}
         about["encodes"] = self._payloads.codec is not None
@@ -190,6 +198,12 @@ class ClientStarter:
         at = deadline_at(saga.deadline if deadline is None else deadline, time.time())
         digest = self._digests[saga]
         return about | {"input": text, "digest": digest, "labels": told, "deadline": at}
+
+    async def check_shape(self, saga: Saga, input: Any) -> None:
+        """Raise what a start would be refused for by the nodes, if the steps of a saga come from
+        its input. Functions of the definition say so, in a thread."""
+        if (check := shape_check(saga, input)) is not None:
+            await self._declared.call(saga.name, check)
 
     async def start(self, words: dict[str, Any], connection: Connection | None) -> bool:
         """Writes a start; whether the row is there."""
@@ -242,6 +256,10 @@ class ClientStarter:
         if written.tells:
             self._teller.tell()
         return written.is_new
+
+    def close(self) -> None:
+        """Call no functions of definitions any more."""
+        self._declared.close()
 
     async def database(self) -> list[Row]:
         """Which database the store is in; nothing where this role may not know."""

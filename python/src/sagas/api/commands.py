@@ -7,6 +7,7 @@ import contextlib
 from collections.abc import Iterable
 from typing import Any
 
+from sagas.api import child_reports
 from sagas.api.repeated_reports import check_again
 from sagas.api.saga_lookup import SagaLookup
 from sagas.api.store_access import StoreAccess
@@ -24,7 +25,7 @@ from sagas.core.early_reports import EarlyReport, Refusal
 from sagas.core.model import Attempt, SagaInstance
 from sagas.core.outcomes import Outcome
 from sagas.core.states import Action
-from sagas.definition import serialization
+from sagas.definition import children, serialization
 from sagas.definition.compiled import Word
 from sagas.definition.validation import meant
 from sagas.runtime import current_step, operator_commands
@@ -49,7 +50,7 @@ class Commands:
         return key, what, text, self._access.inside.clock()
 
     async def abort(self, key: str, request: Wanted, of: int | None = None) -> bool:
-        """Aborts a saga. False where it is over, or was aborted before."""
+        """Aborts a saga. False where it is over, or was aborted before. Raises `NotAbortable`."""
         while True:
             inside = self._access.inside
             live = await self._lookup.live(key)
@@ -60,6 +61,7 @@ class Commands:
                 row = await self._lookup.row(key, of)
                 if row.phase is not None:
                     return False
+                children.check_abortable(key)
                 if key in inside.sagas.by_key:
                     continue
                 return bool(await self._hand_over(row, "abort", None, request))
@@ -73,6 +75,8 @@ class Commands:
                 if live.over or is_here:
                     return False
                 continue
+            if not live.over:
+                children.check_abortable(key)
             try:
                 return await inside.shards.abort(live, request)
             except Moved:
@@ -146,6 +150,8 @@ class Commands:
             while attempt is not None and attempt.pending:
                 await self._access.inside.executor.changes.wait(attempt)
                 self._access.inside  # raises, where it was closed meanwhile
+            if self._access.inside.sagas.by_key.get(key) is not live:
+                continue  # its shard was lost meanwhile
             if attempt is not None and live.busy.get(attempt.word) is not attempt:
                 continue
             if attempt is None or not exhaustion.may_retry(attempt):
@@ -164,7 +170,12 @@ class Commands:
         not here any more: the answer never rests on what the store may lack.
         """
         inside, key, step = self._access.inside, attempt.instance.key, attempt.name
-        while not attempts.is_asked(attempt):
+        is_checked = not child_reports.is_of_child(attempt, outcome)
+        while not (is_checked and attempts.is_asked(attempt)):
+            if attempts.is_asked(attempt):
+                await child_reports.check(inside.store.read, attempt, outcome)
+                is_checked = True
+                continue
             is_over = await inside.executor.until_kept(attempt)
             is_here = attempt.instance.busy.get(attempt.word) is attempt
             if is_over or not is_here or inside.sagas.by_key.get(key) is not attempt.instance:

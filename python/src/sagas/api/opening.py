@@ -59,6 +59,7 @@ def open(
         accept_new: Whether to start new sagas (default: True); if not, only open ones go on.
         engine_processes: Maximum number of engine processes (default: 16).
         threads: Maximum number of plain functions that run at once (default: `concurrency`).
+            Functions of definitions, such as `when` and `until`, have as many threads, at least 4.
         shutdown_timeout: Seconds, or a timedelta, after which closing cancels running functions
             (default: never).
         idle: Seconds, or a timedelta, after which an idle engine process ends (default: 5).
@@ -103,7 +104,9 @@ def open(
           failed    send: sagas.Fail: sold out
     """
     words = locals()
-    return Store(**words)
+    store = Store(**words)
+    store.opened_with = words
+    return store
 
 
 def _without_async(make: Callable[P, Store]) -> Callable[P, SyncStore]:

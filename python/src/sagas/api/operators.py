@@ -48,6 +48,7 @@ class Operators(Questions):
             False if the saga had ended, or was aborted before.
 
         Raises:
+            NotAbortable: The saga undoes a child, and is open.
             NoSuchSaga: No saga has the key.
             OwnerUnavailable: The node that executes the saga does not answer.
             StoreUnavailable: The database does not answer.
@@ -67,6 +68,11 @@ class Operators(Questions):
         the step takes it when it begins, and calls no function. If the saga ends without the
         step, the report is in `attention` (see `compensate`).
 
+        A step that starts a child is completed with a `ChildResult`: `{"key": "t/:stay", "phase":
+        "completed", "results": {"room": 7}}`. The key is that of a child which this step started
+        and which has ended; a compensation undoes what is left of it. With None as the key, there
+        is no child, and nothing to undo.
+
         Args:
             key: The saga's key.
             step: The step, or its name.
@@ -81,6 +87,7 @@ class Operators(Questions):
             ConflictingReport: Another outcome was reported first, and that one counts.
             StepNotWaiting: Nobody has to report this step; or it has not begun, and `early` is
                 False, the step is neither an approval nor external, or the saga is being undone.
+            InvalidResult: The step starts a child, and this is not the result of one.
             NoSuchSaga: No saga has the key.
             NotSerializable: The result is not JSON.
             WouldWaitForever: An approval's function reports its own approval.

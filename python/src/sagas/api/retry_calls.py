@@ -3,16 +3,16 @@
 from __future__ import annotations
 
 import builtins
-from collections.abc import Awaitable
+from collections.abc import Awaitable, Iterable
 from typing import Any
 
 from sagas.api.batches import name_of
 from sagas.api.operators import Operators
-from sagas.base.errors import ConflictingReport, NoSuchSaga, StepNotWaiting
+from sagas.base.errors import ConflictingReport, InvalidResult, NoSuchSaga, StepNotWaiting
 from sagas.core.outcomes import Outcome, reported
 from sagas.core.states import Suspension
 from sagas.definition import arguments
-from sagas.definition.labels import Labels, checked
+from sagas.definition.labels import Labels, selecting
 from sagas.definition.saga import Saga
 from sagas.definition.step import Step
 from sagas.inspection import lists
@@ -62,14 +62,19 @@ class RetryCalls(Operators):
 
         Args:
             saga: Only sagas of this definition, or name (default: all).
-            step: Only this step, and its compensation (default: all).
+            step: Only this step, and its compensation (default: all). The name of a step with items
+                means all of them, and `hotel/room` a step of an included saga.
             labels: Only sagas with all of these labels (default: all).
             limit: How many at most, those first that have waited longest (default: 1,000).
             by: Who asks for it.
             note: Why.
 
         Returns:
-            How many. Those that somebody else has answered meanwhile do not count.
+            How many. Those that somebody else has answered meanwhile do not count. If no saga has a
+            label, or no definition the step, a warning is logged.
+
+        Raises:
+            InvalidLabel: As of `abort_all`.
         """
         return await self._each(
             self._exhausted(saga, step, labels, limit), None, {"by": by, "note": note}
@@ -89,6 +94,8 @@ class RetryCalls(Operators):
 
         Raises:
             NotSerializable: The result is not JSON.
+            InvalidResult: A step starts a child, and this is not the result of one. The others are
+                reported.
         """
         words = {"by": by, "note": note, "result": result}
         return await self._each(
@@ -121,6 +128,7 @@ class RetryCalls(Operators):
         """Answer those that wait; by a retry where there is no outcome."""
         what = "retry" if outcome is None else "fail" if "error" in words else "complete"
         by, note, count = words.pop("by"), words.pop("note"), 0
+        wrong: InvalidResult | None = None
         for one in await waits:
             kind = "undo" if one.undo else "run"
             asked = self._commands.noted(one.key, what, by, note, step=one.step, kind=kind, **words)
@@ -135,13 +143,22 @@ class RetryCalls(Operators):
                 count += 1
             except (StepNotWaiting, ConflictingReport, NoSuchSaga):  # somebody else was faster
                 continue
+            except InvalidResult as error:
+                wrong = wrong or error
+        if wrong is not None:
+            raise wrong
         return count
+
+    def _sagas(self) -> Iterable[Saga]:
+        return self._access.inside.shelf.sagas.values()
 
     async def _exhausted(
         self, saga: Saga | str | None, step: str | None, labels: Labels | None, limit: int
     ) -> builtins.list[Waits]:
         arguments.count("limit", limit)
-        within = Filter(saga=name_of(saga), labels=checked(labels))
-        most = limit if step is None else lists.ALL  # the rows have no names of steps
-        waits = lists.waits(most, why=Suspension.EXHAUSTED.value, within=within)
-        return [one for one in await self._answer(waits) if step in (None, one.step)][:limit]
+        within = Filter(saga=name_of(saga), labels=selecting(labels))
+        waits = lists.waits(limit, why=Suspension.EXHAUSTED.value, within=within, step=step)
+        if not (found := await self._answer(waits)):
+            names = [name for saga in self._sagas() for name, _ in saga.declared_steps]
+            await self._unmatched(within, step, names)
+        return found

@@ -10,6 +10,7 @@ import time
 from typing import Any, TypeVar
 
 from sagas.api.batches import Batches, beside
+from sagas.base.logger import logger
 from sagas.definition import serialization, timing, validation
 from sagas.definition.labels import Labels, checked
 from sagas.definition.payloads import Payloads
@@ -32,7 +33,7 @@ class Schedules(Batches):
         """How inputs are stored."""
         raise NotImplementedError
 
-    def _check_input(self, saga: Saga, text: str) -> None:
+    async def _check_input(self, saga: Saga, text: str) -> None:
         """Raises what a start of the saga with this input would, as far as is known here."""
 
     async def schedule(
@@ -45,6 +46,8 @@ class Schedules(Batches):
         every: datetime.timedelta | None = None,
         timezone: str = "UTC",
         catch_up: str = "last",
+        max: int = timing.MOST_MISSED,
+        overlap: str = "allow",
         labels: Labels | None = None,
     ) -> None:
         """Start a saga at certain times, once over all nodes.
@@ -64,6 +67,11 @@ class Schedules(Batches):
             timezone: The time zone of `cron` (default: UTC).
             catch_up: What becomes of times at which no node ran: `last` starts the last one, `all`
                 starts each, in order, `skip` starts none (default: `last`).
+            max: How many missed times are started at most, the last ones; the event
+                `schedule_missed` has the others (default: 100).
+            overlap: What becomes of a time while the saga of the time before is open: `allow`
+                starts it, `skip` does not, `queue` starts it once that saga has ended. With
+                `queue`, `catch_up` says what becomes of the times that wait (default: `allow`).
             labels: As of `Store.start`.
 
         Raises:
@@ -77,10 +85,10 @@ class Schedules(Batches):
         """
         timing.check_name(name)
         validation.check_given(saga)
-        when = timing.timing(cron, every, timezone, catch_up)
+        when = timing.timing(cron, every, timezone, catch_up, max, overlap)
         having = json.dumps(dict(checked(labels)))
         location, text = self._location(), serialization.write_value(input, "input")
-        self._check_input(saga, text)
+        await self._check_input(saga, text)
         words = (saga.name, saga.version), text, having, when, self._now(), self._stored()
         await beside(location, lambda link: schedules_module.Schedules(link).put(name, *words))
 
@@ -97,7 +105,9 @@ class Schedules(Batches):
     async def pause_schedule(self, name: str) -> None:
         """Start no more sagas of a schedule, until it is resumed.
 
-        A start that has begun before the call is finished: at most one saga at each node.
+        A start that has begun before the call is finished: at most one saga at each node. Times
+        that were missed before are not started: `error` of the schedule says how many, and so does
+        a warning in the log.
 
         Args:
             name: The schedule's name.
@@ -107,7 +117,12 @@ class Schedules(Batches):
             StoreUnavailable: The database does not answer.
             Closed: The store is closed.
         """
-        await beside(self._location(), lambda link: schedules_module.Schedules(link).pause(name))
+        now = self._now()
+        said = await beside(
+            self._location(), lambda link: schedules_module.Schedules(link).pause(name, now)
+        )
+        if said is not None:
+            logger.warning("schedule %r: %s", name, said)
 
     async def resume_schedule(self, name: str) -> None:
         """Start sagas of a paused schedule again. See `Store.pause_schedule`.

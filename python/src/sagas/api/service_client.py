@@ -23,6 +23,7 @@ from typing import Any
 from sagas.api.service_connection import NO_HEADERS, ServiceConnection, ServiceRefused
 from sagas.api.service_events import ServiceEvents
 from sagas.api.service_run import ServiceRun
+from sagas.api.service_values import ServiceValues
 from sagas.api.service_views import (
     ServiceSaga,
     ServiceSummary,
@@ -34,7 +35,9 @@ from sagas.api.service_views import (
 from sagas.base.errors import NoSuchSaga
 from sagas.core.pending import still_open
 from sagas.definition import arguments, tracing
+from sagas.definition.blobs import BlobStore
 from sagas.definition.labels import Labels, checked
+from sagas.definition.payloads import Codec
 from sagas.definition.saga import Saga
 from sagas.definition.start_options import Deadline, deadline_at
 from sagas.definition.step import Step
@@ -60,8 +63,9 @@ class ServiceClient:
     """
 
     def __init__(
-        self, url: str | Sequence[str], token: str | None = None, *, timeout: float = 60.0
-    ) -> None:
+        self, url: str | Sequence[str], token: str | None = None, *, timeout: float = 60.0,
+        codec: Codec | None = None, blobs: BlobStore | None = None,
+    ) -> None:  # fmt: skip
         """Make a client. It connects at its first call.
 
         Args:
@@ -69,13 +73,19 @@ class ServiceClient:
                 next one is asked.
             token: The token of a caller, an approver or an operator (default: None).
             timeout: Seconds for which a call repeats its request (default: 60).
+            codec: That of the service's store: inputs and results are decoded here (default: they
+                are as the service answers them, `{"$codec": ...}` if they are encoded).
+            blobs: That of the service's store: large inputs and results are read there (default:
+                they are references, `{"$blob": ...}`).
 
         Raises:
+            TypeError: The codec or the blob store lacks a function.
             ValueError: The URL is not the address of a service, or the timeout is not valid.
         """
         self.timeout = arguments.time("timeout", timeout, none=False)
         self._closed, self._tracer = threading.Event(), tracing.tracer()
         self._service = ServiceConnection(url, token, self.timeout, self._closed)
+        self._values = ServiceValues(codec, blobs)
         self._streams: weakref.WeakSet[ServiceEvents] = weakref.WeakSet()
 
     @property
@@ -142,11 +152,12 @@ class ServiceClient:
 
         Raises:
             InvalidKey: The key is not valid.
+            CannotDecode: The codec or the blob store of this client cannot read a value.
             ServiceRefused: The service refuses the token.
             ServiceUnavailable: No service answered in time.
         """
         try:
-            return saga_of(self._ask(_path(key)))
+            return saga_of(self._values.saga(self._ask(_path(key))))
         except NoSuchSaga:
             return None
 
@@ -163,6 +174,7 @@ class ServiceClient:
         Raises:
             TimeoutError: It has not ended in time, and goes on. The message says what it waits for.
             NoSuchSaga: No saga has the key.
+            CannotDecode: The codec or the blob store of this client cannot read a value.
             ServiceRefused: The service refuses the token.
             ServiceUnavailable: No service answered in time.
         """
@@ -176,7 +188,7 @@ class ServiceClient:
                 max(LATE, min(left, self.timeout)) + seconds,
             )  # fmt: skip
             if told["over"]:
-                return saga_of(told)
+                return saga_of(self._values.saga(told))
             if time.monotonic() >= until:
                 raise still_open(key, most, waits_of(told))
 

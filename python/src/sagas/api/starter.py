@@ -10,7 +10,8 @@ from sagas.api.saga_lookup import SagaLookup
 from sagas.api.store_access import StoreAccess
 from sagas.base.errors import Closed, KeyConflict, StoreUnavailable
 from sagas.core.model import SagaInstance
-from sagas.definition import arguments, children, serialization, start_options
+from sagas.definition import arguments, children, serialization, start_options, undo_sagas
+from sagas.definition.compiled import Kind
 from sagas.definition.labels import Labels, checked, with_token
 from sagas.definition.payloads import ABSENT
 from sagas.definition.saga import Saga
@@ -40,37 +41,58 @@ class Starter:
         """Starts a saga. Whether this start began it. `token`: the name of a service's token."""
         inside = self._access.here()
         arguments.key(key)
+        undo_sagas.check_started(saga)
         text = serialization.write_value(input, "input")
         fitted = self._shelf.fit(saga, text)
         if saga.has_children:
             children.check_key(key, saga)
-        shape, options = fitted.shape, start_options.NONE
+        options = start_options.NONE
         if deadline is None:
             deadline = saga.deadline
-        given = (labels, deadline, shape, traceparent, token)
+        given = (labels, deadline, traceparent, token)
         if any(word is not None for word in given):
             time, told = deadline_at(deadline, inside.clock()), checked(labels)
             told = told if token is None else with_token(told, token, len(text))
-            options = StartOptions(told, time, None, shape, traceparent)
+            options = StartOptions(told, time, None, None, traceparent)
+        if fitted is None:
+            return self._shape(inside, saga, key, text, options, self.accepts_new)
         return self._start(inside, saga, fitted, key, text, options, self.accepts_new)
 
-    def start_child(self, saga: Saga, key: str, input: Any, options: StartOptions) -> Begun:
-        """Starts a child, also where the store starts no new sagas: its parent is not new."""
+    def start_child(
+        self, saga: Saga | Kind, key: str, input: Any, options: StartOptions
+    ) -> Begun:  # fmt: skip
+        """Starts a child, also where the store starts no new sagas: its parent is not new. What
+        undoes a child comes as its definition."""
         inside = self._access.here()
         arguments.key(key, or_child=True)
         # the input of a saga that undoes a child has the child's results
-        write = serialization.write if saga.undoes else serialization.write_value
-        text = write(input, "input")
+        if isinstance(saga, Kind):
+            text = serialization.write(input, "input")
+            return self._start(
+                inside, saga, Fitted(saga, None, None), key, text, options, accepts=True
+            )
+        text = serialization.write_value(input, "input")
         fitted = self._shelf.fit(saga, text)
-        if fitted.shape is not None:
-            options = dataclasses.replace(options, shape=fitted.shape)
+        if fitted is None:
+            return self._shape(inside, saga, key, text, options, accepts=True)
         return self._start(inside, saga, fitted, key, text, options, accepts=True)
 
+    async def _shape(
+        self, inside: Coordinator, saga: Saga, key: str, text: str, options: StartOptions,
+        accepts: bool,
+    ) -> bool:  # fmt: skip
+        """As `_start`, of a saga whose steps come from its input. Its key is taken only then."""
+        fitted = await inside.declared.fit(self._shelf, saga, text)
+        self._access.here()  # it may be closed by now
+        return await self._start(inside, saga, fitted, key, text, options, accepts)
+
     def _start(
-        self, inside: Coordinator, saga: Saga, fitted: Fitted, key: str, text: str,
+        self, inside: Coordinator, saga: Saga | Kind, fitted: Fitted, key: str, text: str,
         options: StartOptions, accepts: bool,
     ) -> Begun:  # fmt: skip
-        kind, _, wrong = fitted
+        kind, shape, wrong = fitted
+        if shape is not None:
+            options = dataclasses.replace(options, shape=shape)
         text = self._shelf.payloads.encode(text)
         is_new = wrong is None and accepts and key not in inside.sagas.by_key
         if is_new and self._lookup.guessing.is_worth():  # as far as the last ones tell
@@ -80,7 +102,7 @@ class Starter:
         return self._look(inside, saga, fitted, key, text, options, accepts)
 
     async def _look(
-        self, inside: Coordinator, saga: Saga, fitted: Fitted, key: str, text: str,
+        self, inside: Coordinator, saga: Saga | Kind, fitted: Fitted, key: str, text: str,
         options: StartOptions, accepts: bool,
     ) -> bool:  # fmt: skip
         """As `_start`, of a key that may be there."""
@@ -98,13 +120,18 @@ class Starter:
         if live and live.text == ABSENT and (row := await inside.store.find(key)):
             there = row.saga, row.input
         if there:
-            error = relocation.conflict(key, kind or saga, text, *there, payloads)
+            kind_or_saga, store = kind or saga, inside.store
+            error = await relocation.conflict_there(
+                store, key, kind_or_saga, text, *there, payloads
+            )
             if error and live and not live.committed and not inside.store.shared:
                 # that start may have no right to the key either
                 row = await inside.store.find(key)
                 if row:
                     there = row.saga, row.input
-                    error = relocation.conflict(key, kind or saga, text, *there, payloads)
+                    error = await relocation.conflict_there(
+                        store, key, kind_or_saga, text, *there, payloads
+                    )
                     live = None
             if error:
                 raise error
@@ -148,7 +175,10 @@ class Starter:
         row = await self._lookup.find(live.key)
         if row is None:
             return False
-        error = relocation.conflict(live.key, live.kind, live.text, row.saga, row.input)
+        store = self._access.inside.store
+        error = await relocation.conflict_there(
+            store, live.key, live.kind, live.text, row.saga, row.input
+        )
         if error:
             raise error
         return True

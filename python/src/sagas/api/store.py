@@ -7,7 +7,7 @@ import builtins
 import datetime
 import os
 import signal
-from collections.abc import Callable, Iterable
+from collections.abc import Callable, Iterable, Mapping
 from types import TracebackType
 from typing import TYPE_CHECKING, Any
 
@@ -20,7 +20,7 @@ from sagas.api.starter import Starter
 from sagas.api.store_access import StoreAccess, transactions
 from sagas.api.workers import Workers
 from sagas.base import program as program_module
-from sagas.base.errors import WouldWaitForever
+from sagas.base.errors import InvalidStore, WouldWaitForever
 from sagas.base.events import Hook, Teller
 from sagas.base.logger import logger
 from sagas.core.batch import SagaRow
@@ -54,7 +54,10 @@ class Store(RetryCalls):
             it before opening. Then such a step starts when it is claimed.
         workers: The tasks for workers.
         deliveries: What webhooks are told.
+        opened_with: The arguments of `sagas.open`, by name, for `sagas serve --app`.
     """
+
+    opened_with: Mapping[str, Any] = {}
 
     def __init__(
         self, path: str | os.PathLike[str], sagas: Iterable[Saga], *, concurrency: int,
@@ -112,7 +115,7 @@ class Store(RetryCalls):
     @property
     def sagas(self) -> builtins.list[Saga]:
         """The definitions that it was opened with."""
-        return [*self._shelf.sagas.values()]
+        return [*self._shelf.declared]
 
     @property
     def codec(self) -> Codec | None:
@@ -128,7 +131,8 @@ class Store(RetryCalls):
             StoreUnavailable: The file or the server does not answer.
             InvalidStore: It is no store, or not one that this program can go on from.
             MissingCodec: Its values are encoded, and no codec was given.
-            MissingStep: A saga that is not over needs a step that this program has no function for.
+            MissingStep: A saga that is not over needs a step that this program has no function for,
+                or may undo a completed child whose compensation this program does not have.
             EngineError: The program `sagas` cannot be started, or refuses a shard.
             RuntimeError: The store is open already.
         """
@@ -242,23 +246,38 @@ class Store(RetryCalls):
     def _inside(self) -> Coordinator:
         return self._access.inside
 
+    @property
+    def _refusal(self) -> asyncio.Future[InvalidStore]:
+        """Why it cannot execute anything, and will not be able to."""
+        return self._inside.refusal
+
     async def serve(self) -> None:
         """Wait for SIGTERM or SIGINT, in a program that only executes sagas.
 
         Then close the store: its sagas go on at another node, or when it is opened again.
 
         Raises:
+            InvalidStore: The database has no tables of the store any more, and this node cannot
+                make them. Then nothing is executed.
             Closed: The store is not open.
         """
-        loop = self._inside.loop
-        told = asyncio.Event()
+        loop, refusal = self._inside.loop, self._refusal
+        asked: asyncio.Future[None] = loop.create_future()
+
+        def ask() -> None:
+            if not asked.done():
+                asked.set_result(None)
+
         for number in (signal.SIGTERM, signal.SIGINT):
-            loop.add_signal_handler(number, told.set)
+            loop.add_signal_handler(number, ask)
         try:
-            await told.wait()
+            ends: list[asyncio.Future[Any]] = [asked, refusal]
+            await asyncio.wait(ends, return_when=asyncio.FIRST_COMPLETED)
         finally:
             for number in (signal.SIGTERM, signal.SIGINT):
                 loop.remove_signal_handler(number)
+        if refusal.done():
+            raise refusal.result()
 
     async def start(
         self, saga: Saga, key: str, input: Any = None, *, labels: Labels | None = None,
@@ -313,9 +332,10 @@ class Store(RetryCalls):
         new = await self._starter.start(saga, key, input, labels, deadline, trace, token)
         return Run(self, key, new)
 
-    def _check_input(self, saga: Saga, text: str) -> None:
-        if wrong := self._shelf.fit(saga, text).wrong:
-            raise wrong
+    async def _check_input(self, saga: Saga, text: str) -> None:
+        fitted = await self._inside.declared.fit(self._shelf, saga, text)
+        if fitted.wrong:
+            raise fitted.wrong
 
     async def _start_scheduled(self, one: Schedule, key: str) -> None:
         saga = self._shelf.sagas[one.saga, one.version]

@@ -8,6 +8,7 @@ from typing import TYPE_CHECKING, Any
 
 import psycopg
 
+from sagas.api import client_start
 from sagas.api.client import Client
 from sagas.api.client_run import ClientRun
 from sagas.api.facade import Facade, blocking
@@ -132,6 +133,8 @@ class SyncClient(Facade[Client]):
         caller_connection.check_kind(connection, plain=True)
         starter = self._inner._starter
         words = starter.words(saga, key, input, labels, deadline, traceparent)
+        if (check := client_start.shape_check(saga, input)) is not None:
+            check()
         new = starter.start_now(words, connection, self._loop.do)
         return SyncClientRun(self, ClientRun(self._inner, key, words, new))
 

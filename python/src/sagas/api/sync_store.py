@@ -2,11 +2,13 @@
 
 from __future__ import annotations
 
+import asyncio
 import signal
 import threading
 from types import TracebackType
 from typing import TYPE_CHECKING, Any
 
+from sagas.base.errors import InvalidStore
 from sagas.api.facade import Facade, asked, blocking
 from sagas.api.loop_thread import Loop
 from sagas.api.run import Run
@@ -103,6 +105,7 @@ class SyncStore(Facade[Store]):
         """Wait for SIGTERM or SIGINT, in the main thread. See `Store.serve`.
 
         Raises:
+            InvalidStore: See `Store.serve`.
             RuntimeError: The call is made in another thread.
         """
         if threading.current_thread() is not threading.main_thread():
@@ -114,8 +117,16 @@ class SyncStore(Facade[Store]):
             number: signal.signal(number, lambda *_: told.set())
             for number in (signal.SIGTERM, signal.SIGINT)
         }
+
+        async def watch() -> asyncio.Future[InvalidStore]:
+            self._inner._refusal.add_done_callback(lambda _: told.set())
+            return self._inner._refusal
+
         try:
+            refusal = self._loop.do(watch())
             told.wait()
+            if refusal.done():
+                raise refusal.result()
         finally:
             for number, handler in before.items():
                 signal.signal(number, signal.SIG_DFL if handler is None else handler)

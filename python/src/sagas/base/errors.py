@@ -10,6 +10,7 @@ SagasError
 |-- ConflictError             something else was there first, and counts
 |   |-- KeyConflict           the key has another saga or input
 |   |-- LeaseLost             another worker has the task, or it is over
+|   |-- NotAbortable          the saga undoes a child, so it is not aborted
 |   |-- StepNotWaiting        nobody has to report anything about the step
 |   `-- ConflictingReport     another outcome was reported before (a StepNotWaiting)
 |-- InvalidError              what was given, or is stored, is not valid
@@ -22,6 +23,7 @@ SagasError
 |   |-- InvalidSchedule       a schedule is not well made (a ValueError, too)
 |   |-- InvalidLease          the lease was not issued for this task
 |   |-- TooLarge              a saga has too many steps or needs for its input
+|   |-- InvalidResult         a child step was completed with what is no child's result
 |   |-- CannotDecode          a stored value cannot be read as its type
 |   `-- NotSerializable       a value is no JSON (a TypeError, too)
 |       |-- InvalidKey
@@ -113,6 +115,7 @@ class WrongStore(InvalidError):
 class MissingStep(InvalidError):
     """An open saga needs a step, or a compensation, that this program does not have.
 
+    That may be a compensation of a completed child, which a saga above it can still undo.
     Declare the function again, or run the older program with `open(..., accept_new=False)` until
     its sagas have ended. Over PostgreSQL another node may have it: then nothing is raised.
     """
@@ -131,6 +134,14 @@ class NoSuchSaga(SagasError):
 
 class StepNotWaiting(ConflictError):
     """Nobody has to report this step now: it has not started, is over, or runs."""
+
+
+class NotAbortable(ConflictError):
+    """The saga undoes a child, and such a saga is not aborted. Nothing was changed.
+
+    An abort would leave the rest of the child in place. If a compensation of it waits for a person,
+    answer it by `Store.retry`, `Store.complete` or `Store.fail`.
+    """
 
 
 class NoSuchSchedule(SagasError):
@@ -185,6 +196,14 @@ class TooLarge(InvalidError):
 
     Only the start of a saga with `for_each` raises it. The message has the limit. Pass fewer
     items, or start several sagas.
+    """
+
+
+class InvalidResult(InvalidError):
+    """A step that starts a child was reported with a result that a child cannot have.
+
+    Nothing was stored. Report the key of a child that this step started, or None in its place if
+    there is nothing to undo: see `Store.complete`. The message does not have the result.
     """
 
 

@@ -8,6 +8,7 @@ from collections.abc import Callable
 
 MOST = 10**12
 """No option means more than this, and the integers of each database hold it."""
+UNITS = {"s": 1, "m": 60, "h": 3600, "d": 86400, "w": 7 * 86400}
 MOST_SHOWN = 40
 """Characters of a value that a message repeats."""
 
@@ -37,6 +38,17 @@ def not_negative(text: str) -> float:
     if not 0 <= found <= MOST:
         raise invalid(text, f"a number from 0 to {MOST}")
     return found
+
+
+def age(text: str) -> float:
+    """Seconds, of a number and a unit: `30d`, `12h`."""
+    found = re.fullmatch(r"(\d{1,9})([smhdw])", text)
+    if not found:
+        raise argparse.ArgumentTypeError(
+            f"invalid duration {text!r}: use an integer and a unit s, m, h, d or w, for "
+            "example 30d"
+        )
+    return float(int(found[1]) * UNITS[found[2]])
 
 
 def _number(text: str) -> float:

@@ -8,15 +8,15 @@ import time
 from collections.abc import Sequence
 from typing import Any
 
-from sagas.base.errors import CannotDecode, ConflictingReport
+from sagas.base.errors import CannotDecode, ConflictingReport, InvalidResult, NotAbortable
 from sagas.cli.app_option import payloads_of
-from sagas.cli.batches import WAITS, abort_all, check_keys, filter_of, show_count
+from sagas.cli.batches import WAITS, abort_all, check_keys, filter_of, show_count, warn_of
 from sagas.cli.formatting import GOOD, NO, complain, show_json
 from sagas.cli.snapshot import Snapshot
-from sagas.core import step_reports
+from sagas.core import child_results, step_reports
 from sagas.core.outcomes import reported
 from sagas.core.states import Suspension
-from sagas.definition.children import key_of
+from sagas.definition import children
 from sagas.definition.payloads import ENVELOPE
 from sagas.definition.serialization import TOO_DEEP, is_deeper
 from sagas.definition.validation import meant
@@ -35,6 +35,7 @@ VERBS = {"complete": "completes", "fail": "fails", "retry": "retries"}
 WITHDRAWN = "withdrawn"
 """The answer to an abort of a start that no node had taken."""
 SAGA = f"SELECT id, {PHASE} FROM sagas s WHERE key = ?"
+CHILDREN = child_results.CHILDREN.format(PHASE)
 
 
 def ask(path: str, key: str, what: str, value: Any, timeout: float) -> tuple[Any, bool]:
@@ -93,6 +94,8 @@ def what_is_asked(link: admin.Source, key: str, what: str, value: Any) -> int | 
         )
     if phase != "open":
         raise Trouble(f"{key} has ended ({phase}), so there is nothing to {what}")
+    if what == "abort":
+        check_abortable(key)
     if what in ("complete", "fail", "retry"):
         check_step(link, key, id, value["step"])
     return int(id)
@@ -121,6 +124,27 @@ def is_repeated(link: admin.Source, key: str, what: str, value: Any) -> bool:
             return False
         return True
     return False
+
+
+def check_abortable(key: str) -> None:
+    """Raises `Trouble` where the saga undoes a child: no program would abort it."""
+    try:
+        children.check_abortable(key)
+    except NotAbortable as error:
+        raise Trouble(str(error)) from None
+
+
+def check_child(link: admin.Source, key: str, step: str, result: Any) -> None:
+    """Raises `Trouble` where a step that has started a child is completed with what is none."""
+    for id, phase in link.ask(SAGA, key):
+        rows = [(str(key), str(phase)) for key, phase in link.ask(CHILDREN, id)]
+        is_child = any(children.is_of_step(one, key, step) for one, _ in rows)
+        if phase != "open" or not is_child or children.undoes_child(key):
+            return
+        try:
+            child_results.check(key, step, result, rows, None)
+        except InvalidResult as error:
+            raise Trouble(str(error)) from None
 
 
 def check_step(link: admin.Source, key: str, id: int, step: str) -> None:
@@ -188,6 +212,8 @@ def complete(path: str, words: argparse.Namespace) -> int:
     payloads = payloads_of(words)
     with admin.writing(path) as link:
         codec_note.check(link, payloads)
+        if words.key and not words.undo:
+            check_child(link, words.key, words.step, result)
     kept = {"result": payloads.encode_value(result)}
     return answer(path, words, "complete", kept, "succeeded", "not reported")
 
@@ -218,7 +244,8 @@ def compensate(path: str, words: argparse.Namespace) -> int:
     calls the compensation, now or when it opens the store.
     """
     value = {"step": words.step} | ({"note": words.note} if words.note else {})
-    done = f"{words.step} is compensated, by the saga {key_of(words.key, words.step, undo=True)}"
+    undo = children.key_of(words.key, words.step, undo=True)
+    done = f"{words.step} is compensated, by the saga {undo}"
     return request(path, words, "compensate", value, done, "not compensated")
 
 
@@ -242,9 +269,10 @@ def answer(
     if not words.all:
         return request(path, words, what, report_of(words) | told, f"{words.step} {done}", refused)
     why = Suspension.EXHAUSTED.value
+    of = filter_of(words)
     with Snapshot(path) as store:
-        waits = store.ask(lists.waits(lists.ALL, why=why, within=filter_of(words)))
-    waits = [one for one in waits if words.only in (None, one.step)]
+        waits = store.ask(lists.waits(lists.ALL, why=why, within=of, step=words.only))
+    warn_of(path, of, is_needed=not waits, step=words.only)
     if not words.yes:
         return show_count(words, len(waits), f"--yes {VERBS[what]}", "step")
     asked = []
@@ -252,7 +280,7 @@ def answer(
         words.step, words.undo = one.step, one.undo
         asked.append((one.id, report_of(words) | told))
     with admin.writing(path) as link:
-        answers = Batch(link, filter_of(words)).ask(what, asked, words.timeout)
+        answers = Batch(link, of).ask(what, asked, words.timeout)
     return show_answers(words, what, waits, answers, done)
 
 

@@ -16,9 +16,12 @@ from sagas.core.states import WAITS_FOR
 from sagas.inspection import lists
 from sagas.inspection.lists import COUNTED
 from sagas.inspection.views import Waits
+from sagas.inspection.wording import span
 from sagas.storage.filters import Filter
 
 Json = dict[str, Any]
+UNCLAIMED = 60.0
+"""Seconds after which a task that no worker has claimed is listed: by then one would have asked."""
 NEEDS = {
     AttentionReason.STUCK: "stuck",
     AttentionReason.UNDO_FAILED: "undo failed",
@@ -84,6 +87,8 @@ def waits_for(one: Json) -> str:
         if until > time.time():
             return f"a worker: {one['worker']} has it"
         return f"a worker: the lease of {one['worker']} ended"
+    if why == "worker":
+        return f"a worker: none has claimed it for {span(time.time() - one['since'])}"
     if why == "node":
         return f"a node with {one['saga']} version {one['version']}"
     return WAITS_FOR.get(why, why)
@@ -122,14 +127,17 @@ def stats(path: str, words: argparse.Namespace) -> int:
 
 
 def definitions(path: str, words: argparse.Namespace) -> int:
-    """Count the sagas of each version of each definition."""
+    """Count the sagas of each version of each definition.
+
+    UNDOABLE are those that have completed as children, and that an open saga may undo.
+    """
     with Snapshot(path) as store:
         found = store.ask(lists.definitions())
     if words.json:
         show_json([dataclasses.asdict(one) for one in found])
     else:
-        rows = [(one.saga, one.version, one.open, one.total) for one in found]
-        print(table(["SAGA", "VERSION", "OPEN", "TOTAL"], rows))
+        rows = [(one.saga, one.version, one.open, one.undoable, one.total) for one in found]
+        print(table(["SAGA", "VERSION", "OPEN", "UNDOABLE", "TOTAL"], rows))
     return GOOD
 
 
@@ -188,12 +196,14 @@ def _meant(one: Attention) -> str:
 
 
 def pending(path: str, words: argparse.Namespace) -> int:
-    """List what waits: for a person, a worker that has it, a time, a child saga or a node.
+    """List what waits: for a person, a worker, a time, a child saga or a node.
 
-    Failed attempts that repeat, and tasks that no worker has claimed, are not listed.
+    Failed attempts that repeat are not listed. Tasks for workers are if one has claimed them, or
+    none has for a minute.
     """
     with Snapshot(path) as store:
-        held = [held_json(one) for one in store.ask(lists.waits(lists.ALL, person=False))]
+        waits = lists.waits(lists.ALL, person=False, offered_before=time.time() - UNCLAIMED)
+        held = [held_json(one) for one in store.ask(waits)]
         held += [start_json(*row) for row in store.link.starts()]
     if words.json:
         show_json(held)

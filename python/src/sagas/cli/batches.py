@@ -7,10 +7,11 @@ import argparse
 from sagas.base.errors import InvalidLabel
 from sagas.base.option_values import integer_from
 from sagas.base.wording import escaped, number
-from sagas.cli.formatting import GOOD, NO, show_json
+from sagas.cli.formatting import GOOD, NO, complain, show_json
 from sagas.cli.snapshot import Snapshot
 from sagas.definition import labels as labels_module
 from sagas.definition.serialization import clean
+from sagas.inspection import unmatched
 from sagas.inspection.views import SagaView
 from sagas.storage import admin
 from sagas.storage.admin import Trouble
@@ -18,6 +19,7 @@ from sagas.storage.batches import Batch, resolve_one
 from sagas.storage.filters import Filter
 
 WAITS = "requested; it takes effect when its program handles it"
+LEFT_OUT = "left out, because it undoes a child"
 
 
 def words_of_filter(part: argparse.ArgumentParser, what: str) -> None:
@@ -71,28 +73,47 @@ def check_keys(words: argparse.Namespace, has_keys: bool) -> None:
 def abort_all(path: str, words: argparse.Namespace) -> int:
     """Says how many sagas that are; with --yes aborts them."""
     with admin.writing(path) as link:
-        batch = Batch(link, filter_of(words))
+        batch = Batch(link, of := filter_of(words))
         if not words.yes:
-            return show_count(words, batch.abort_count(), "--yes aborts")
+            count, left_out = batch.abort_count(), batch.undoing_count()
+            warn_of(path, of, is_needed=not count + left_out)
+            return show_count(words, count, "--yes aborts", left_out=left_out)
         found = batch.abort({"note": words.note} if words.note else None, words.timeout)
+    warn_of(path, of, is_needed=not (found.done or found.refused or found.waiting))
     answers: dict[str, object] = dict.fromkeys(found.done, True)
     answers |= dict.fromkeys(found.waiting) | found.refused
+    answers |= dict.fromkeys(found.undoing, LEFT_OUT)
     if words.json:
         show_json([{"key": key, "asked": "abort", "answer": one} for key, one in answers.items()])
     else:
         said = dict.fromkeys(found.done, "aborted") | dict.fromkeys(found.waiting, WAITS)
-        for key, text in (said | found.refused).items():
+        said |= found.refused | dict.fromkeys(found.undoing, LEFT_OUT)
+        for key, text in said.items():
             print(f"{key}: {escaped(text)}")
     return NO if found.refused else GOOD
 
 
-def show_count(words: argparse.Namespace, count: int, remedy: str, what: str = "saga") -> int:
-    """Says how many sagas, or steps, are meant, and by what they are changed."""
+def warn_of(path: str, of: Filter, is_needed: bool, step: str | None = None) -> None:
+    """Says of a filter that selects nothing which labels no saga has, and no definition's step."""
+    if is_needed and (of.labels or step):
+        with Snapshot(path) as store:
+            for warning in store.ask(unmatched.of(of, step)):
+                complain(warning)
+
+
+def show_count(
+    words: argparse.Namespace, count: int, remedy: str, what: str = "saga", left_out: int = 0
+) -> int:
+    """Says how many sagas, or steps, are meant, and by what they are changed. `left_out`: how many
+    sagas are not, because they undo children."""
     if words.json:
-        show_json({"count": count})
+        show_json({"count": count} | ({"undoing": left_out} if left_out else {}))
     else:
         them = "it" if count == 1 else "them"
         print(f"{number(count, what)}" + (f": {remedy} {them}" if count else ""))
+        if left_out:
+            undoes = "it undoes a child" if left_out == 1 else "they undo children"
+            print(f"{number(left_out, 'saga')} left out, because {undoes}")
     return GOOD
 
 
@@ -105,10 +126,13 @@ def resolve(path: str, words: argparse.Namespace) -> int:
         raise Trouble("--note must not be empty. Say what was done about it", 2)
     with admin.writing(path) as link:
         if words.all:
-            batch = Batch(link, filter_of(words))
+            batch = Batch(link, of := filter_of(words))
             if words.count:
-                return show_count(words, batch.resolve_count(), "without --count resolves")
+                count = batch.resolve_count()
+                warn_of(path, of, is_needed=not count)
+                return show_count(words, count, "without --count resolves")
             done = batch.resolve(words.note, None).done
+            warn_of(path, of, is_needed=not done)
         else:
             with link.transaction():
                 done = [key for key in words.key if resolve_one(link, key, words.note)]

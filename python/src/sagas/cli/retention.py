@@ -3,27 +3,13 @@
 from __future__ import annotations
 
 import argparse
-import re
 import sys
 
-from sagas.base.option_values import integer_from
+from sagas.base.option_values import age, integer_from
 from sagas.base.wording import number
 from sagas.cli.formatting import CANNOT, GOOD, show_json
 from sagas.runtime import retention
 from sagas.storage.admin import Trouble
-
-UNITS = {"s": 1, "m": 60, "h": 3600, "d": 86400, "w": 7 * 86400}
-
-
-def age(text: str) -> float:
-    """Seconds, of a number and a unit: `30d`, `12h`."""
-    found = re.fullmatch(r"(\d{1,9})([smhdw])", text)
-    if not found:
-        raise argparse.ArgumentTypeError(
-            f"invalid duration {text!r}: use an integer and a unit s, m, h, d or w, for "
-            "example 30d"
-        )
-    return float(int(found[1]) * UNITS[found[2]])
 
 
 def words_of_prune(part: argparse.ArgumentParser) -> None:

@@ -10,7 +10,7 @@ from collections.abc import Callable
 
 from sagas.base.errors import NoSuchSchedule
 from sagas.cli.app_option import read_by, words_of_app
-from sagas.cli.formatting import GOOD, moment, show_json, table
+from sagas.cli.formatting import GOOD, complain, moment, show_json, table
 from sagas.cli.snapshot import Snapshot
 from sagas.definition.serialization import write as written
 from sagas.inspection import lists
@@ -18,7 +18,7 @@ from sagas.storage import admin
 from sagas.storage.admin import Trouble
 from sagas.storage.schedules import Schedule, Schedules
 
-CHANGES: dict[str, tuple[str, Callable[[Schedules, str], None]]] = {
+CHANGES: dict[str, tuple[str, Callable[[Schedules, str], str | None]]] = {
     "pause": ("paused", Schedules.pause),
     "resume": ("resumed", lambda store, name: store.resume(name, time.time())),
     "remove": ("removed", Schedules.remove),
@@ -40,9 +40,11 @@ def schedules(path: str, words: argparse.Namespace) -> int:
         done, change = CHANGES[words.change]
         with contextlib.closing(admin.connect(path, "rw")) as link:
             try:
-                change(Schedules(link), words.name)
+                said = change(Schedules(link), words.name)
             except NoSuchSchedule as error:
                 raise Trouble(str(error)) from error
+        if said is not None:
+            complain(f"{words.name}: {said}")
         told = {"name": words.name, "done": done}
         show_json(told) if words.json else print(f"{words.name}: {done}")
         return GOOD

@@ -18,6 +18,7 @@ from sagas.cli import nodes as nodes_module
 from sagas.cli.actions import abort, compensate, complete, fail, retry
 from sagas.cli.app_option import words_of_app
 from sagas.cli.audits import audit
+from sagas.cli.blobs import own_blobs, words_of_blobs
 from sagas.cli.backlog import attention, definitions, pending, stats, stuck
 from sagas.cli.batches import resolve, words_of_filter, words_of_limit
 from sagas.cli.deliveries import deliveries, words_of_deliveries
@@ -52,6 +53,7 @@ EXAMPLES = {
     "deliveries": "deliveries --state failed",
     "prune": "prune --older-than 30d",
     "init": "init --role shop",
+    "own-blobs": "own-blobs --blobs /var/lib/shop/blobs",
     "record": "record node-1.record node-2.record",
 }
 """The words of an example; of other commands just their names."""
@@ -121,6 +123,7 @@ def parser() -> argparse.ArgumentParser:
     nodes_module.words_of_role(add("init", init))
     words_of_app(add("export", export, key=True))
     words_of_prune(add("prune", prune))
+    words_of_blobs(add("own-blobs", own_blobs))
     return top
 
 

@@ -25,12 +25,13 @@ from sagas.core.decisions import (
     Decision,
     Do,
 )
-from sagas.core.declared_values import due_time, limit_key
+from sagas.core.declared_values import due_time, limit_subjects, of_limits, of_until
 from sagas.core.exhaustion import FAILED_BEFORE, LEAST_PAUSE, RETRIED, backoff, go_on, yields
 from sagas.core.model import CLAIMED, FINISHED, QUEUED, RUNNING, SUSPENDED, Attempt, SagaInstance
-from sagas.core.outcomes import MOST_TEXT, Outcome, decided, failure
+from sagas.core.outcomes import MOST_TEXT, Outcome, decided, failure, not_read
 from sagas.core.states import Action, OutcomeKind, Suspension
-from sagas.core.suspensions import SuspensionRow
+from sagas.core.suspensions import Subject, SuspensionRow
+from sagas.definition.blobs import BlobUnavailable
 from sagas.definition.step import Step
 
 LOOK = 30.0
@@ -43,6 +44,8 @@ PARKED = RETRIED | {Suspension.CANNOT_DECODE}
 """Suspensions of an attempt that was called, and is called again."""
 WAITS = PARKED | {Suspension.TIMER, Suspension.APPROVAL}
 """Suspensions that are told as `step_suspended`."""
+LEAST_UNREAD, MOST_UNREAD = 1.0, 60.0
+"""Seconds until values are asked for again that a blob store did not give."""
 ASKED = WAITS | {Suspension.EXTERNAL}
 """Suspensions of an attempt that somebody may report."""
 
@@ -100,7 +103,8 @@ class AttemptMachine:
 
         Returns:
             `CALL`, `OFFER`, `SUSPEND`, or `REPORT` where it is given up without a call. `READ`
-            where that rests on values that are not held; then `has_values` is asked.
+            where that rests on values that are not held, and `ASK` where it rests on a function of
+            the definition; then `go_on` is asked.
         """
         instance = attempt.instance
         if is_simple(attempt):
@@ -155,8 +159,9 @@ class AttemptMachine:
         """The row was on its way to the store, and is not known to be there."""
         if attempt.state in (QUEUED, RUNNING):
             return Decision(Do.NOTHING, row)
-        attempt.suspend(row.reason, None if row.reason is Suspension.CANNOT_DECODE else row.until)
-        return Decision(Do.SUSPEND, row, timer=row.reason in RETRIED)
+        is_unread = row.reason is Suspension.CANNOT_DECODE  # its row has no time of a further try
+        attempt.suspend(row.reason, attempt.until if is_unread else row.until)
+        return Decision(Do.SUSPEND, row, timer=is_unread or row.reason in RETRIED)
 
     def _first(self, attempt: Attempt, now: float) -> Decision:
         step = attempt.declared
@@ -186,17 +191,21 @@ class AttemptMachine:
             attempt.has_row = True  # an earlier attempt's
             return CALL
         if due is None:
-            if callable(step.until) and attempt.lacks():
+            returned = attempt.take_returned(Subject.UNTIL)
+            is_asked = callable(step.until) and returned is None
+            if is_asked and attempt.lacks():
                 return READ
             try:
-                due = due_time(step, attempt, now)
+                if is_asked:
+                    return Decision(Do.ASK, question=of_until(attempt))
+                due = due_time(step.until if returned is None else returned.get(), now)
             except Exception as error:
                 return self._without(attempt, error, now)
         rare.due[attempt.word] = until = max(due, 1.0)
         return self._suspend(attempt, Suspension.TIMER, until, now)
 
-    def has_values(self, attempt: Attempt, now: float) -> Decision:
-        """Decide how one goes on of which this said `READ` other than `limit`."""
+    def go_on(self, attempt: Attempt, now: float) -> Decision:
+        """Decide how one goes on of which this said `READ` or `ASK`, other than `limit`."""
         return self.begin(attempt, now)
 
     def _without(self, attempt: Attempt, error: Exception, now: float) -> Decision:
@@ -212,20 +221,23 @@ class AttemptMachine:
         """Decide by which key the limits of a step count one that may be called.
 
         Returns:
-            `CALL`; or as `ended`, if the function that says the key has raised; or `READ`, and then
-            this is asked again.
+            `CALL`; or as `ended`, if the function that says the key has raised; or `READ` or
+            `ASK`, and then this is asked again. `REPORT` where its saga drains meanwhile.
         """
-        is_keyed = not attempt.undo and attempt.declared.concurrency_by is not None
-        is_fair = attempt.instance.kind.fair_by is not None
-        if (is_keyed or (is_fair and attempt.instance.rare.tenant is None)) and attempt.lacks():
-            return READ
-        if not is_keyed:
-            return CALL
+        if attempt.instance.drains and self._may_leave(attempt):
+            return self._give_up(attempt, "not called: the saga is being undone", now)
         try:
-            attempt.rare.limit_key = attempt.rare.limit_key or limit_key(attempt)
+            if (tenant := attempt.take_returned(Subject.TENANT)) is not None:
+                attempt.instance.rare.tenant = tenant.get()
+            if (key := attempt.take_returned(Subject.LIMIT_KEY)) is not None:
+                attempt.rare.limit_key = key.get()
+            if not (subjects := limit_subjects(attempt)):
+                return CALL
+            if attempt.lacks():
+                return READ
+            return Decision(Do.ASK, question=of_limits(attempt, subjects))
         except Exception as error:
             return self._without(attempt, error, now)
-        return CALL
 
     def _suspend(
         self, attempt: Attempt, reason: Suspension, until: float | None, now: float
@@ -285,8 +297,10 @@ class AttemptMachine:
         return Decision(Do.SUSPEND, timer=row.reason not in PARKED, event=event)
 
     def _again(self, attempt: Attempt, now: float) -> Decision:
-        """Behind its back-off: the next attempt, or the same one whose outcome is unknown."""
-        if attempt.reason is Suspension.BACKOFF:
+        """Behind its back-off: the next attempt, or the same one whose outcome is unknown. Or it is
+        tried again to read its values.
+        """
+        if attempt.reason in (Suspension.BACKOFF, Suspension.CANNOT_DECODE):
             return self._first(attempt, now)
         return self._go(attempt, now)
 
@@ -356,16 +370,31 @@ class AttemptMachine:
             event=("step_unknown", detail),
         )
 
+    def unread(self, attempt: Attempt, error: BlobUnavailable, now: float) -> Decision:
+        """Decide on one whose values were to be read, and which the blob store does not give."""
+        return self._park(attempt, not_read(error), now)
+
     def _park(self, attempt: Attempt, outcome: Outcome, now: float) -> Decision:
         """This program cannot read what is stored for it: it waits for one that can, or for a
-        person. Nothing counts as failed.
+        person. Nothing counts as failed. Where only a blob store does not answer, it is tried again
+        after a pause, which is told once.
         """
-        attempt.since, attempt.outcome = attempt.since or now, outcome
+        before, attempt.outcome = attempt.outcome, outcome
+        attempt.since = attempt.since or now
         is_due = attempt.is_wait and attempt.instance.rare.due.get(attempt.word) == 0
-        attempt.suspend(Suspension.CANNOT_DECODE)
+        until = None
+        if isinstance(outcome.error, BlobUnavailable):
+            attempt.rare.pause = min(MOST_UNREAD, max(LEAST_UNREAD, 2 * attempt.rare.pause))
+            until = now + attempt.rare.pause
+            is_told = before is not None and before[:2] == outcome[:2] and attempt.has_row
+            if is_told and attempt.pending is None:
+                attempt.suspend(Suspension.CANNOT_DECODE, until)
+                return SLEEP
+        attempt.suspend(Suspension.CANNOT_DECODE, until)
         return Decision(
             Do.SUSPEND,
             SuspensionRow(Suspension.CANNOT_DECODE, 0.0 if is_due else None, outcome.value),
+            timer=until is not None,
             event=("step_cannot_decode", outcome.value),
         )
 

@@ -2,14 +2,15 @@
 
 from __future__ import annotations
 
-from collections.abc import Mapping
+import functools
+from collections.abc import Callable, Iterable, Mapping, Sequence
 from typing import Any
 
 from sagas.base.errors import NotSerializable
 from sagas.core.model import Attempt
 from sagas.core.outcomes import SUCCEEDED, Outcome, failure
 from sagas.core.results import Ended
-from sagas.core.states import SagaPhase
+from sagas.core.states import SagaPhase, StepState
 from sagas.definition import children, serialization
 from sagas.definition.compiled import Kind
 
@@ -18,15 +19,33 @@ def key_of(attempt: Attempt) -> str:
     """Return the key of the saga that an attempt starts: the same whenever it goes on, and another
     one once it was called again behind a child that did not complete.
     """
-    number = attempt.attempt + attempt.failures
-    return children.key_of(attempt.key, attempt.name, number, attempt.undo)
+    return children.key_of(attempt.key, attempt.name, number_of(attempt), attempt.undo)
 
 
-def child_input(attempt: Attempt) -> Any:
-    """Return the input of a child, as the step's function says it."""
+def number_of(attempt: Attempt) -> int:
+    """Return the number of that saga: greater than 1 behind those that did not complete."""
+    return attempt.attempt + attempt.failures
+
+
+def undone_key(attempt: Attempt) -> str | None:
+    """Return the key of the child that an attempt undoes; None if it starts one."""
+    if attempt.undo:
+        return str(attempt.task().result["key"])
+    if attempt.instance.kind.undoes is not None:  # it undoes a child of the one that is undone
+        return str(child_input(attempt)())
+    return None
+
+
+def child_input(attempt: Attempt) -> Callable[[], Any]:
+    """Return what returns the input of a child, as the step's function says it. A thread may call
+    it.
+
+    Raises:
+        CannotDecode: The codec failed.
+    """
     function = attempt.declared.run.function
     assert function
-    return function(attempt.task())
+    return functools.partial(function, attempt.task())
 
 
 def _written(value: Any) -> str:
@@ -38,8 +57,11 @@ def _written(value: Any) -> str:
         return serialization.write({serialization.UNSTORABLE: str(error)})
 
 
-def undo_input(key: str, token: str, kind: Kind, text: str, results: Mapping[int, str]) -> Any:
-    """Return the input of the saga that undoes a completed child.
+def undo_input(
+    key: str, token: str, kind: Kind, text: str, results: Mapping[int, str],
+    undone: Iterable[str] = (), earlier: Sequence[str] = (),
+) -> Any:  # fmt: skip
+    """Return the input of the saga that undoes a child.
 
     Args:
         key: The child's key.
@@ -47,6 +69,8 @@ def undo_input(key: str, token: str, kind: Kind, text: str, results: Mapping[int
         kind: The child's definition.
         text: The child's input, as it is stored.
         results: The results of the child's steps, as they are stored, by the steps' numbers.
+        undone: The steps that have nothing left to undo.
+        earlier: The keys of the sagas that have undone a part of the child.
     """
     decode = kind.payloads.decode
     return {
@@ -56,7 +80,22 @@ def undo_input(key: str, token: str, kind: Kind, text: str, results: Mapping[int
         "results": {
             kind.names[step]: serialization.read(decode(value)) for step, value in results.items()
         },
+        "undone": sorted(undone),
+        "earlier": [*earlier],
     }
+
+
+def left_by(child: Mapping[str, str], earlier: Iterable[Mapping[str, str]]) -> set[str]:
+    """Return the steps of a child that have nothing left to undo.
+
+    Args:
+        child: The states of its steps, by name.
+        earlier: Those of the steps of the sagas that were to undo it before.
+    """
+    undone = {name for name, state in child.items() if state != StepState.COMMITTED}
+    for states in earlier:
+        undone |= {name for name, state in states.items() if state == StepState.COMMITTED}
+    return undone
 
 
 def outcome(end: Ended, kind: Kind, results: Mapping[int, str]) -> Outcome | None:

@@ -1,9 +1,12 @@
-"""Failures of items that are collected: then they are results."""
+"""Failures of items that are collected, and other results that leave nothing to undo."""
 
 from __future__ import annotations
 
 import json
+from collections.abc import Sequence
 
+from sagas.base.errors import CannotDecode
+from sagas.core import child_results
 from sagas.core.model import Attempt
 from sagas.core.outcomes import FAILED, PERMANENT, SUCCEEDED, Outcome
 from sagas.definition import serialization
@@ -26,13 +29,47 @@ def collected(attempt: Attempt, outcome: Outcome) -> Outcome:
 
 
 def has_nothing_to_undo(attempt: Attempt) -> bool:
-    """Whether it is the compensation of an item whose failure was collected."""
-    if not attempt.undo or not attempt.declared.is_collected or attempt.own is None:
+    """Whether it is the compensation of an item whose failure was collected, or of a step that was
+    completed without a child; or, in a saga that undoes a child, of what is undone already.
+    """
+    if not attempt.undo:
+        return _undoes_child(attempt) and attempt.name in _undone_before(attempt)
+    step = attempt.declared
+    if not step.is_collected and step.child is None:
         return False
-    return serialization.failed(serialization.read(attempt.own)) is not None
+    try:
+        own = attempt.own
+    except CannotDecode:  # the attempt is suspended for that when its values are read
+        return False
+    if own is None:
+        return False
+    result = serialization.read(own)
+    if step.child is not None:
+        return child_results.is_none(result)
+    return serialization.failed(result) is not None
 
 
 def is_unclear(attempt: Attempt) -> bool:
-    """Whether it may be such a compensation: the result that says so is not held."""
-    is_collected = attempt.undo and attempt.declared.is_collected
-    return is_collected and attempt.results.get(attempt.step) == ABSENT
+    """Whether it may be such a compensation: the value that says so is not held."""
+    if not attempt.undo:
+        return _undoes_child(attempt) and attempt.instance.text == ABSENT
+    step = attempt.declared
+    may_be = step.is_collected or step.child is not None
+    return may_be and attempt.results.get(attempt.step) == ABSENT
+
+
+def _undoes_child(attempt: Attempt) -> bool:
+    """Whether its saga undoes a child."""
+    saga = attempt.instance.kind.saga
+    return saga is not None and saga.undoes is not None
+
+
+def _undone_before(attempt: Attempt) -> Sequence[str]:
+    """The steps of the child that its saga need not undo, as its input says."""
+    instance = attempt.instance
+    try:
+        given = serialization.read(instance.kind.payloads.decode(instance.text))
+    except CannotDecode:  # the attempt is suspended for that when its values are read
+        return ()
+    undone: Sequence[str] = given.get("undone", ()) if isinstance(given, dict) else ()
+    return undone

@@ -5,6 +5,7 @@ from __future__ import annotations
 import dataclasses
 import enum
 
+from sagas.core.declared_values import Question
 from sagas.core.suspensions import SuspensionRow
 
 
@@ -16,6 +17,10 @@ class Do(enum.Enum):
     """Call its function, within the limits."""
     READ = enum.auto()
     """A function needs values that are not held: read them, and ask again. Its state stays."""
+    ASK = enum.auto()
+    """Functions of its definition say something of it: call them, let `returned` of the attempt
+    have the answers, and ask again. Its state stays.
+    """
     OFFER = enum.auto()
     """Offer it to external workers: it is suspended until one of them reports it."""
     WITHDRAW = enum.auto()
@@ -41,12 +46,14 @@ class Decision:
         row: The row to be put into the store. Once it is there, `AttemptMachine.stored` is asked.
         timer: Whether a timer is set now; then `AttemptMachine.timer` is asked.
         event: The name and the detail of an event to be told.
+        question: What is to be called, of `ASK`.
     """
 
     do: Do
     row: SuspensionRow | None = None
     timer: bool = False
     event: tuple[str, str] | None = None
+    question: Question | None = None
 
 
 NOTHING, CALL, OFFER = Decision(Do.NOTHING), Decision(Do.CALL), Decision(Do.OFFER)

@@ -2,21 +2,105 @@
 
 from __future__ import annotations
 
+import dataclasses
 import datetime
+import functools
+from collections.abc import Callable, Iterable, Mapping
 from typing import Any
 
 from sagas.core.model import Attempt
+from sagas.core.suspensions import Returned, Subject, tenant_of
 from sagas.definition import serialization
-from sagas.definition.step import Step
+from sagas.definition.step import Until
+from sagas.definition.task import Task
 
 
-def due_time(step: Step[Any], attempt: Attempt, now: float) -> float:
-    """Return when a wait is over; the program's own function may say it.
+@dataclasses.dataclass(frozen=True, slots=True)
+class Question:
+    """Functions of a definition that have to be called before an attempt goes on.
+
+    Attributes:
+        calls: What each is called for, and what calls it. A thread may do that.
+    """
+
+    calls: Mapping[Subject, Callable[[], Any]]
+
+    def answers(self) -> dict[Subject, Returned]:
+        """Call them. What they raise is a part of the answers."""
+        return {subject: _returned(call) for subject, call in self.calls.items()}
+
+    @property
+    def words(self) -> str:
+        """What they are declared as."""
+        return " and ".join(f"{subject.value}=" for subject in self.calls)
+
+
+def _returned(call: Callable[[], Any]) -> Returned:
+    try:
+        return Returned(call())
+    except Exception as error:
+        return Returned(error=error)
+    except BaseException as error:  # nothing of a thread may end the program
+        return Returned(error=RuntimeError(f"{type(error).__name__}: {error}"))
+
+
+def of_until(attempt: Attempt) -> Question:
+    """Return what asks for the end of a wait.
 
     Raises:
-        TypeError: What it says is no time.
+        CannotDecode: The codec failed.
     """
-    until = step.until(attempt.task()) if callable(step.until) else step.until
+    until = attempt.declared.until
+    assert callable(until)
+    return Question({Subject.UNTIL: functools.partial(until, attempt.task())})
+
+
+def limit_subjects(attempt: Attempt) -> list[Subject]:
+    """Return what has to be asked before the limits of a step can count an attempt: the tenant of
+    its saga, and the key of the limits."""
+    found, instance, extras = list[Subject](), attempt.instance, attempt.extras
+    if instance.kind.fair_by is not None and instance.tenant is None:
+        found.append(Subject.TENANT)
+    is_keyed = not attempt.undo and attempt.declared.concurrency_by is not None
+    if is_keyed and (extras is None or extras.limit_key is None):
+        found.append(Subject.LIMIT_KEY)
+    return found
+
+
+def of_limits(attempt: Attempt, subjects: Iterable[Subject]) -> Question:
+    """Return what asks for these.
+
+    Raises:
+        CannotDecode: The codec failed.
+    """
+    calls: dict[Subject, Callable[[], Any]] = {}
+    instance, kind = attempt.instance, attempt.instance.kind
+    if Subject.TENANT in subjects:
+        assert kind.fair_by
+        text = kind.payloads.decode(instance.text)
+        calls[Subject.TENANT] = functools.partial(tenant_of, kind.fair_by, text, kind.name)
+    if Subject.LIMIT_KEY in subjects:
+        by = attempt.declared.concurrency_by
+        assert by
+        calls[Subject.LIMIT_KEY] = functools.partial(_limit_key, by, attempt.task())
+    return Question(calls)
+
+
+def _limit_key(by: Callable[[Any], Any], task: Task[Any]) -> str:
+    """The key of a limit, as JSON. Raises `NotSerializable` where it is not JSON."""
+    return serialization.write(by(task.input), "key")
+
+
+def due_time(until: Until | Any, now: float) -> float:
+    """Return when a wait is over.
+
+    Args:
+        until: What the definition says, or its function returned.
+        now: Wall time in seconds.
+
+    Raises:
+        TypeError: It is no time.
+    """
     if isinstance(until, datetime.timedelta):
         return now + until.total_seconds()
     if isinstance(until, datetime.datetime) and until.tzinfo:
@@ -26,14 +110,3 @@ def due_time(step: Step[Any], attempt: Attempt, now: float) -> float:
     told = "a datetime without a time zone" if is_naive else type(until).__name__
     rule = "it must be a timedelta or a datetime with a time zone"
     raise TypeError(f"until returned {told}: {rule}{remedy}")
-
-
-def limit_key(attempt: Attempt) -> str:
-    """Return the key by which the limits of its step count an attempt, as JSON.
-
-    Raises:
-        NotSerializable: What the function says is not JSON.
-    """
-    by = attempt.declared.concurrency_by
-    assert by
-    return serialization.write(by(attempt.task().input), "key")

@@ -18,11 +18,13 @@ class Abort:
         saga: The saga.
         command: The operator's command that it is of, which is answered in the commit.
         done: Whether the saga is aborted by it; None until that is known.
+        is_repeated: Whether another one has aborted the saga before.
     """
 
     saga: SagaInstance
     command: Wanted = None
     done: bool | None = None
+    is_repeated: bool = False
 
 
 @dataclasses.dataclass(eq=False, slots=True)

@@ -12,7 +12,7 @@ from sagas.base.errors import CannotDecode
 from sagas.core.outcomes import Outcome
 from sagas.core.saga_instance import SagaInstance as SagaInstance
 from sagas.core.states import ATTEMPT_TRANSITIONS, Action, AttemptState, Check, Suspension, check
-from sagas.core.suspensions import AttemptExtras, Lease, SuspensionRow
+from sagas.core.suspensions import AttemptExtras, Lease, Returned, Subject, SuspensionRow
 from sagas.definition import tokens
 from sagas.definition.task_data import whole
 from sagas.definition.compiled import Word
@@ -132,7 +132,10 @@ class Attempt(AcknowledgedAttempt):
         self.outcome, self.at = outcome, at
 
     def forget(self) -> None:
-        """Finish one that the store does not have: nothing comes of it any more."""
+        """Finish one that the store does not have: nothing comes of it any more, and nobody waits
+        for its row.
+        """
+        self.pending = None
         if self.state is not FINISHED:
             self._to(FINISHED)
 
@@ -162,6 +165,10 @@ class Attempt(AcknowledgedAttempt):
     def request(self) -> Wanted:
         """The operator's command that finished it."""
         return self.extras.request if self.extras else None
+
+    def take_returned(self, subject: Subject) -> Returned | None:
+        """Take out what a function of its definition returned, which is used once."""
+        return self.extras.returned.pop(subject, None) if self.extras else None
 
     @property
     def is_unkept(self) -> bool:
@@ -208,11 +215,12 @@ class Attempt(AcknowledgedAttempt):
     @property
     def limit_name(self) -> tuple[str, str]:
         """The saga and the step whose limits count it: over all items, and wherever the saga is
-        included.
+        included. What undoes a step of a child is counted with that step.
         """
         kind = self.instance.kind
         if kind.layout is None:
-            return kind.name, self.action.name
+            child = kind.saga.undoes if kind.saga else None
+            return child.name if child else kind.name, self.action.name
         return self.declared.saga.name, self.declared.name
 
     @property

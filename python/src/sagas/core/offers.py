@@ -13,6 +13,22 @@ def task_name(saga: str, step: str, action: str) -> str:
     return f"{saga}/{step}/{action}"
 
 
+def task_of(attempt: Attempt) -> str:
+    """Return the name under which workers ask for an attempt.
+
+    A step of a saga that undoes a child is the compensation of the child's step, for the worker of
+    that.
+    """
+    saga = attempt.instance.kind.saga
+    if saga is not None and saga.undoes is not None and saga.undoes_step is not None:
+        path = report_undos.path_of(saga.undoes, saga.undoes_step)
+        return task_name(saga.undoes.name, path or attempt.name, Action.COMPENSATE)
+    undoes = attempt.instance.kind.undoes
+    if undoes is not None:
+        return task_name(undoes, attempt.name, Action.COMPENSATE)
+    return task_name(attempt.saga, attempt.declared_name, attempt.kind)
+
+
 def offer(attempt: Attempt, shard: int, now: float) -> Offer:
     """Return the row that offers an attempt.
 
@@ -23,20 +39,9 @@ def offer(attempt: Attempt, shard: int, now: float) -> Offer:
     why = instance.why_draining if instance.draining and not attempt.undo else None
     if attempt.is_remote:
         return (attempt.token(), shard, *attempt.row, "", None, int(now * 1000), now, why)
-    task = task_name(*_asked_for(attempt))
-    bound = attempt.declared.concurrency if attempt.kind == Action.RUN else None
-    return (attempt.token(), shard, *attempt.row, task, bound, None, now, why)
-
-
-def _asked_for(attempt: Attempt) -> tuple[str, str, str]:
-    """Saga, step and action by which workers ask for it. What undoes an unused report is the
-    compensation of the saga that did not use it.
-    """
-    saga = attempt.instance.kind.saga
-    if saga is not None and saga.undoes is not None and saga.undoes_step is not None:
-        path = report_undos.path_of(saga.undoes, saga.undoes_step)
-        return saga.undoes.name, path or attempt.declared_name, Action.COMPENSATE.value
-    return attempt.saga, attempt.declared_name, attempt.kind
+    is_action = attempt.kind == Action.RUN and instance.kind.undoes is None
+    bound = attempt.declared.concurrency if is_action else None
+    return (attempt.token(), shard, *attempt.row, task_of(attempt), bound, None, now, why)
 
 
 def first_offer(attempt: Attempt, shard: int, now: float) -> Offer:

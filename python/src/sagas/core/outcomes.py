@@ -15,6 +15,7 @@ from sagas.base.logger import logger
 from sagas.core.states import OutcomeKind
 from sagas.definition import serialization
 from sagas.definition.approvals import Answer
+from sagas.definition.blobs import BlobUnavailable
 from sagas.definition.payloads import Payloads
 from sagas.definition.step import Manner, Unknowns
 from sagas.definition.task import Task
@@ -26,6 +27,8 @@ PERMANENT, UNKNOWN = OutcomeKind.FAILED_PERMANENTLY, OutcomeKind.UNKNOWN
 CANNOT_DECODE, ANSWERED = OutcomeKind.CANNOT_DECODE, OutcomeKind.ANSWERED
 UNREADABLE = "unreadable"
 """In a report: the task could not be handed out. No worker's report has it."""
+PASSES = "passes"
+"""Its value there: the values of the task may be read later."""
 WORST = (UNKNOWN, CANNOT_DECODE, PERMANENT, FAILED)
 """Of a group of exceptions, the first of these that any of them is."""
 
@@ -115,19 +118,31 @@ def failure(
     return Outcome(PERMANENT if final else FAILED, serialization.write(told), called)
 
 
-def unreadable(text: str) -> Outcome:
+def not_read(error: BlobUnavailable) -> Outcome:
+    """Return the outcome of an attempt whose values the blob store does not give now."""
+    return _told(CANNOT_DECODE, str(error))._replace(error=error)
+
+
+def unreadable(text: str, passes: bool = False) -> Outcome:
     """Return what is reported of a task that cannot be handed out, since what is stored for it
-    cannot be read: nothing was called, and nothing has failed.
+    cannot be read: nothing was called, and nothing has failed. `passes`: it can be read later.
     """
-    report = {"error": text[:MOST_TEXT], "called": False, UNREADABLE: True}
+    report = {"error": text[:MOST_TEXT], "called": False, UNREADABLE: PASSES if passes else True}
     return Outcome(FAILED, serialization.write(report), called=False)
 
 
 def delivered(kind: OutcomeKind, value: str) -> Outcome:
     """Return the outcome of a report, as it is stored for the node that executes the saga."""
     if kind is FAILED and UNREADABLE in value and (report := json.loads(value)).get(UNREADABLE):
+        if report[UNREADABLE] == PASSES:
+            return not_read(BlobUnavailable(str(report["error"])))
         return _told(CANNOT_DECODE, str(report["error"]))
     return Outcome(kind, value)
+
+
+def parked(text: str) -> Outcome:
+    """Return the outcome of an attempt that this program cannot make, and another one may."""
+    return _told(CANNOT_DECODE, text)
 
 
 def unknown(text: str) -> Outcome:

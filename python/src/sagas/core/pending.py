@@ -59,6 +59,8 @@ def of_live(instance: SagaInstance | None) -> list[str]:
             found.append(_said(attempt.name, attempt.undo, reason, attempt.until))
         elif attempt.state is RUNNING:
             found.append(f"{_of(attempt.undo)}{attempt.name} runs")
+        elif attempt.extras and attempt.extras.asked:
+            found.append(f"{_of(attempt.undo)}{attempt.name} waits for {attempt.extras.asked}")
         elif attempt.state is QUEUED:
             found.append(f"{_of(attempt.undo)}{attempt.name} waits for {WAITS_FOR['slot']}")
     return found

@@ -334,9 +334,12 @@ def _put_suspension(attempt: Attempt, row: HeldRow) -> None:
 
 
 def _abort_again(found: Recovery, driver: ShardDriver, abort: Abort) -> None:
-    """It was asked, or was to be: it is asked of a saga that is open and not aborted."""
+    """It was asked, or was to be: it is asked of a saga that is open and not aborted. Of those of
+    an aborted saga, the first one that was not answered counts, unless another one did before.
+    """
     if abort.saga.aborted or abort.saga.number not in driver.sagas:
-        abort.done = abort.saga.aborted
+        is_first = not any(other.saga is abort.saga for other in found.aborted)
+        abort.done = abort.saga.aborted and is_first and not abort.is_repeated
         found.aborted.append(abort)
     else:
         driver.abort(abort)

@@ -220,6 +220,8 @@ class Reading:
             if abort.done:
                 abort.saga.odd = abort.saga.aborted = abort.saga.draining = True
                 self._cancel(abort.saga)
+                for other in (*self._driver.aborting, *self._driver.aborts):
+                    other.is_repeated |= other.saga is abort.saga and other is not abort
             self._batch.answer(abort.command, "true" if abort.done else "false")
         self._effects.more.aborted += aborts
 

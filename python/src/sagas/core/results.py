@@ -284,14 +284,17 @@ class DefinitionCount:
     Attributes:
         saga: The definition's name.
         version: The definition's version.
-        open: How many of its sagas are open. If none is, programs can do without the version.
+        open: How many of its sagas are open.
         total: How many of its sagas the store has.
+        undoable: How many have completed as children, and may be undone, because a saga above them
+            is open. If none is open or undoable, programs can do without the version.
     """
 
     saga: str
     version: int
     open: int
     total: int
+    undoable: int = 0
 
 
 @dataclasses.dataclass(frozen=True, slots=True)

@@ -6,7 +6,7 @@ from typing import TYPE_CHECKING, Any
 
 from sagas.core.held_values import HeldValues
 from sagas.core.states import AttemptState
-from sagas.core.suspensions import SagaExtras, tenant_of
+from sagas.core.suspensions import SagaExtras
 from sagas.definition import start_options
 from sagas.definition.capacity import SHARD_CAPACITY
 from sagas.definition.compiled import Kind, Word
@@ -72,6 +72,7 @@ class SagaInstance(AcknowledgedSaga):
         self.kind = kind
         self.place = place
         self.take(text, options)
+        self._extras: SagaExtras | None = None
         self.number = -1
         self.shard: ShardDriver | None = None
         self.committed = self.guessed = False
@@ -87,7 +88,10 @@ class SagaInstance(AcknowledgedSaga):
         self.odd = self.aborted = self.draining = False
         self.answer: dict[str, Any] | None = None
         self.phase = ""
-        self._extras: SagaExtras | None = None
+        tenant = self._extras.tenant if self._extras is not None else None
+        self._extras = None
+        if tenant is not None:  # its functions that run have slots of this tenant
+            self.rare.tenant = tenant
 
     @property
     def rare(self) -> SagaExtras:
@@ -128,14 +132,8 @@ class SagaInstance(AcknowledgedSaga):
 
     @property
     def tenant(self) -> str | None:
-        """Whose it is, where its definition says that. It is asked for once."""
-        kind = self.kind
-        by = kind.fair_by
-        if by is None:
-            return None
-        if self.rare.tenant is None:
-            self.rare.tenant = tenant_of(by, self.text, kind.payloads, kind.name)
-        return self.rare.tenant
+        """Whose it is, if its definition says that, and once it was asked."""
+        return None if self._extras is None else self._extras.tenant
 
     @property
     def why_draining(self) -> str:

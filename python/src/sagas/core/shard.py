@@ -193,6 +193,7 @@ class ShardDriver:
 
     def abort(self, abort: Abort) -> None:
         """Ask to abort a saga."""
+        abort.is_repeated = abort.saga.aborted
         self.aborts.append(abort)
 
     def suspended(self, attempt: Attempt, row: SuspensionRow, now: float) -> Effects:

@@ -6,6 +6,7 @@ from sagas.core import announcements, spans
 from sagas.core.batch import Batch
 from sagas.core.exhaustion import COUNTS_FAILURES, RETRIED
 from sagas.core.model import Attempt
+from sagas.core.states import Suspension
 from sagas.core.suspensions import SuspensionRow
 
 
@@ -16,8 +17,11 @@ def put(batch: Batch, attempt: Attempt, row: SuspensionRow, shard: int) -> None:
     held = (row.reason.value, count, attempt.since, row.until, row.error)
     more.held.append((*attempt.row, *held))
     more.spans += spans.taken(attempt)
-    if attempt.is_external and row.reason in RETRIED:
-        state = "person" if row.until is None and not attempt.is_remote else "suspended"
+    # one whose values cannot be read now has a time, which its row has not
+    is_unread = row.reason is Suspension.CANNOT_DECODE and attempt.until is not None
+    if attempt.is_external and (is_unread or row.reason in RETRIED):
+        is_asked = row.until is None and not is_unread and not attempt.is_remote
+        state = "person" if is_asked else "suspended"
         more.suspended.append((attempt.token(), shard, state))
     if attempt.request is not None:
         batch.answer(attempt.request, "true")

@@ -3,17 +3,16 @@
 from __future__ import annotations
 
 import dataclasses
+import enum
 from collections.abc import Callable
 from typing import Any
 
-from sagas.base.errors import CannotDecode
 from sagas.base.logger import logger
 from sagas.core.batch import Wanted
 from sagas.core.states import EarlyReason, Suspension
 from sagas.definition import serialization
 from sagas.definition.compiled import Word
 from sagas.definition.control import Control
-from sagas.definition.payloads import Payloads
 from sagas.definition.shape_values import ShapeValues
 
 
@@ -38,6 +37,28 @@ class SuspensionRow:
     error: str | None = None
 
 
+class Subject(enum.Enum):
+    """What a function of a definition is asked of an attempt: the option that it was given as."""
+
+    UNTIL = "until"
+    LIMIT_KEY = "concurrency_by"
+    TENANT = "fair_by"
+
+
+@dataclasses.dataclass(frozen=True, slots=True)
+class Returned:
+    """What such a function returned, or raised."""
+
+    value: Any = None
+    error: Exception | None = None
+
+    def get(self) -> Any:
+        """Return it, or raise it."""
+        if self.error is not None:
+            raise self.error
+        return self.value
+
+
 @dataclasses.dataclass(slots=True)
 class AttemptExtras:
     """What only an attempt has whose outcome was unknown, or that somebody reports by hand."""
@@ -56,6 +77,10 @@ class AttemptExtras:
     """See `Attempt.offered`."""
     limit_key: str | None = None
     """The key by which the limits of its step count it, as JSON."""
+    asked: str = ""
+    """The functions of its definition that are called now, as they are declared."""
+    returned: dict[Subject, Returned] = dataclasses.field(default_factory=dict)
+    """What they returned, until that is used."""
     control: Control | None = None
     """What its function hears and tells, once one of them was asked for."""
     request: Wanted = None
@@ -94,14 +119,10 @@ class SagaExtras:
     """Whose it is, as JSON; None until that is asked."""
 
 
-def tenant_of(by: Callable[[Any], Any], text: str, payloads: Payloads, name: str) -> str:
-    """Whose a saga is, by its definition's function of its input; `null` where that raises, or
-    the input cannot be decoded.
-    """
+def tenant_of(by: Callable[[Any], Any], text: str, name: str) -> str:
+    """Return whose a saga is, by its definition's function of its input; `null` if that raises."""
     try:
-        return serialization.write(by(serialization.read(payloads.decode(text))), "fair_by")
-    except CannotDecode:  # its attempts are told as such
-        return "null"
+        return serialization.write(by(serialization.read(text)), "fair_by")
     except Exception as error:
         logger.warning(
             "saga %r: fair_by raised %s. Such sagas share one tenant",

@@ -7,6 +7,7 @@ import re
 from collections.abc import Awaitable, Iterable
 from typing import Any, NamedTuple, Protocol
 
+from sagas.base.errors import StoreUnavailable
 from sagas.definition.arguments import shown
 
 HEAD = '{"$blob":"'
@@ -59,6 +60,10 @@ class BlobStore(Protocol):
             prefix: The beginning of the keys.
             before: Seconds since 1970.
         """
+
+
+class BlobUnavailable(StoreUnavailable):
+    """A blob store does not answer, as far as one value is concerned."""
 
 
 class Reference(NamedTuple):

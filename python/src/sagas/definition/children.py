@@ -6,7 +6,7 @@ import inspect
 from collections.abc import Callable, Iterable, Iterator
 from typing import TYPE_CHECKING, Any, Literal, TypedDict, overload
 
-from sagas.base.errors import InvalidKey
+from sagas.base.errors import InvalidKey, NotAbortable
 from sagas.definition import arguments, decoders, validation
 from sagas.definition.arguments import BELOW
 from sagas.definition.decoders import Decoder
@@ -46,6 +46,7 @@ class ChildSteps:
         steps: Its steps.
         undoes: The definition whose completed sagas it undoes, or None.
         undoes_step: The only step that it undoes, of a saga that did not use a report of it.
+        undo_text: Its definition as a text, if it undoes others.
         has_children: Whether a step starts another saga.
         is_shaped: Whether its steps come from its input.
     """
@@ -54,6 +55,7 @@ class ChildSteps:
     steps: list[Step[Any]]
     undoes: Saga | None = None
     undoes_step: Step[Any] | None = None
+    undo_text: str = ""
     has_children: bool = False
     is_shaped: bool
 
@@ -62,6 +64,7 @@ class ChildSteps:
         self, saga: Saga, *, input: Callable[[Any], Any], name: str | None = None,
         needs: Iterable[Need] = (), undo: Cost | None = None, skip: Cost = 0,
         keep: Cost | None = None, on_exhausted: Literal["fail", "ask"] = "fail",
+        undo_on_exhausted: Literal["fail", "ask"] = "ask",
     ) -> Step[ChildResult]:  # fmt: skip
         ...
 
@@ -70,6 +73,7 @@ class ChildSteps:
         self, saga: Saga, *, input: None = None, name: str | None = None,
         needs: Iterable[Need] = (), undo: Cost | None = None, skip: Cost = 0,
         keep: Cost | None = None, on_exhausted: Literal["fail", "ask"] = "fail",
+        undo_on_exhausted: Literal["fail", "ask"] = "ask",
     ) -> Callable[[Callable[[Any], Any]], Step[ChildResult]]:  # fmt: skip
         ...
 
@@ -77,6 +81,7 @@ class ChildSteps:
         self, saga: Saga, *, input: Callable[[Any], Any] | None = None, name: str | None = None,
         needs: Iterable[Need] = (), undo: Cost | None = None, skip: Cost = 0,
         keep: Cost | None = None, on_exhausted: Literal["fail", "ask"] = "fail",
+        undo_on_exhausted: Literal["fail", "ask"] = "ask",
     ) -> Any:  # fmt: skip
         """Declare a step that starts another saga, and waits for its end.
 
@@ -84,7 +89,8 @@ class ChildSteps:
         started counts. The child's key is `KEY/:STEP`, by the saga's own key and the step's name.
         The step succeeds with a `ChildResult` once the child has completed. If the child ends
         otherwise, the step fails. An abort of the saga aborts the child. The compensation starts a
-        saga of the child's compensations, with the key `KEY/:STEP:undo`.
+        saga of the child's compensations, with the key `KEY/:STEP:undo`. Its steps, needs and costs
+        are those of the definition that the child ran with.
 
         Args:
             saga: The child's definition, which the store must have, too.
@@ -97,6 +103,10 @@ class ChildSteps:
                 `Store.retry`, which starts another child with the key `KEY/:STEP/2`,
                 `Store.complete` or `Store.fail`). An input that the child cannot have fails the
                 step in any case (default: `fail`).
+            undo_on_exhausted: What follows if the child cannot be undone as a whole: `fail` leaves
+                the rest in place, or `ask` (wait for `Store.retry`, which undoes the rest in
+                another saga with the key `KEY/:STEP:undo/2`, `Store.complete` or `Store.fail`)
+                (default: `ask`). A compensation of its own has its own option.
 
         See `Saga.step` for `needs` and `skip`.
 
@@ -136,6 +146,10 @@ class ChildSteps:
             step.child = saga
             self.has_children = True
             _check(step, saga)
+            if undo_on_exhausted not in ("fail", "ask"):
+                rule = f"undo_on_exhausted={undo_on_exhausted!r}: must be fail or ask"
+                raise validation.of_step(step, rule)
+            step.undo.on_exhausted = undo_on_exhausted
             return step
 
         validation.check_given(saga)
@@ -237,9 +251,36 @@ def key_of(parent: str, step: str, number: int = 1, undo: bool = False) -> str:
         number: Greater than 1 for one that an operator had started behind others.
         undo: Whether the saga is meant that undoes it.
     """
-    if undo:
-        return f"{parent}{BELOW}{step}{UNDO}"
-    return f"{parent}{BELOW}{step}{'' if number == 1 else f'/{number}'}"
+    counted = "" if number == 1 else f"/{number}"
+    return f"{parent}{BELOW}{step}{UNDO if undo else ''}{counted}"
+
+
+def is_of_step(key: str, parent: str, step: str) -> bool:
+    """Return whether a key is that of a child of this step, and not of what undoes one."""
+    first = key_of(parent, step)
+    number = key.removeprefix(f"{first}/")
+    return key == first or (number != key and number.isdecimal() and number.isascii())
+
+
+def parent_of(key: str) -> str:
+    """Return the key of the saga that started a child, by the child's."""
+    return key.rpartition(BELOW)[0]
+
+
+def undoes_child(key: str) -> bool:
+    """Return whether a key is that of a saga that undoes a child, or of one that such a saga
+    started: it undoes a child of the child.
+    """
+    return UNDO in key.partition(BELOW)[2]
+
+
+def check_abortable(key: str) -> None:
+    """Raise `NotAbortable` where the key is that of a saga that undoes a child."""
+    if undoes_child(key):
+        raise NotAbortable(
+            f"saga {key!r} undoes a child, so it is not aborted: the rest of the child would stay. "
+            "Nothing was changed. If a step of it waits for a person, retry, complete or fail it"
+        )
 
 
 def room_of(saga: Saga) -> int:
@@ -248,7 +289,8 @@ def room_of(saga: Saga) -> int:
         (
             (MOST_NAME if saga.is_shaped else len(step.name))
             + len(BELOW)
-            + max(len(UNDO), NUMBERS)
+            + len(UNDO)
+            + NUMBERS
             + room_of(child)
             for step, child in children_of(saga)
         ),

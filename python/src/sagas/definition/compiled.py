@@ -13,11 +13,13 @@ import tomllib
 from sagas.base.errors import CannotDecode, InvalidInput
 from sagas.definition import (
     decoders,
+    listed_steps,
     mismatches,
     serialization,
     shape_text,
     shape_validation,
     type_checks,
+    undo_text,
 )
 from sagas.definition.context import Context
 from sagas.definition.declaration import Declared
@@ -53,11 +55,13 @@ def name_of(text: str) -> str:
     return found[1]
 
 
-def _simple(step: Step[Any] | None, word: str) -> Function | None:
+def _simple(step: Step[Any] | None, word: str, is_fair: bool) -> Function | None:
     """The function of a step that begins at once and is awaited here, and has no limit; of
-    others None.
+    others None. `is_fair`: its saga has tenants, also where it includes the step's.
     """
-    if step is None or step.saga.fair_by is not None or step.is_collected:
+    if step is None or is_fair or step.is_collected:
+        return None
+    if step.saga.undoes is not None or step.child is not None:
         return None
     if word == "run" and (step.kind != "step" or step.concurrency is not None or step.bounds):
         return None
@@ -97,12 +101,13 @@ class Action:
         given: list[tuple[int, str]],
         hint: Decoder | None,
         context: Context,
+        is_fair: bool,
     ) -> None:
         self.name, self.word, self.given, self.hint = name, word, given, hint
         self.context = context
         self.kind = word[1]
         self.undo = self.kind == "undo"
-        self.simple = _simple(step, self.kind)
+        self.simple = _simple(step, self.kind, is_fair)
         self.inside = bool(step and step.manner(self.kind).transaction)
         self.is_remote = bool(step and step.manner(self.kind).queue)
         self.is_external = self.is_remote or bool(step and step.manner(self.kind).external)
@@ -115,7 +120,7 @@ Hooks = Mapping[str, tuple[str, ...]]
 class Kind:
     """A definition on a log's shelf. `steps` has None where the program has no such step any
     more. `context`: what their functions share; `payloads`: how their values are stored; `hooks`:
-    who is told of its sagas.
+    who is told of its sagas; `undoes`: the name of the child that its sagas undo, or None.
     """
 
     def __init__(
@@ -129,6 +134,9 @@ class Kind:
         listed = shape_text.steps(text) if is_shaped else tomllib.loads(text)["step"]
         self.layout: Layout | None = shape_text.layout(text, listed) if is_shaped else None
         self.text, self.name = text, name_of(text)
+        self.undoes = undo_text.child_of(text)
+        if self.undoes is None and saga is not None and saga.undoes is not None:
+            self.undoes = saga.undoes.name  # a text of an older release
         self.names: list[str] = [step["name"] for step in listed]
         self.heads = [f'"{name}":' for name in self.names]
         self.steps: list[Step[Any] | None] = self._declared_steps(saga)
@@ -221,10 +229,14 @@ class Kind:
     def _actions(self, kind: str, hints: list[Decoder | None], context: Context) -> list[Action]:
         """What each step does, or its compensation."""
         given = [[(number, self.names[number]) for number in below] for below in self.below]
+        is_fair = self.fair_by is not None
         return [
-            Action(name, (number, kind), self.steps[number], given[number], hints[number], context)
+            Action(
+                name, (number, kind), self.steps[number], given[number], hints[number], context,
+                is_fair,
+            )
             for number, name in enumerate(self.names)
-        ]
+        ]  # fmt: skip
 
     def _below(self, needs: list[list[int]]) -> list[list[int]]:
         """The steps that each step needs, directly or not."""
@@ -271,11 +283,11 @@ class Kind:
                 )
         return None
 
-    def unread(self, text: str, results: dict[int, str]) -> str | None:
-        """What this program cannot read of a saga that is not over: its input, or the result of a
-        step that stands. None where it can read all of it."""
+    def unread(self, text: str | None, results: dict[int, str]) -> str | None:
+        """What this program cannot read of a saga that is not over: its input, if that is given, or
+        the result of a step that stands. None where it can read all of it."""
         try:
-            text = self.payloads.decode(text)
+            text = None if text is None else self.payloads.decode(text)
             results = {step: self.payloads.decode(told) for step, told in results.items()}
         except CannotDecode as error:
             return str(error)
@@ -283,7 +295,7 @@ class Kind:
             zip(self.inputs, (one.hint for one in self.actions["undo"]))
         ):
             for hint in (run, undo):
-                if hint and (fault := _fault(text, hint)):
+                if hint and text is not None and (fault := _fault(text, hint)):
                     return f"step {self.names[number]!r}: input{fault}"
         for number, text in results.items():
             hint = self.decoders.get(self.names[number])
@@ -308,10 +320,11 @@ class Kind:
                 return (
                     f"it includes saga {name!r} (version {version}) as {path!r}, and here is {has}"
                 )
-        for listed, step in zip(tomllib.loads(self.text)["step"], self.steps):
-            name = listed["name"]
+        what = "function" if self.undoes is None else "compensation"
+        for listed, step in zip(listed_steps.of(self.text), self.steps):
             if step is None:
-                return f"step {name!r} has no function in this program"
-            if listed.get("undo", 0) != "never" and not step.has_compensation:
-                return f"step {name!r} has no compensation in this program"
+                return f"step {listed.name!r} has no {what} in this program"
+            is_there = step.has_compensation and not (step.undo.implied and listed.is_compensated)
+            if listed.undo != "never" and not is_there:
+                return f"step {listed.name!r} has no compensation in this program"
         return None

@@ -5,6 +5,8 @@ from __future__ import annotations
 import hashlib
 from typing import TYPE_CHECKING, Any
 
+from sagas.definition import listed_steps
+
 if TYPE_CHECKING:
     from sagas.definition.saga import Saga
 
@@ -13,10 +15,14 @@ def fixed(saga: Saga) -> str:
     """Return the definition of a saga whose steps do not come from its input."""
     from sagas.definition.step import NEVER
 
+    if saga.undo_text:
+        return saga.undo_text
     lines = [f"# version {saga.version}"] if saga.version != 1 else []
     lines += ["format = 2", f'name = "{saga.name}"']
     for step in saga.steps:
         lines += ["", "[[step]]", f'name = "{step.name}"']
+        if listed_steps.is_compensated(step):
+            lines.append(listed_steps.COMPENSATED)
         if step.needs:
             lines.append("needs = [" + ", ".join(f'"{need}"' for need in step.needs) + "]")
         for word in ("run", "undo", "skip", "keep"):
@@ -51,6 +57,7 @@ def declared(saga: Saga) -> str:
         step: Any = part
         lines += [f"{word} = {_told(cost)}" for word, cost in step._costs.items()]
         lines.append(f"tries = {step.run.tries}, {step.undo.tries}")
+        lines += [listed_steps.COMPENSATED] * listed_steps.is_compensated(step)
     return "\n".join(lines) + "\n"
 
 

@@ -98,6 +98,20 @@ class Inclusions:
         )
 
     @property
+    def calls_functions(self) -> bool:
+        """Whether functions say which steps it has for an input, or what they cost."""
+        return any(
+            callable(part.for_each)
+            or part.when is not None
+            or (
+                callable(part.input) or part.inner.calls_functions
+                if isinstance(part, Inclusion)
+                else shape_validation.has_computed_costs(part)
+            )
+            for part in self.parts
+        )
+
+    @property
     def parts_by_name(self) -> dict[str, Part]:
         """Its steps and inclusions, by name."""
         return {part.name: part for part in self.parts}

@@ -30,6 +30,20 @@ def is_text(value: Any, most: int) -> bool:
     return isinstance(value, str) and 0 < len(value) <= most and value.isprintable()
 
 
+def selecting(labels: Any) -> Labels:
+    """As `checked`, of a filter for a command: an empty one would mean every saga.
+
+    Raises:
+        InvalidLabel: They are not as `RULE` says, or there are none.
+    """
+    if labels is not None and not checked(labels):
+        raise InvalidLabel(
+            "labels={} selects every saga, and nothing was changed. Leave labels= out to mean "
+            "every saga, or name a label"
+        )
+    return checked(labels)
+
+
 def checked(labels: Any) -> Labels:
     """Return labels as given to `start` or to a filter; None is none.
 

@@ -4,12 +4,20 @@ from __future__ import annotations
 
 import dataclasses
 import functools
-from typing import Any, Union
+import re
+from typing import TYPE_CHECKING, Any, Union
 
 import tomllib
 
+if TYPE_CHECKING:
+    from sagas.definition.step import Step
+
 MOST_KEPT = 16
 """Texts whose steps stay in memory. A text has up to 1 MiB, and up to 1,024 steps."""
+COMPENSATED = "# compensated"
+"""After the name of a step that has a compensation: its cost alone does not say so, since what
+undoes nothing may cost nothing, too."""
+MARKED = re.compile(rf'^name = "(.*)"\n(?:# of .*\n)?{COMPENSATED}$', re.M)
 Cost = Union[int, str]
 """A cost as the text has it: a number, or `never`."""
 
@@ -26,6 +34,9 @@ class ListedStep:
         undo: What its compensation costs.
         skip: What it costs to do without it.
         keep: What it costs to keep it.
+        undo_tries: How many attempts its compensation has.
+        is_compensated: Whether the program that started the saga had a compensation for it. An
+            older definition does not say so.
     """
 
     name: str
@@ -35,6 +46,8 @@ class ListedStep:
     undo: Cost
     skip: Cost
     keep: Cost
+    undo_tries: int = 1
+    is_compensated: bool = False
 
 
 @functools.lru_cache(MOST_KEPT)
@@ -43,9 +56,18 @@ def of(text: str) -> tuple[ListedStep, ...]:
 
     `tomllib` takes 30 ms for 1,024 steps, and whoever looks at a saga needs them several times.
     """
-    return tuple(map(_step, tomllib.loads(text)["step"]))
+    marked = {*MARKED.findall(text)}
+    return tuple(_step(told, told["name"] in marked) for told in tomllib.loads(text)["step"])
 
 
-def _step(told: dict[str, Any]) -> ListedStep:
-    costs = [told.get(word, 0) for word in ("run", "undo", "skip", "keep")]
-    return ListedStep(told["name"], tuple(told.get("needs", ())), told.get("tries", 1), *costs)
+def is_compensated(step: Step[Any]) -> bool:
+    """Whether a compensation is declared for a step."""
+    return step.has_compensation and not step.undo.implied
+
+
+def _step(told: dict[str, Any], is_compensated: bool) -> ListedStep:
+    run, undo, skip, keep = (told.get(word, 0) for word in ("run", "undo", "skip", "keep"))
+    return ListedStep(
+        told["name"], tuple(told.get("needs", ())), told.get("tries", 1), run, undo, skip, keep,
+        told.get("undo_tries", 1), is_compensated,
+    )  # fmt: skip

@@ -57,6 +57,10 @@ class Payloads:
         """Whether what is stored may be something else than the value."""
         return self.codec is not None or self.has_blobs
 
+    def is_encoded(self, text: str) -> bool:
+        """Whether a codec made a stored text, and this program has one."""
+        return self.codec is not None and ENVELOPE.match(text) is not None
+
     def changes(self, text: str) -> bool:
         """Whether a value is stored as another text."""
         return self.codec is not None or text.startswith(RESERVED)

@@ -19,7 +19,7 @@ from sagas.definition.saga import Saga
 from sagas.definition.step import NEVER, CostOf, Step
 from sagas.definition.task import Task
 from sagas.definition.task_data import Told
-from sagas.definition.undo_sagas import MOST_NAME, name_of
+from sagas.definition.undo_text import MOST_NAME, name_of
 
 if TYPE_CHECKING:
     from sagas.definition.decoders import Decoder

@@ -7,7 +7,7 @@ from collections.abc import Iterator, Sequence
 from typing import TYPE_CHECKING, Any
 
 from sagas.base.errors import TooLarge
-from sagas.definition import validation
+from sagas.definition import listed_steps, validation
 from sagas.definition.declaration import COSTS
 from sagas.definition.layout import Layout, spot_of
 from sagas.definition.shape import Shape, ShapedStep
@@ -65,6 +65,8 @@ class Template:
     def _step(self, one: ShapedStep, lines: list[str]) -> list[str]:
         """Add a step to these lines. Return those after the last computed cost."""
         lines += ("", "[[step]]", f'name = "{one.name}"', f"{OF}{one.spot.word}")
+        if listed_steps.is_compensated(one.step):
+            lines.append(listed_steps.COMPENSATED)
         if one.needs:
             lines.append("needs = [" + ", ".join([f'"{need}"' for need in one.needs]) + "]")
         for word in COSTS:

@@ -42,8 +42,12 @@ def need_name(need: Any) -> str:
 
 def is_shaped_step(step: Step[Any]) -> bool:
     """Whether its being there, or its costs, come from the input."""
-    has_costs = any(map(callable, step._costs.values()))
-    return step.for_each is not None or step.when is not None or has_costs
+    return step.for_each is not None or step.when is not None or has_computed_costs(step)
+
+
+def has_computed_costs(step: Step[Any]) -> bool:
+    """Whether functions say what it costs."""
+    return any(map(callable, step._costs.values()))
 
 
 def plain_steps(saga: Saga) -> dict[str, Step[Any]]:

@@ -2,9 +2,10 @@
 
 from __future__ import annotations
 
+import functools
 import weakref
 from collections import OrderedDict
-from collections.abc import Iterator
+from collections.abc import Callable, Iterator
 from typing import TYPE_CHECKING, Any, Protocol, TypeVar
 
 from sagas.definition import shape_text
@@ -87,15 +88,22 @@ class ShapedKinds:
             self._declared[name, version] = Declared(self._known.sagas.get((name, version)))
         return self._declared[name, version]
 
-    def of(self, saga: Saga, text: str) -> tuple[Kind, str]:
-        """The definition of a saga with this input, as JSON, and what is kept of its shape, as it
-        is stored.
+    def shaping(self, saga: Saga, text: str) -> Callable[[], Shape]:
+        """Return what computes the shape of a saga with this input, as JSON, by the functions of
+        its definition. A thread may call it. Then it raises:
+
+            InvalidInput: The input gives the saga no shape.
+            TooLarge: It gives it too many steps.
+        """
+        return functools.partial(Shape, saga, text, self._declaration(saga.name, saga.version))
+
+    def of(self, shape: Shape) -> tuple[Kind, str]:
+        """The definition of a shape, and what is kept of it, as it is stored.
 
         Raises:
-            InvalidInput: The input gives the saga no shape.
-            TooLarge: It gives it too many steps, or needs.
+            TooLarge: It has too many steps, or needs.
         """
-        shape = Shape(saga, text, self._declaration(saga.name, saga.version))
+        saga = shape.saga
         structure = (saga.name, saga.version, *shape.structure)
         signature = (structure, *shape.costs)
         kind = self._recent.get(signature)

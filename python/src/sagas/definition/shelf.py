@@ -7,8 +7,15 @@ import json
 from collections.abc import Callable, Iterable, Iterator, Sequence
 from typing import Any, NamedTuple
 
-from sagas.base.errors import DefinitionError, SagasError
-from sagas.definition import definition_text, report_undos, shape_text, undo_sagas, validation
+from sagas.base.errors import DefinitionError, MissingStep, SagasError
+from sagas.definition import (
+    definition_text,
+    report_undos,
+    shape_text,
+    undo_sagas,
+    undo_text,
+    validation,
+)
 from sagas.definition.capacity import MOST_DEFINITIONS, SHARD_CAPACITY
 from sagas.definition.compiled import Hooks, Kind, name_of, version_of
 from sagas.definition.context import Context
@@ -16,6 +23,7 @@ from sagas.definition.payloads import PLAIN as PLAIN_PAYLOADS
 from sagas.definition.listed_steps import of as listed_steps
 from sagas.definition.payloads import Payloads
 from sagas.definition.saga import Saga
+from sagas.definition.shape import Shape
 from sagas.definition.shaped_kinds import ShapedKinds
 from sagas.definition.step import Step
 
@@ -35,8 +43,9 @@ def digest_of_texts(texts: list[str]) -> str:
 
 
 class DefinitionSet(NamedTuple):
-    """The definitions with which a shard begins. Of sagas whose steps come from their input there
-    are none, and no digest: they come with the sagas.
+    """The definitions with which a shard begins. Of sagas whose steps come from their input, and of
+    those that undo children of earlier definitions, there are none, and no digest: they come with
+    the sagas.
     """
 
     digest: str = ""
@@ -61,7 +70,12 @@ class Fitted(NamedTuple):
 
 
 class Shelf:
-    """The sagas that a store was opened with, and the definitions of older logs by them."""
+    """The sagas that a store was opened with, and the definitions of older logs by them.
+
+    Attributes:
+        declared: The sagas.
+        sagas: The same, and those that undo their children, by name and version.
+    """
 
     def __init__(self, sagas: Iterable[Saga], payloads: Payloads = PLAIN_PAYLOADS) -> None:
         self.sagas: dict[tuple[str, int], Saga] = {}
@@ -83,6 +97,7 @@ class Shelf:
             self.sagas[name] = saga
         if not self.sagas:
             raise DefinitionError("a store needs at least one saga")
+        self.declared = list(self.sagas.values())
         self.sagas = undo_sagas.with_undo_sagas(self.sagas)
         self.shelf, self.texts = shelf_of(self.sagas.values())
         self._kinds: dict[str, Kind] = {}
@@ -98,17 +113,18 @@ class Shelf:
             if name in self.by_name
         }
         self._sets = dict(self._divided())
+        self._calling: dict[Saga, bool] = {}  # whether functions say which steps they have
 
     def report_undo(self, saga: Saga, step: Step[Any]) -> Saga:
         """Return the saga that calls the compensation of a step that was reported, and not used;
         `report_undos.fault` allows it.
         """
-        name = (undo_sagas.name_of(saga.name), saga.version, report_undos.step_name(saga, step))
+        name = (undo_text.name_of(saga.name), saga.version, report_undos.step_name(saga, step))
         if name not in self._report_undos:
             made = self._report_undos[name] = report_undos.saga_of(saga, step)
             kind = Kind(made.toml(), made, self.context, self.payloads)
             kind = self._kinds.setdefault(kind.text, kind)
-            kind.hooks = self._hooks(saga.name)
+            kind.hooks = self._hooks_of(kind)
             self._fitted[made] = Fitted(kind, None, None)
             self._sets[kind] = DefinitionSet(digest_of_texts([kind.text]), [kind])
         return self._report_undos[name]
@@ -116,10 +132,12 @@ class Shelf:
     def _undoing(self, text: str) -> Saga | None:
         """The saga that calls one compensation, by its text as some program stored it."""
         name, version = name_of(text), version_of(text)
-        if not name.endswith(undo_sagas.ENDING) or len(steps := listed_steps(text)) != 1:
+        if undo_text.child_of(text) is not None or not name.endswith(undo_text.ENDING):
+            return None
+        if len(steps := listed_steps(text)) != 1:
             return None
         for saga in self.sagas.values():
-            if (undo_sagas.name_of(saga.name), saga.version) != (name, version):
+            if (undo_text.name_of(saga.name), saga.version) != (name, version):
                 continue
             for step in saga.all_steps:
                 is_it = report_undos.step_name(saga, step) == steps[0].name
@@ -155,19 +173,54 @@ class Shelf:
         if shape_text.is_shaped(text):
             return self._shaped.kind(text)
         if text not in self._kinds:
-            saga = self._undoing(text) or self.sagas.get((name_of(text), version_of(text)))
+            saga = self._undoing(text) or self._saga(text)
             if text in self._kinds:
                 return self._kinds[text]
             kind = self._kinds[text] = Kind(text, saga, self.context, self.payloads)
-            kind.hooks = self._hooks(kind.name)
+            kind.hooks = self._hooks_of(kind)
         return self._kinds[text]
+
+    def _saga(self, text: str) -> Saga | None:
+        """The saga with the functions of a definition. One that undoes children has those of the
+        children's own definition, whatever the program declares today.
+        """
+        version, child_name = version_of(text), undo_text.child_of(text)
+        saga = self.sagas.get((name_of(text), version))
+        if saga is not None and saga.undo_text == text:
+            return saga
+        if child_name is None and (saga is None or saga.undoes is None):
+            return saga
+        child = self.sagas.get((child_name, version)) if child_name else saga and saga.undoes
+        return undo_sagas.of_text(child, text) if child else None
+
+    def undo_kind(self, child: Kind) -> Kind | None:
+        """Return the definition of the saga that undoes a completed child.
+
+        Args:
+            child: The definition that the child ran with.
+
+        Returns:
+            None where there is nothing to undo.
+
+        Raises:
+            MissingStep: This program lacks a compensation.
+        """
+        lacks, saga = undo_sagas.lacks(child.saga, child.text), child.saga
+        if lacks is not None or saga is None:
+            raise MissingStep(
+                f"a child of saga {child.name!r} (version {child.version}) is to be undone, but "
+                f"{lacks}. Declare it again"
+            )
+        text = undo_sagas.of_child(saga, child.text)
+        return None if text is None else self.kind(text)
 
     def hooks(self, name: str) -> Hooks:
         """The webhooks that are told of sagas of a name."""
         return self._hooks(name)
 
-    def fit(self, saga: Saga, text: str) -> Fitted:
-        """Return the definition of a saga with an input.
+    def fit(self, saga: Saga, text: str) -> Fitted | None:
+        """Return the definition of a saga with an input; None if functions say which steps it has
+        for the input. Then `shaping` calls them.
 
         Args:
             saga: The saga.
@@ -187,18 +240,53 @@ class Shelf:
                 f"{saga.where}: saga {saga.name!r}: the store was not opened with it. Add it "
                 "to open(..., [...])"
             )
+        if saga not in self._calling:  # it is whole by now
+            self._calling[saga] = saga.calls_functions
+        return None if self._calling[saga] else self.shaped(text, self.shaping(saga, text)())
+
+    def shaping(self, saga: Saga, text: str) -> Callable[[], Shape | SagasError]:
+        """Return what calls the functions by which the steps of a saga come from its input. They
+        may be slow, so a thread calls it.
+        """
+        shape = self._shaped.shaping(saga, text)
+
+        def computed() -> Shape | SagasError:
+            try:
+                return shape()
+            except SagasError as error:
+                return error
+
+        return computed
+
+    def shaped(self, text: str, shape: Shape | SagasError) -> Fitted:
+        """Return the definition of what `shaping` found for an input."""
+        if isinstance(shape, SagasError):
+            return Fitted(None, None, shape)
         try:
-            kind, shape = self._shaped.of(saga, text)
+            kind, values = self._shaped.of(shape)
         except SagasError as error:
             return Fitted(None, None, error)
-        return Fitted(kind, shape, kind.misfit(text))
+        return Fitted(kind, values, kind.misfit(text))
 
     def announce(self, hooks: Callable[[str], Hooks]) -> None:
         """Let webhooks be told of sagas: `hooks` gives them by the name of the saga."""
         self._hooks = hooks
         for kind in (*self._kinds.values(), *self._shaped.all()):
-            kind.hooks = hooks(kind.name)
+            kind.hooks = self._hooks_of(kind)
+
+    def _hooks_of(self, kind: Kind) -> Hooks:
+        """The webhooks that get posts of sagas of a definition; of one that undoes children, those
+        of the children as well.
+        """
+        found, child = self._hooks(kind.name), kind.saga and kind.saga.undoes
+        if not child:
+            return found
+        more = self._hooks(child.name)
+        types = dict.fromkeys((*found, *more))
+        return {
+            name: (*dict.fromkeys((*found.get(name, ()), *more.get(name, ()))),) for name in types
+        }
 
     def set_of(self, kind: Kind) -> DefinitionSet:
         """The definitions of the logs that take new sagas of this one."""
-        return GROWING if kind.layout is not None else self._sets[kind]
+        return self._sets.get(kind, GROWING)

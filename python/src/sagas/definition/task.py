@@ -161,7 +161,8 @@ class Task(Generic[I]):
     def progress(self, fraction: float, detail: str | None = None) -> None:
         """Report how far the function is, for people.
 
-        It does not block. The last one is written about once a second.
+        It does not block. The last one is written about once a second, as it is: a codec does not
+        encode it.
 
         Args:
             fraction: A number from 0 to 1.

@@ -31,6 +31,21 @@ class CatchUp(enum.StrEnum):
     """None is started."""
 
 
+class Overlap(enum.StrEnum):
+    """What becomes of a time while the saga of the time before is open."""
+
+    ALLOW = "allow"
+    """It is started."""
+    SKIP = "skip"
+    """It is not started."""
+    QUEUE = "queue"
+    """It is started once that saga has ended."""
+
+
+MOST_MISSED = 100
+"""Missed times that are started at most, if nothing else is said."""
+
+
 @dataclasses.dataclass(frozen=True, slots=True)
 class Timing:
     """Times by a cron expression, or in equal distances.
@@ -40,12 +55,24 @@ class Timing:
         every: Seconds between two times, which are multiples of that since 1970; 0 with `cron`.
         timezone: The time zone of the expression.
         catch_up: What becomes of times that were missed.
+        most: How many missed times are started at most, the last ones.
+        overlap: What becomes of a time while the saga of the time before is open.
     """
 
     cron: str
     every: float
     timezone: str
     catch_up: CatchUp
+    most: int = MOST_MISSED
+    overlap: Overlap = Overlap.ALLOW
+
+    @property
+    def policy(self) -> str:
+        """`catch_up`, `most` and `overlap` as they are stored. Defaults are left out."""
+        words = [self.catch_up.value]
+        words += [f"max={self.most}"] if self.most != MOST_MISSED else []
+        words += [f"overlap={self.overlap}"] if self.overlap is not Overlap.ALLOW else []
+        return " ".join(words)
 
     def next_after(self, at: float) -> float:
         """Return the first time behind another one, in seconds since 1970.
@@ -82,11 +109,37 @@ class Timing:
             last = self._last(next_at, now)
             is_missed = self.catch_up is CatchUp.SKIP and now - last > LATE
             return [] if is_missed else [last], self.next_after(last)
-        times, at = list[float](), next_at
+        times, at = list[float](), self.first_of(next_at, now)
         while at <= now and len(times) < most:
             times.append(at)
             at = self.next_after(at)
         return times, at
+
+    def first_of(self, next_at: float, now: float) -> float:
+        """Return the first of the last `self.most` times until now, or `next_at` if they are fewer:
+        there may be millions between.
+        """
+        if self.every:
+            return max(next_at, (self._passed(now) - self.most + 1) * self.every)
+        span = self.most * APART
+        while (start := now - span) > next_at:
+            times, at = list[float](), self.next_after(start)
+            while at <= now:
+                times.append(at)
+                at = self.next_after(at)
+            if len(times) >= self.most:
+                return times[-self.most]
+            span *= 4
+        return next_at
+
+    def missed(self, next_at: float, now: float) -> int:
+        """Return how many times there are until now, of which `next_at` is the first; of more than
+        `self.most` these.
+        """
+        count, at = 0, self.first_of(next_at, now)
+        while at <= now:
+            count, at = count + 1, self.next_after(at)
+        return count
 
     def _passed(self, at: float) -> float:
         """How many distances there are until then."""
@@ -108,7 +161,18 @@ class Timing:
         return self.next_after(low)
 
 
-def timing(cron: Any, every: Any, timezone: Any, catch_up: Any) -> Timing:
+def policy_of(stored: str) -> tuple[CatchUp, int, Overlap]:
+    """Return `catch_up`, `most` and `overlap` of what `Timing.policy` wrote."""
+    catch_up, *words = stored.split(" ")
+    more = dict(word.split("=") for word in words)
+    most, overlap = int(more.get("max", MOST_MISSED)), Overlap(more.get("overlap", "allow"))
+    return CatchUp(catch_up), most, overlap
+
+
+def timing(
+    cron: Any, every: Any, timezone: Any, catch_up: Any, most: Any = MOST_MISSED,
+    overlap: Any = Overlap.ALLOW,
+) -> Timing:  # fmt: skip
     """Return when a schedule starts its sagas, by the arguments of `Store.schedule`.
 
     Raises:
@@ -127,6 +191,13 @@ def timing(cron: Any, every: Any, timezone: Any, catch_up: Any) -> Timing:
         names = ", ".join(CatchUp)
         raise InvalidSchedule(f"catch_up={shown(catch_up)}: must be one of {names}") from None
     try:
+        told_overlap = Overlap(overlap)
+    except ValueError:
+        names = ", ".join(Overlap)
+        raise InvalidSchedule(f"overlap={shown(overlap)}: must be one of {names}") from None
+    if not isinstance(most, int) or isinstance(most, bool) or not 1 <= most <= 10_000:
+        raise InvalidSchedule(f"max={shown(most)}: must be an integer from 1 to 10,000")
+    try:
         ZoneInfo(timezone)
     except (ZoneInfoNotFoundError, ValueError, TypeError, OSError) as error:
         raise InvalidSchedule(
@@ -138,7 +209,7 @@ def timing(cron: Any, every: Any, timezone: Any, catch_up: Any) -> Timing:
             Cron.parse(cron)
         except (ValueError, AttributeError, TypeError) as error:
             raise InvalidSchedule(f"cron={shown(cron)}: {error}") from error
-    found = Timing(cron or "", float(seconds or 0), timezone, told)
+    found = Timing(cron or "", float(seconds or 0), timezone, told, most, told_overlap)
     found.next_after(0.0)
     return found
 

@@ -1,40 +1,32 @@
-"""Definitions of the sagas that undo completed children: their compensations, as steps."""
+"""Sagas that undo completed children: their compensations, as steps."""
 
 from __future__ import annotations
 
 import dataclasses
-import hashlib
 import inspect
-import json
-from collections.abc import Callable, Iterator, Mapping
-from typing import TYPE_CHECKING, Any
+from collections.abc import Callable, Iterable, Mapping, Sequence
+from typing import Any
 
 from sagas.base.errors import DefinitionError
-from sagas.definition import children, decoders, validation
+from sagas.definition import (
+    children,
+    compensation_task,
+    decoders,
+    listed_steps,
+    undo_text,
+    validation,
+)
+from sagas.definition.decoders import Decoder
 from sagas.definition.saga import Saga
-from sagas.definition.step import NEVER, CostOf, Step
+from sagas.definition.step import NEVER, Cost, CostOf, Step
 from sagas.definition.task import Task
-from sagas.definition.task_data import Told
-
-if TYPE_CHECKING:
-    from sagas.definition.decoders import Decoder
-
-MOST_NAME = 32
-ENDING = "-undo"
-
-
-def name_of(child: str) -> str:
-    """Return the name of the saga that undoes a completed child, by the child's."""
-    if len(child) + len(ENDING) <= MOST_NAME:
-        return f"{child}{ENDING}"
-    digest = hashlib.sha256(child.encode()).hexdigest()[:6]
-    return f"{child[: MOST_NAME - len(ENDING) - 7]}-{digest}{ENDING}"
+from sagas.definition.undo_text import Compensation
 
 
 def undo_saga(child: Saga) -> Saga | None:
-    """Return the definition of the saga that undoes a completed one.
+    """Return the saga that undoes a completed one of today's definition.
 
-    Its steps are the compensations of those steps that can be undone, each behind those of the
+    Its steps are the compensations of those steps that can be undone, each after those of the
     steps that need its own. A compensation that fails leaves an effect in place, at the step's cost
     of keeping it.
 
@@ -50,98 +42,139 @@ def undo_saga(child: Saga) -> Saga | None:
             "its steps come from its input, so no saga can undo it as a child. Give the step that "
             "starts it a compensation of its own, or undo=sagas.NEVER",
         )
-    undone = {step.name: step for step in _undone(child)}
-    if not undone:
-        return None
-    saga = Saga(name_of(child.name), version=child.version)
-    saga.where, saga.undoes = child.where, child
-    above = _above(child)
-    below = {step.name: _below(child, step.name) for step in child.steps}
-    for step in reversed(child.steps):
-        if step.name in undone:
-            needs = sorted(_first_of(above, step.name, undone))
-            _declare(saga, step, needs, below[step.name])
+    declared = declared_steps(child)
+    steps = undo_text.planned(listed_steps.of(child.toml()), declared)
+    for step in (declared[one.name] for one in steps):
+        if step.undo.queue:
+            raise DefinitionError(
+                f"{step.where}: saga {step.saga.name!r}, step {step.name!r}: workers of a queue "
+                "call its compensation, so this saga cannot be undone as a child. Give the step "
+                "that starts it a compensation of its own, or undo=sagas.NEVER"
+            )
+    return _made(child, steps, text_of(child, steps)) if steps else None
+
+
+def text_of(child: Saga, steps: Iterable[Compensation]) -> str:
+    """Return the definition of the saga that undoes a child by these steps."""
+    return undo_text.write(child.name, child.version, steps)
+
+
+def declared_steps(child: Saga | None) -> dict[str, Step[Any]]:
+    """The steps of a saga as the program declares them today, by name."""
+    return {step.name: step for step in child.steps} if child else {}
+
+
+def of_child(child: Saga, text: str) -> str | None:
+    """Return the definition of the saga that undoes a child of an earlier definition.
+
+    Args:
+        child: The saga as the program declares it today.
+        text: The definition that the child ran with.
+
+    Returns:
+        None where there is no compensation to be called.
+    """
+    steps = undo_text.planned(listed_steps.of(text), declared_steps(child))
+    return text_of(child, steps) if steps else None
+
+
+def of_text(child: Saga, text: str) -> Saga:
+    """Return the saga of a stored definition, with the compensations that the program has today.
+
+    Args:
+        child: The saga that it undoes, as the program declares it today.
+        text: The definition.
+    """
+    return _made(child, undo_text.read(text), text)
+
+
+def lacks(child: Saga | None, text: str) -> str | None:
+    """Return what a program lacks to undo a completed child; None if it can.
+
+    Args:
+        child: The saga as the program declares it today, if it does.
+        text: The definition that the child ran with.
+    """
+    if child is None:
+        return "this program did not open the store with that saga"
+    declared = declared_steps(child)
+    for one in undo_text.planned(listed_steps.of(text), declared):
+        if not can_undo(declared.get(one.name)):
+            return f"step {one.name!r} has no compensation in this program"
+    return None
+
+
+def can_undo(step: Step[Any] | None) -> bool:
+    """Whether the saga that undoes a child can call what undoes one of its steps."""
+    if step is None or step.undo.queue:
+        return False
+    return step.starts_child("undo") or listed_steps.is_compensated(step)
+
+
+def _made(child: Saga, steps: Sequence[Compensation], text: str) -> Saga:
+    """The saga, without the steps that this program cannot undo."""
+    saga = Saga(undo_text.name_of(child.name), version=child.version)
+    saga.where, saga.undoes, saga.undo_text = child.where, child, text
+    saga.fair_by = _of_child(child.fair_by)
+    declared, there = declared_steps(child), set[str]()
+    below = {one.name: one.sees for one in steps}
+    if text and not undo_text.sees_of(text):  # of an older release
+        listed = listed_steps.of(child.toml())
+        below = {one.name: one.sees for one in undo_text.planned(listed, declared)}
+    for one in steps:
+        step = declared.get(one.name)
+        if step is not None and can_undo(step):
+            needs = [need for need in one.needs if need in there]
+            _declare(saga, step, needs, one, frozenset(below.get(one.name, ())))
+            there.add(one.name)
     return saga
 
 
-def _undone(child: Saga) -> Iterator[Step[Any]]:
-    """The steps that have something to be undone, and may be: no step that cannot be undone needs
-    them.
-    """
-    fixed = {step.name for step in child.steps if step.cost("undo") is NEVER}
-    fixed = fixed.union(*(_below(child, name) for name in fixed))
-    for step in child.steps:
-        is_empty = step.undo.implied and step.child is None
-        if step.name not in fixed and not is_empty:
-            yield step
-
-
-def _above(child: Saga) -> dict[str, list[str]]:
-    """Of each step those that need it directly."""
-    found: dict[str, list[str]] = {step.name: [] for step in child.steps}
-    for step in child.steps:
-        for need in step.needs:
-            found[need].append(step.name)
-    return found
-
-
-def _below(child: Saga, name: str) -> set[str]:
-    """The steps that a step needs, directly or not."""
-    needs = {step.name: step.needs for step in child.steps}
-    found, left = set[str](), [*needs[name]]
-    while left:
-        if (one := left.pop()) not in found:
-            found.add(one)
-            left += needs[one]
-    return found
-
-
-def _first_of(
-    above: Mapping[str, list[str]], name: str, among: Mapping[str, Step[Any]]
-) -> set[str]:
-    """Those of some steps that need one, without another of them in between."""
-    found, seen, left = set[str](), set[str](), [*above[name]]
-    while left:
-        one = left.pop()
-        if one in seen:
-            continue
-        seen.add(one)
-        if one in among:
-            found.add(one)
-        else:
-            left += above[one]
-    return found
-
-
-def _declare(saga: Saga, step: Step[Any], needs: list[str], below: set[str]) -> None:
+def _declare(
+    saga: Saga, step: Step[Any], needs: list[str], one: Compensation, sees: frozenset[str]
+) -> None:
     """Add the step that undoes a step of the child."""
-    if step.undo.queue:
-        raise DefinitionError(
-            f"{step.where}: saga {step.saga.name!r}, step {step.name!r}: workers of a queue call "
-            "its compensation, so this saga cannot be undone as a child. Give the step that starts "
-            "it a compensation of its own, or undo=sagas.NEVER"
-        )
-    skip = step.cost("keep")
+    cost, skip = _cost(one.cost), _cost(one.skip)
     if step.child is not None and step.undo.implied:
-        if (inner := undo_saga(step.child)) is None:
-            return
         saga.child(
-            inner, input=_key_of(step.name), name=step.name, needs=needs, undo=NEVER, skip=skip,
-            keep=0,
+            step.child, input=_key_of(step.name), name=step.name, needs=needs, undo=NEVER,
+            skip=skip, keep=0, on_exhausted="ask" if step.undo.on_exhausted == "ask" else "fail",
         )  # fmt: skip
         return
     function = step.undo.function
     manner = dataclasses.replace(
-        step.undo, function=function and _undoing(function, step, below), implied=False
+        step.undo, function=function and _undoing(function, step, sees), implied=False
     )
     costs: dict[str, CostOf | None] = {
-        "run": step.cost("undo"),
+        "run": cost,
         "undo": NEVER,
         "skip": skip,
         "keep": 0,
     }
-    made = saga._add(manner.function, step.name, "step", needs, costs, manner, None)
+    limit = None if manner.external else step.concurrency
+    made = saga._add(manner.function, step.name, "step", needs, costs, manner, limit)
     made.where = step.where
+    if limit is not None:
+        made.concurrency_by = _of_child(step.concurrency_by, children.hints(step)[0])
+
+
+def _of_child(
+    function: Callable[[Any], Any] | None, decoder: Decoder | None = None
+) -> Callable[[Any], Any] | None:
+    """A function of a child's input as one of the input of the saga that undoes the child."""
+    if function is None:
+        return None
+    of_input = function
+
+    def by(given: Any) -> Any:
+        return of_input(decoder(given["input"]) if decoder else given["input"])
+
+    return by
+
+
+def _cost(listed: listed_steps.Cost) -> Cost:
+    """A cost as it is declared."""
+    return listed if isinstance(listed, int) else NEVER
 
 
 def _key_of(name: str) -> Callable[[Task[Any]], Any]:
@@ -150,7 +183,7 @@ def _key_of(name: str) -> Callable[[Task[Any]], Any]:
 
 
 def _undoing(
-    function: Callable[[Any], Any], step: Step[Any], below: set[str]
+    function: Callable[[Any], Any], step: Step[Any], sees: frozenset[str]
 ) -> Callable[[Any], Any]:
     """A compensation as the function of a step: its task is that of the compensation."""
     hint, _ = decoders.hints(function)
@@ -160,44 +193,33 @@ def _undoing(
         if result is not None:
             known[one.name] = result
 
-    def told(task: Any) -> Task[Any]:
-        given = task.input
-        results = {name: json.dumps(value) for name, value in given["results"].items()}
-        about = task._about
-        inner: Task[Any] = Task(
-            Told(
-                saga=step.saga.name,
-                key=given["key"],
-                name=step.name,
-                undo=True,
-                attempt=task.attempt,
-                saga_token=given["token"],
-                input=json.dumps(given["input"]),
-                given={name: text for name, text in results.items() if name in below},
-                own=results.get(step.name, "null"),
-                hint=hint,
-                decoders=known,
-                context=about.context,
-                control=about.control,
-            )
-        )
-        inner.enter_by(lambda: task.connection)
-        return inner
+    def own(task: Any) -> Task[Any]:
+        return compensation_task.of(task, step.saga.name, sees, hint, known)
 
     if inspect.iscoroutinefunction(function):
 
         async def undo_later(task: Any) -> Any:
-            return await function(told(task))
+            return await function(own(task))
 
         return undo_later
 
     def undo(task: Any) -> Any:
-        return function(told(task))
+        return function(own(task))
 
     return undo
 
 
 # -- of a store
+
+
+def check_started(saga: Saga) -> None:
+    """Raise `DefinitionError` where a saga undoes children: only their parents start it."""
+    child = getattr(saga, "undoes", None)
+    if child is not None:
+        raise DefinitionError(
+            f"saga {saga.name!r} undoes {child.name!r} as a child, so only parents of such "
+            f"children start it. Start {child.name!r}, or a saga of another name"
+        )
 
 
 def with_undo_sagas(sagas: Mapping[tuple[str, int], Saga]) -> dict[tuple[str, int], Saga]:

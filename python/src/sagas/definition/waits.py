@@ -44,7 +44,7 @@ class WaitSteps(ChildSteps):
 
         Args:
             until: A timedelta from when the needs are committed, a datetime with a time zone, or a
-                plain function of the task that returns either.
+                plain function of the task that returns either, called in a thread.
             undo: As of `step` (default: 0). `NEVER`: its function's effect cannot be undone.
             tries: As of `step` (default: 9). Being undone while it waits uses one.
 

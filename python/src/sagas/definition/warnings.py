@@ -5,7 +5,7 @@ from __future__ import annotations
 from collections.abc import Iterator
 from typing import TYPE_CHECKING, Any
 
-from sagas.definition import decoders
+from sagas.definition import decoders, listed_steps, undo_text
 from sagas.definition.validation import MOST_TOLD, check_saga, place
 
 if TYPE_CHECKING:
@@ -17,13 +17,14 @@ def warnings(saga: Saga) -> list[str]:
     """What is sound and probably not meant, each by file and line."""
     check_saga(saga)
     if saga.is_shaped:  # what else may be meant otherwise depends on the input
-        return [*_unread(saga), *_short(saga), *_left_out(saga)]
+        return [*_unread(saga), *_short(saga), *_left_out(saga), *_undoing_nothing(saga)]
     stays = _stays(saga)
     return [
         *_unread(saga),
         *_short(saga),
         *_never_called(saga, stays),
         *_holding(saga, stays),
+        *_undoing_nothing(saga),
     ]
 
 
@@ -66,6 +67,25 @@ def _unread(saga: Saga) -> Iterator[str]:
                     f"{where}: its type hints cannot be read, so its values stay plain JSON: "
                     f"{unread}"
                 )
+
+
+def _undoing_nothing(saga: Saga) -> Iterator[str]:
+    """Steps whose children cannot be undone at all, though a cost says that they can."""
+    from sagas.definition import children
+
+    for step, child in children.children_of(saga):
+        undo = step.declared_cost("undo")
+        if not isinstance(undo, int) or not step.undo.implied or child.is_shaped:
+            continue
+        listed = listed_steps.of(child.toml())
+        stays = [f"{one.name!r}" for one in listed if one.undo == "never"]
+        if stays and not undo_text.planned(listed, {one.name: one for one in child.steps}):
+            yield (
+                f"{step.where}: saga {saga.name!r}, step {step.name!r}: undo={undo}, but nothing "
+                f"of its child saga {child.name!r} can be undone, because "
+                f"{' and '.join(stays[:MOST_TOLD])} cannot be. A plan may choose that cost, and "
+                "then leaves all in place. Set undo=sagas.NEVER"
+            )
 
 
 def _in_order(saga: Saga) -> Iterator[Step[Any]]:

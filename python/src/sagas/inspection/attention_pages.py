@@ -118,8 +118,9 @@ def entries(
     newest: bool = False,
     most: int = 100,
 ) -> Question[list[Entry]]:
-    """A page of one of `KINDS`, by the starts of the sagas. `of`: without a phase; `undo`: of a
-    `step`, whether its compensation is meant; None: both are."""
+    """A page of one of `KINDS`, by the starts of the sagas. `of`: without a phase; `step`: of the
+    steps with this name, or that are declared with it; `undo`: of a `step`, whether its
+    compensation is meant; None: both are."""
     text, place = BY_KIND[kind]
     wheres, words = _among(of)
     if after is not None:
@@ -133,14 +134,17 @@ def entries(
     rows = yield Query(query, (*words, wanted))
     names = yield from names_module.of_digests(row[5] for row in rows)
     is_whole = kind == AttentionReason.DAMAGED  # a step has no part in it
-    found = [_entry(kind, names, *row) for row in rows if is_whole or row[5] in names]
+    some = [row for row in rows if is_whole or row[5] in names]
+    if step is not None:
+        some = [row for row in some if row[2] >= 0 and names.is_of(step, row[5], row[2])]
+    found = [_entry(kind, names, *row) for row in some]
     if kind == AttentionReason.UNUSED_REPORT:
         by = yield from unused_reports.reporters(one.key for one in found)
         told = ((one, by.get((one.key, one.step or ""))) for one in found)
         found = [dataclasses.replace(one, by=who) for one, who in told]
     if step is None:
         return found
-    return [one for one in found if one.step == step and undo in (None, one.undo)][:most]
+    return [one for one in found if undo in (None, one.undo)][:most]
 
 
 def _among(of: Filter) -> tuple[list[str], list[Any]]:

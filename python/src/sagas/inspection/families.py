@@ -3,11 +3,11 @@
 from __future__ import annotations
 
 import dataclasses
-from collections.abc import Callable
 
 from sagas.definition.arguments import BELOW
 from sagas.inspection.question import Query, Question
 from sagas.inspection.views import Relative, SagaView
+from sagas.storage.filters import Scope
 from sagas.storage.queries import PHASE
 
 PARENT = f"""
@@ -21,10 +21,12 @@ MOST = 1024
 """Children of a saga that are listed."""
 
 
-def seen_by(view: SagaView, sees: Callable[[str], bool]) -> SagaView:
-    """A saga for somebody who may see sagas of some definitions alone."""
-    children = [one for one in view.children if sees(one.saga)]
-    parent = view.parent if view.parent and sees(view.parent.saga) else None
+def seen_by(view: SagaView, scope: Scope) -> SagaView:
+    """Return a saga with those of its relatives that are in a scope."""
+    children = [one for one in view.children if scope.has_saga(one.saga, one.key)]
+    parent = view.parent
+    if parent and not scope.has_saga(parent.saga, parent.key):
+        parent = None
     return dataclasses.replace(view, parent=parent, children=children)
 
 

@@ -35,6 +35,9 @@ from sagas.storage.queries import (
     PHASES,
     RESULTS,
     SAGA,
+    UNDOABLE,
+    UNDOES_CHILD,
+    UNDOING_KEYS,
     labels_of,
 )
 from sagas.storage.schedules import Schedule
@@ -59,9 +62,14 @@ SUSPENDED = f"""(
     coalesce((SELECT count FROM suspensions u WHERE {SAME.format("u", "e")}), 0), e.since, e.until,
     e.worker
   FROM external_attempts e
-  WHERE e.outcome IS NULL AND e.worker IS NOT NULL AND e.until IS NOT NULL{{e}})"""
+  WHERE e.outcome IS NULL AND e.worker IS NOT NULL AND e.until IS NOT NULL{{e}}{{unclaimed}})"""
 """What is suspended, and what a worker has; of what is offered again nobody waits for a time, and
 no worker has it, though its row says who had it last. With a further condition of each."""
+UNCLAIMED = """
+  UNION ALL SELECT e.id, e.step, e.action, e.number, 'worker', 0, e.offered_at, NULL, NULL
+  FROM external_attempts e
+  WHERE e.outcome IS NULL AND e.task > '' AND e.worker IS NULL AND e.offered_at < ?"""
+"""What is offered to workers since an earlier time, and none has claimed."""
 OF_KEY = " AND {}.id = (SELECT id FROM sagas WHERE key = ?)"
 PERSON = f"(reason = 'approval' OR {HELD_BADLY})"
 WAITS = "NOT (reason = 'wait' AND until = 0) AND number > 0"
@@ -137,12 +145,13 @@ def definitions() -> Question[list[DefinitionCount]]:
         is_long=True,
     )
     heads: dict[str, str] = {digest: head for digest, head in (yield Query(HEADS, is_long=True))}
-    found = dict[tuple[str, int], tuple[int, int]]()
+    undoable = {row[:2]: row[2] for row in (yield Query(UNDOABLE, is_long=True))}
+    found = dict[tuple[str, int], tuple[int, int, int]]()
     for digest, saga, total, open in rows:
         if digest in heads:  # else it was let go meanwhile
             name = saga, version_of(heads[digest])
-            before = found.get(name, (0, 0))
-            found[name] = open + before[0], total + before[1]
+            before, held = found.get(name, (0, 0, 0)), undoable.get((digest, saga), 0)
+            found[name] = open + before[0], total + before[1], held + before[2]
     return [DefinitionCount(*name, *counts) for name, counts in sorted(found.items())]
 
 
@@ -160,12 +169,22 @@ def count(filter: Filter) -> Question[int]:
 
 
 def to_abort(of: Filter, most: int) -> Question[tuple[int, list[str]]]:
-    """How many sagas of a filter nobody has asked to abort, and the keys of the oldest of them."""
+    """How many sagas of a filter nobody has asked to abort, and the keys of the oldest of them.
+    Those that undo children are left out.
+    """
     where, words = of.where()
-    some = f"FROM sagas s WHERE {where} AND {UNASKED}"
-    rows = yield Query(f"SELECT count(*) {some}", (*words,))
-    keys = yield Query(f"SELECT s.key {some} {OLDEST} LIMIT ?", (*words, most))
+    some = f"FROM sagas s WHERE {where} AND {UNASKED} AND NOT {UNDOES_CHILD}"
+    rows = yield Query(f"SELECT count(*) {some}", (*words, UNDOING_KEYS))
+    keys = yield Query(f"SELECT s.key {some} {OLDEST} LIMIT ?", (*words, UNDOING_KEYS, most))
     return int(rows[0][0]), [str(key) for key, in keys]
+
+
+def undoing(of: Filter) -> Question[int]:
+    """How many sagas of a filter undo children."""
+    where, words = of.where()
+    query = f"SELECT count(*) FROM sagas s WHERE {where} AND {UNDOES_CHILD}"
+    rows = yield Query(query, (*words, UNDOING_KEYS))
+    return int(rows[0][0])
 
 
 def asked(scope: Scope = EVERYTHING) -> Question[dict[str, int]]:
@@ -196,9 +215,14 @@ def waits(
     key: str | None = None,
     scope: Scope = EVERYTHING,
     within: Filter | None = None,
+    offered_before: float | None = None,
+    step: str | None = None,
 ) -> Question[list[Waits]]:
     """What is held, the oldest first; by default what a person has to say something about. `why`:
-    of this reason alone; `key`: of one saga alone; `within`: of those sagas alone."""
+    of this reason alone; `key`: of one saga alone; `within`: of those sagas alone;
+    `offered_before`: of all sagas also the tasks that were offered to workers before then, and
+    that none has claimed (`worker`); `step`: of the steps with this name, or that are declared
+    with it."""
     seen, words = scope.where()
     wheres = [WAITS, seen]
     if within is not None:
@@ -210,23 +234,28 @@ def waits(
     if why is not None:
         wheres.append("reason = ?")
         words.append(why)
-    held, keys = "suspensions", list[str]()
+    held, keys = "suspensions", list[Any]()
     if key is not None and person:
         wheres.append(f"h.id = h.id{OF_KEY.format('h')}")
         words.append(key)
     elif not person:
         of = {part: OF_KEY.format(part) if key is not None else "" for part in ("u", "e")}
-        held, keys = SUSPENDED.format(**of), [key, key] if key is not None else []
+        unclaimed = "" if offered_before is None else UNCLAIMED
+        held, keys = SUSPENDED.format(**of, unclaimed=unclaimed), [key, key] if key else []
+        keys += [offered_before] if unclaimed else []
     rows = yield Query(
         f"""
         SELECT s.key, s.saga, d.definition, {HELD}
         FROM {held} h JOIN sagas s ON s.id = h.id {OF_SHARD}
         WHERE {' AND '.join(wheres)} ORDER BY h.since LIMIT ?
         """,
-        (*keys, *words, most),
+        (*keys, *words, most if step is None else ALL),  # the rows have no names of steps
     )
     names = yield from names_module.of_digests(row[2] for row in rows)
-    return [_waits(names, *row) for row in rows if row[2] in names]
+    found = (row for row in rows if row[2] in names)
+    return [
+        _waits(names, *row) for row in found if step is None or names.is_of(step, row[2], row[4])
+    ][:most]
 
 
 def _waits(

@@ -36,6 +36,10 @@ class Names:
             self._names[digest] = step_names(self.text(digest))
         return self._names[digest]
 
+    def is_of(self, step: str, digest: str, place: int) -> bool:
+        """Whether the step at a place of a definition has a name, or is declared with it."""
+        return step in (self.of(digest)[place], self.declared(digest)[place])
+
     def declared(self, digest: str) -> list[str]:
         """The names with which a definition's steps were declared: `hotel/room`."""
         if digest not in self._declared:

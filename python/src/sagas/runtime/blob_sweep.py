@@ -12,19 +12,33 @@ from sagas.base.wording import number
 if TYPE_CHECKING:
     from sagas.storage.blob_layer import BlobDatabase
 
-DAY, AGAIN = 86_400.0, 3600.0
-"""Seconds between two sweeps, and until one that failed is tried again."""
+DAY, HOUR = 86_400.0, 3600.0
+"""Seconds between two sweeps, and between two looks whose the values are."""
+COPY = (
+    "%s: the values in the blob store are those of %s, of which this store is a copy. None of them "
+    "is deleted. Give this store a blob store of its own, with a copy of the values. Or run `sagas "
+    "store STORE own-blobs --blobs ...` if it replaces the other one"
+)
 
 
 async def sweep(database: BlobDatabase) -> None:
-    """Delete orphans at the opening, and then each day; until it is cancelled."""
+    """Delete orphans at the opening, and then each day; until it is cancelled. Each hour it is
+    looked whose the values are.
+    """
+    loop, blobs, said = asyncio.get_running_loop(), database.blobs, ""
+    due = loop.time()
     while True:
         try:
-            count = await database.swept()
-            pause = DAY
-            if count:
-                logger.info("deleted %s without a row", number(count, "blob"))
+            if loop.time() < due:
+                await blobs.is_own()
+            else:
+                count = await database.swept()
+                due = loop.time() + (DAY if blobs.other is None else 0)
+                if count:
+                    logger.info("deleted %s without a row", number(count, "blob"))
+            if blobs.other is not None and blobs.other.name != said:
+                said = blobs.other.name
+                logger.warning(COPY, database.path, said)
         except SagasError as error:
             logger.warning("blobs without a row could not be deleted: %s", error)
-            pause = AGAIN
-        await asyncio.sleep(pause)
+        await asyncio.sleep(HOUR)

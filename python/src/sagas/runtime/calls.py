@@ -19,6 +19,7 @@ from sagas.core.limits import Slots
 from sagas.core.model import QUEUED, RUNNING, Attempt, SagaInstance, finish_all, start_all
 from sagas.core.outcomes import Outcome
 from sagas.definition import awaitables
+from sagas.definition.blobs import BlobUnavailable
 from sagas.definition.step import Manner
 from sagas.definition.tracing import Tracer
 from sagas.runtime import invocation
@@ -147,10 +148,12 @@ class Calls:
                 outcome = await self._outcome(attempt, attempt.manner)
         except Lost as error:
             fault = error
+        except BlobUnavailable as error:
+            outcome = outcomes.not_read(error)
         self._ended(attempt, began, outcome, fault, at_once=False)
 
     async def _has_values(self, attempt: Attempt) -> bool:
-        """Read what it lacks. False: it was cancelled meanwhile."""
+        """Read what it lacks. False: it was cancelled meanwhile. Raises `BlobUnavailable`."""
         if attempt.lacks():
             try:
                 await self._fill(attempt)

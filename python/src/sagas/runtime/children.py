@@ -9,7 +9,9 @@ from typing import Any, NamedTuple, Protocol
 from sagas.base.errors import (
     CannotDecode,
     Closed,
+    InvalidResult,
     KeyConflict,
+    MissingStep,
     Moved,
     NoSuchSaga,
     SagasError,
@@ -21,7 +23,9 @@ from sagas.core.model import SUSPENDED, Attempt
 from sagas.core.outcomes import SUCCEEDED, Outcome
 from sagas.core.results import SagaResult
 from sagas.core.states import Suspension
-from sagas.definition import tokens, undo_sagas
+from sagas.definition import children as child_keys
+from sagas.definition import tokens
+from sagas.definition.arguments import BELOW
 from sagas.definition.capacity import SHARD_CAPACITY
 from sagas.definition.compiled import Kind
 from sagas.definition.labels import TOKEN
@@ -57,7 +61,7 @@ class ChildEnd(NamedTuple):
 class Carrier(Protocol):
     """What starts, finds and aborts sagas by their keys, wherever they are executed."""
 
-    async def start(self, saga: Saga, key: str, given: Any, options: StartOptions) -> bool:
+    async def start(self, saga: Saga | Kind, key: str, given: Any, options: StartOptions) -> bool:
         """Start a saga, also where the store starts no new ones. False: the key has one."""
 
     async def end(self, key: str) -> ChildEnd:
@@ -133,8 +137,8 @@ class Children:
                 break
             except Closed:
                 return
-            except CannotDecode as error:
-                outcome = outcomes.raised(error, attempt.manner)
+            except (CannotDecode, MissingStep) as error:
+                outcome = outcomes.parked(str(error))
                 break
             except (TemporaryError, Moved, NoSuchSaga) as error:
                 logger.info("child of %r is looked at again: %s", attempt.key, error)
@@ -153,7 +157,7 @@ class Children:
             found = await self._begun(attempt)
         except (TemporaryError, Moved, NoSuchSaga):
             raise
-        except CannotDecode:
+        except (CannotDecode, MissingStep):
             raise
         except SagasError as error:
             return outcomes.failure(f"{type(error).__name__}: {error}", final=True)
@@ -187,29 +191,22 @@ class Children:
             KeyConflict: The key is another saga's.
             SagasError: The child cannot be started.
         """
-        key, saga = children.key_of(attempt), self._definition(attempt)
-        if saga is None:
-            return Outcome(SUCCEEDED, "null")  # there is no compensation to be called
+        key = children.key_of(attempt)
         while not await self._is_there(attempt, key):
             await self._values.fill(attempt)
             try:
-                given = await self._input(attempt, saga)
+                saga, given = await self._new(attempt)
             except SagasError:
                 raise
             except Exception as error:  # of the step's function
                 return outcomes.raised(error, attempt.manner)
             finally:
                 attempt.instance.release()
+            if saga is None:
+                return Outcome(SUCCEEDED, "null")  # there is no compensation to be called
             if await self._carried.start(saga, key, given, await self._options(attempt, saga)):
                 break
         return key
-
-    def _definition(self, attempt: Attempt) -> Saga | None:
-        """What its child is of; None where there is nothing to be undone."""
-        child = attempt.declared.child
-        assert child
-        name = undo_sagas.name_of(child.name) if attempt.undo else child.name
-        return self._host.shelf.sagas.get((name, child.version))
 
     async def _is_there(self, attempt: Attempt, key: str) -> bool:
         """Whether its child is in the store. Raises `KeyConflict`."""
@@ -222,32 +219,82 @@ class Children:
             )
         return False
 
-    async def _input(self, attempt: Attempt, saga: Saga) -> Any:
-        """What its child is started with."""
-        if not attempt.undo:
-            given = children.child_input(attempt)
-            child = attempt.declared.child
-            if child is None or child.undoes is None:
-                return given
-            key = str(given)
-        else:
-            key = str(attempt.task().result["key"])
-        ended = await self._carried.end(key)
+    async def _new(self, attempt: Attempt) -> tuple[Saga | Kind | None, Any]:
+        """What its child is of, and is started with; nothing where there is nothing to be undone.
+        What undoes a child is made of the definition that the child ran with.
+
+        Raises:
+            MissingStep: This program lacks a compensation.
+        """
+        undone = await self._child_to_undo(attempt)
+        if undone is None:
+            call = children.child_input(attempt)
+            given = await self._host.declared.call(attempt.instance.kind.name, call)
+            return attempt.declared.child, given
+        ended = await self._carried.end(undone)
+        kind = self._host.shelf.undo_kind(ended.kind)
+        if kind is None:
+            return None, None
         ((name,),) = await self._host.store.read(NAME, ended.id // SHARD_CAPACITY)
         token = tokens.saga_token(name, ended.id % SHARD_CAPACITY)
-        return children.undo_input(key, token, ended.kind, ended.text, ended.results)
+        earlier = await self._earlier(attempt)
+        before = [(await self._carried.end(one)).end.states for one in earlier]
+        done = children.left_by(ended.end.states, before)
+        return kind, children.undo_input(
+            undone, token, ended.kind, ended.text, ended.results, done, earlier
+        )
 
-    async def _options(self, attempt: Attempt, saga: Saga) -> StartOptions:
+    async def _child_to_undo(self, attempt: Attempt) -> str | None:
+        """The key of the child that an attempt undoes; None if it starts one. Raises
+        `InvalidResult` if the step's result has none, as a result by hand in a store of an earlier
+        release may.
+        """
+        if not attempt.undo:
+            undoes = attempt.instance.kind.undoes is not None
+            return str(children.child_input(attempt)()) if undoes else None
+        result = attempt.task().result
+        key = result.get("key") if isinstance(result, dict) else None
+        if isinstance(key, str):
+            is_own = child_keys.is_of_step(key, attempt.key, attempt.name) or BELOW not in key
+            rows = await self._host.store.read(PARENT, key) if is_own else ()
+            if any(parent == attempt.instance.id for _, parent in rows):
+                return key
+        raise InvalidResult(
+            "the result of the step has no key of a child that it started, so there is no child to "
+            "undo. Undo its effects by hand, and complete the compensation"
+        )
+
+    async def _earlier(self, attempt: Attempt) -> list[str]:
+        """The keys of the sagas that have undone a part of the same child, in their order."""
+        found = []
+        if child_keys.undoes_child(attempt.key):
+            given = attempt.task().input
+            for before in given.get("earlier", ()):
+                number = 1
+                while await self._is_known(key := child_keys.key_of(before, attempt.name, number)):
+                    found.append(key)
+                    number += 1
+        for number in range(1, children.number_of(attempt)):
+            key = child_keys.key_of(attempt.key, attempt.name, number, attempt.undo)
+            if await self._is_known(key):
+                found.append(key)
+        return found
+
+    async def _is_known(self, key: str) -> bool:
+        """Whether a saga has the key."""
+        return bool(await self._host.store.read(PARENT, key))
+
+    async def _options(self, attempt: Attempt, saga: Saga | Kind) -> StartOptions:
         """Labels and trace context of the parent, and the earlier deadline; what undoes a child has
         no deadline.
         """
         parent, now = attempt.instance, self._host.clock()
         rows = await self._host.store.read(LABELS, parent.id)
         labels: dict[str, str] = {name: value for name, value in rows}
-        times = [parent.options.deadline, deadline_at(saga.deadline, now)]
-        is_undoing = attempt.undo or saga.undoes is not None
-        known = [] if is_undoing else [at for at in times if at is not None]
-        deadline = min(known, default=None)
+        deadline = None
+        if isinstance(saga, Saga):
+            times = parent.options.deadline, deadline_at(saga.deadline, now)
+            deadline = min((at for at in times if at is not None), default=None)
         return StartOptions(labels, deadline, parent.id, traceparent=parent.options.traceparent)
 
     # -- aborted
@@ -256,7 +303,8 @@ class Children:
         """Abort its child with its saga; or where a step has failed, and the plan that follows
         would undo the child.
         """
-        if attempt.undo or attempt not in self._there:
+        undoes = attempt.undo or child_keys.undoes_child(attempt.key)
+        if undoes or attempt not in self._there:
             return
         if not attempt.instance.drains:
             return

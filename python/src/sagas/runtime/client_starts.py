@@ -6,15 +6,24 @@ import asyncio
 from collections.abc import Callable, Coroutine
 from typing import Protocol
 
-from sagas.base.errors import CannotDecode, InvalidInput, SagasError, StoreUnavailable
+from sagas.base.errors import (
+    CannotDecode,
+    DefinitionError,
+    InvalidInput,
+    SagasError,
+    StoreUnavailable,
+)
 from sagas.base.logger import logger
 from sagas.core.batch import Batch, Start
 from sagas.core.model import SagaInstance
-from sagas.definition.shelf import Shelf
+from sagas.definition import undo_sagas
+from sagas.definition.saga import Saga
+from sagas.definition.shelf import Fitted, Shelf
 from sagas.definition.start_options import StartOptions
 from sagas.runtime.commit_queue import CommitQueue
+from sagas.runtime.declared_calls import DeclaredCalls
 from sagas.runtime.instances import Instances
-from sagas.runtime.relocation import conflict
+from sagas.runtime.relocation import conflict_there
 from sagas.storage.interface import Database
 
 MANY = 64
@@ -50,6 +59,7 @@ class Host(Protocol):
     """The open store around them."""
 
     closed: SagasError | None
+    declared: DeclaredCalls
 
     def spawn(self, work: Coroutine[None, None, None]) -> object:
         """Do it in the background."""
@@ -73,6 +83,7 @@ class Starts:
         self._commits, self._doubt, self._clock, self._place = commits, doubt, clock, place
         self._is_taking = self._again = False
         self._left: dict[int, float] = {}
+        self._fitted: set[int] = set()  # functions of their definitions are called for these
 
     def look(self) -> None:
         """There may be some."""
@@ -106,7 +117,8 @@ class Starts:
         """
         if not self._doubt.settle():
             return None
-        return [saga.start for saga in self._sagas.by_key.values() if saga.start is not None]
+        begun = [saga.start for saga in self._sagas.by_key.values() if saga.start is not None]
+        return [*begun, *self._fitted]
 
     def _left_now(self) -> list[int]:
         """Return the starts that are left to other nodes at this moment."""
@@ -131,9 +143,9 @@ class Starts:
             await self._store.give_back(id, None)
 
     async def _begin(self, row: Start) -> None:
-        id, key, saga, version, text, labels, deadline, traceparent = row
+        id, key, saga, version, text, *_ = row
         by_key = self._sagas.by_key
-        if key in by_key and by_key[key].start == id:
+        if id in self._fitted or (key in by_key and by_key[key].start == id):
             return
         there = await self._store.find(key)
         if self._host.closed:
@@ -145,19 +157,61 @@ class Starts:
         declared, payloads = self._definitions.sagas[saga, version], self._definitions.payloads
         if there and there.id >= 0:
             batch = Batch(-1, self._clock())
-            error = conflict(key, declared, text, there.saga, there.input, payloads)
+            error = await conflict_there(
+                self._store, key, declared, text, there.saga, there.input, payloads
+            )
             batch.more.begun.append((id, there.id if error is None else None))
             await self._commits.kept(batch)
             return
+        try:
+            undo_sagas.check_started(declared)
+        except DefinitionError as error:
+            await self._store.give_back(id, str(error))
+            return
         value = payloads.decode(text)
         try:
-            kind, shape, wrong = self._definitions.fit(declared, value)
+            fitted = self._definitions.fit(declared, value)
         except Exception as error:  # of the user's code: its text may have the input
-            kind, shape = None, None
-            wrong = InvalidInput(f"saga {saga!r}: {type(error).__name__} for this input")
+            fitted = self._misfit(saga, error)
+        if fitted is not None:
+            await self._put(row, fitted)
+            return
+        self._fitted.add(id)  # in the background: others need not wait for slow functions
+        self._host.spawn(self._fit(row, declared, value))
+
+    @staticmethod
+    def _misfit(saga: str, error: Exception) -> Fitted:
+        wrong = InvalidInput(f"saga {saga!r}: {type(error).__name__} for this input")
+        return Fitted(None, None, wrong)
+
+    async def _fit(self, row: Start, declared: Saga, value: str) -> None:
+        """Begin one whose steps come from its input."""
+        definitions = self._definitions
+        try:
+            try:
+                fitted = await self._host.declared.fit(definitions, declared, value)
+            except Exception as error:  # of the user's code: its text may have the input
+                fitted = self._misfit(declared.name, error)
+            if not self._host.closed:
+                await self._put(row, fitted)
+        except Exception as error:
+            logger.info("a start of a client is taken again: %s", error)
+            self._doubt.doubt(not self._host.closed)
+            if not isinstance(error, StoreUnavailable):
+                raise
+        finally:
+            self._fitted.discard(row[0])
+
+    async def _put(self, row: Start, fitted: Fitted) -> None:
+        """Begin one of this definition; or refuse it, if its input gives it none."""
+        id, key, _, _, text, labels, deadline, traceparent = row
+        kind, shape, wrong = fitted
         if kind is None:
             assert wrong
             await self._store.give_back(id, str(wrong))
+            return
+        if key in self._sagas.by_key:  # begun here meanwhile: should that fail, this start counts
+            self._doubt.doubt()
             return
         options = StartOptions(labels, deadline, shape=shape, traceparent=traceparent)
         instance = self._sagas.add(key, text, kind, options)

@@ -90,6 +90,7 @@ class CommitQueue:
         self._is_under_way = False
         self._is_urgent = False
         self._timer: asyncio.TimerHandle | None = None
+        self._idle: asyncio.Future[None] | None = None
 
     @property
     def is_writing(self) -> bool:
@@ -138,6 +139,12 @@ class CommitQueue:
         over: asyncio.Future[None] = self._loop.create_future()
         self.put(Effects(batch), Waiter(self._store.path, over))
         await over
+
+    async def written(self) -> None:
+        """Wait until nothing waits for a commit, whose caller may be gone."""
+        while self.is_writing:
+            self._idle = self._loop.create_future()
+            await self._idle
 
     def drop(self, shards: Sequence[int]) -> None:
         """Do not write what waits of these shards."""
@@ -204,6 +211,8 @@ class CommitQueue:
             self._policy.committed(self._load.calls(), self._loop.time())
         if self._queue:
             self.write()
+        if self._idle and not self._idle.done() and not self.is_writing:
+            self._idle.set_result(None)
 
     def _with_those_behind(
         self, entries: list[Entry], fault: BaseException | None, lost: frozenset[int]

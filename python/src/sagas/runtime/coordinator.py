@@ -3,19 +3,22 @@
 from __future__ import annotations
 
 import asyncio
+import contextlib
 import functools
 import time
-from collections.abc import Callable, Coroutine
+from collections.abc import Callable, Coroutine, Sequence
 from concurrent.futures import ThreadPoolExecutor
 from typing import Any
 
-from sagas.base.errors import Closed, SagasError
+from sagas.base.errors import Closed, InvalidStore, SagasError
 from sagas.base.events import Teller
 from sagas.base.fork_guard import private
 from sagas.base.logger import logger
+from sagas.core import undo_check
 from sagas.core.batch import Batch, LogRow
 from sagas.core.limits import Slots
 from sagas.core.shard import ShardDriver
+from sagas.core.undo_check import CompletedChild
 from sagas.definition.shelf import Shelf
 from sagas.definition.tracing import Tracer
 from sagas.runtime import decode_check, remote_steps
@@ -23,6 +26,7 @@ from sagas.runtime.client_starts import Starts
 from sagas.runtime.commit_queue import CommitQueue
 from sagas.runtime.deadlines import Deadlines
 from sagas.runtime.deadlocks import Waits
+from sagas.runtime.declared_calls import DeclaredCalls
 from sagas.runtime.executor import Executor
 from sagas.runtime.external_queue import ExternalQueue
 from sagas.runtime.instances import Instances
@@ -32,7 +36,7 @@ from sagas.runtime.shards import Shards
 from sagas.storage.interface import Database
 
 QUIET = 1.0
-"""Seconds that closing waits for engines that it has ended."""
+"""Seconds that closing waits for the last commits, and then for engines that it has ended."""
 
 
 class Coordinator:
@@ -48,6 +52,7 @@ class Coordinator:
         executor: What calls functions.
         commits: What writes to the store.
         shards: The shards of this program.
+        declared: What calls functions of definitions.
         external: The tasks of external workers.
         waits: Functions that wait for sagas.
         deadlines: When sagas are aborted.
@@ -75,11 +80,14 @@ class Coordinator:
         self.loop = asyncio.get_running_loop()
         self.forks = private.forks
         self.closed: SagasError | None = None
+        self.refusal: asyncio.Future[InvalidStore] = self.loop.create_future()
+        """Why it cannot execute anything, and will not be able to."""
         self.listeners: list[Callable[[], None]] = []
         self._is_feeding = False
         self._threads = ThreadPoolExecutor(threads, "sagas-step")
         self._jobs: set[asyncio.Task[None]] = set()
         self._timer: asyncio.TimerHandle | None = None
+        self.declared = DeclaredCalls(threads)
         self.external = ExternalQueue(self)
         self.sagas = Instances(self.loop)
         self.executor = Executor(self, self.external, concurrency, self._threads, tracer)
@@ -124,9 +132,11 @@ class Coordinator:
         self.shards.close_all_over()
         self._timer = self.loop.call_later(1.0, self._tick, 0.0)
 
-    def lacks(self, texts: list[str], places: list[int]) -> str | None:
+    def lacks(
+        self, texts: list[str], places: list[int], completed: Sequence[CompletedChild]
+    ) -> str | None:  # fmt: skip
         """Return what this program has no function for, of the definitions at these places of a
-        shard.
+        shard, and of the completed children that its open sagas may undo.
         """
         for place in places:
             try:
@@ -136,7 +146,10 @@ class Coordinator:
             lacks = kind.lacks()
             if lacks:
                 return f"saga {kind.name!r} (version {kind.version}) has open sagas, but {lacks}"
-        return None
+        try:
+            return undo_check.lacking(self.shelf.kind, completed)
+        except (ValueError, LookupError, TypeError, SagasError):  # a text of another shard
+            return None
 
     def _tick(self, offered: float) -> None:
         """Look at what nobody tells. `offered`: when shards were offered to other nodes."""
@@ -180,6 +193,11 @@ class Coordinator:
     def offered(self) -> None:
         """Another node has something for workers."""
         self.external.offered_elsewhere()
+
+    def refused(self, error: InvalidStore) -> None:
+        """The server has no tables of the store, and this node may not make them."""
+        if not self.refusal.done():
+            self.refusal.set_result(error)
 
     def logs(self) -> list[int]:
         """Return the shards that this program drives, or is about to close."""
@@ -289,18 +307,28 @@ class Coordinator:
         self.sagas.close(closed)
         for saga in list(self.sagas.by_key.values()):
             self.shards.refuse(saga, closed)
+        with contextlib.suppress(TimeoutError):
+            async with asyncio.timeout(QUIET):
+                await self.commits.written()
         await self.store.close()
         self._threads.shutdown(wait=not late, cancel_futures=True)
+        self.declared.close()
         if engines:
             await asyncio.wait([engine.buried for engine in engines], timeout=QUIET)
 
     async def _late(self, shutdown_timeout: float | None) -> set[asyncio.Task[None]]:
         """Wait for the functions that run; return the tasks of those that are not over in time."""
         calls = self.executor.calls
-        ending = asyncio.create_task(calls.end(shutdown_timeout))
+        ending = asyncio.create_task(self._ended(shutdown_timeout))
         either: list[asyncio.Future[Any]] = [ending, self._lifespan.hurry]
         await asyncio.wait(either, return_when=asyncio.FIRST_COMPLETED)
         if ending.done():
             return ending.result()
         ending.cancel()
         return {job for job in calls.running.values() if job}
+
+    async def _ended(self, shutdown_timeout: float | None) -> set[asyncio.Task[None]]:
+        late, _ = await asyncio.gather(
+            self.executor.calls.end(shutdown_timeout), self.declared.end(shutdown_timeout)
+        )
+        return late

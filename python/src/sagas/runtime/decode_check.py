@@ -8,12 +8,13 @@ from __future__ import annotations
 
 import asyncio
 from collections.abc import AsyncIterator, Sequence
-from typing import Protocol
+from typing import Protocol, cast
 
 from sagas.base.logger import logger
 from sagas.core.batch import Loaded
 from sagas.core.model import RUNNING
 from sagas.core.shard import ShardDriver
+from sagas.definition.blobs import Reference
 from sagas.definition.compiled import Kind
 from sagas.definition.payloads import ABSENT
 from sagas.runtime import stored_values
@@ -37,13 +38,15 @@ class Checked(Protocol):
 async def faults(
     kinds: Sequence[Kind], rows: Loaded, store: Database
 ) -> AsyncIterator[str]:  # fmt: skip
-    """Of each open saga of a shard yield the first thing that cannot be read."""
+    """Of each open saga of a shard yield the first thing that cannot be read. What is in a blob
+    store is not looked at: a function that needs it reads it.
+    """
     results: dict[int, dict[int, str]] = {}
     for id, step, word, _, outcome, value, _ in rows.results:
         if outcome in ("commit", "ok") and word == "run":
             results.setdefault(id, {})[step] = value or "null"
-    for count, (id, key, place, text, *_) in enumerate(rows.open):
-        kind = kinds[place]
+    for count, (id, key, place, input, *_) in enumerate(rows.open):
+        kind, text = kinds[place], cast("str | None", input)
         if count % MANY == MANY - 1:
             await asyncio.sleep(0)
         if not kind.reads:
@@ -51,10 +54,14 @@ async def faults(
         known = results.get(id, {})
         if ABSENT in (text, *known.values()):
             lacking = [step for step, value in known.items() if value == ABSENT]
-            stored = await until_answered(lambda: stored_values.of(store, id, lacking))
+            stored = await until_answered(
+                lambda: stored_values.of(store, id, lacking, with_blobs=False)
+            )
             if stored is None:
                 continue
-            text, known = stored.text, {**known, **stored.results}
+            text = None if Reference.of(stored.text) else stored.text
+            known = {**known, **stored.results}
+            known = {step: value for step, value in known.items() if not Reference.of(value)}
         if why := kind.unread(text, known):
             yield f"saga {kind.name!r}, key {key!r}, {why}"
 

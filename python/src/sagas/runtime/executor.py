@@ -6,7 +6,7 @@ import asyncio
 import contextlib
 import functools
 import logging
-from collections.abc import Sequence
+from collections.abc import Callable, Sequence
 from concurrent.futures import Executor as Threads
 
 from sagas.base.errors import Closed, Lost, Moved, SagasError, StepNotWaiting
@@ -14,6 +14,7 @@ from sagas.core import exhaustion, outcomes, spans
 from sagas.core.attempts import AttemptMachine
 from sagas.core.batch import Wanted
 from sagas.core.decisions import Decision, Do
+from sagas.core.declared_values import Question
 from sagas.core.effects import Effects
 from sagas.core.limits import Slots
 from sagas.core.model import CLAIMED, FINISHED, QUEUED, SUSPENDED, Attempt, SagaInstance
@@ -21,6 +22,7 @@ from sagas.core.outcomes import Outcome
 from sagas.core.shard import ShardDriver
 from sagas.core.states import OutcomeKind, Suspension
 from sagas.core.suspensions import SuspensionRow
+from sagas.definition.blobs import BlobUnavailable
 from sagas.definition.tracing import Tracer
 from sagas.runtime import remote_steps
 from sagas.runtime.calls import Calls
@@ -31,6 +33,8 @@ from sagas.runtime.fleet_limits import Fleet
 from sagas.runtime.stored_values import ValueReader
 from sagas.runtime.waiters import Waiters
 
+UNDECIDED = (Do.READ, Do.ASK)
+"""What has to be known first."""
 DONE = ("commit", "undone")
 MISSED = {"missed": "step_retrying", "undo_missed": "step_retrying"}
 
@@ -61,7 +65,7 @@ class Executor:
         self.slots = Slots(concurrency, self._start, host.feed)
         self.fleet = Fleet(host, self.slots.enter)
         remote = functools.partial(remote_steps.call, external)
-        self.values = ValueReader(host)
+        self.values = ValueReader(host, self._unread)
         self.calls = Calls(
             self, host, self.slots, self.fleet, threads, remote, tracer, self.values.fill
         )
@@ -133,7 +137,9 @@ class Executor:
         if decision.do is Do.CALL:
             self.enter(attempt)
         elif decision.do is Do.READ:
-            self._host.spawn(self.values.then(attempt, self._has_values))
+            self._host.spawn(self.values.then(attempt, self._go_on))
+        elif decision.do is Do.ASK:
+            self._ask(attempt, decision, self._go_on)
         elif decision.do is Do.REPORT:
             self._finished(attempt, at_once)
         elif decision.do is Do.OFFER:
@@ -148,17 +154,34 @@ class Executor:
             if decision.timer:
                 self._set_timer(attempt)
             self.changes.tell(attempt)
-        if attempt.state is SUSPENDED and decision.do is not Do.READ:
+        if attempt.state is SUSPENDED and decision.do not in UNDECIDED:
             if decision.do is not Do.WITHDRAW:
                 self._note(attempt, decision.row)
             attempt.instance.release()
         if decision.row:
             self._put(attempt, decision.row)
 
-    def _has_values(self, attempt: Attempt) -> None:
-        """Its values are held by now."""
+    def _go_on(self, attempt: Attempt) -> None:
+        """Its values are held by now, and its questions are answered."""
         if not self.closing:
-            self._do(attempt, self.machine.has_values(attempt, self._clock()))
+            self._do(attempt, self.machine.go_on(attempt, self._clock()))
+
+    def _ask(self, attempt: Attempt, decision: Decision, go_on: Callable[[Attempt], None]) -> None:
+        """Call functions of its definition, and go on with it."""
+        assert decision.question
+        self._host.spawn(self._asked(attempt, decision.question, go_on))
+
+    async def _asked(
+        self, attempt: Attempt, question: Question, go_on: Callable[[Attempt], None]
+    ) -> None:
+        if await self._host.declared.answer(attempt, question):
+            go_on(attempt)
+        attempt.instance.release()
+
+    def _unread(self, attempt: Attempt, error: BlobUnavailable) -> None:
+        """Its values cannot be read now."""
+        if not self.closing:
+            self._do(attempt, self.machine.unread(attempt, error, self._clock()))
 
     def _note(self, attempt: Attempt, row: SuspensionRow | None = None) -> None:
         """For its history. Of what others do the table of external attempts tells."""
@@ -207,6 +230,9 @@ class Executor:
         decision = self.machine.limit(attempt, self._clock())
         if decision.do is Do.READ:
             self._host.spawn(self.values.then(attempt, self.enter))
+            return
+        if decision.do is Do.ASK:
+            self._ask(attempt, decision, self.enter)
             return
         if decision.do is not Do.CALL:
             self._do(attempt, decision)

@@ -15,6 +15,7 @@ from sagas.core.outcomes import Outcome
 from sagas.core.shard import ShardDriver
 from sagas.core.suspensions import SuspensionRow
 from sagas.definition.shelf import Shelf
+from sagas.runtime.declared_calls import DeclaredCalls
 from sagas.runtime.dispatcher import Turns
 from sagas.storage.interface import Database
 
@@ -28,6 +29,7 @@ class Host(Turns, Protocol):
     teller: Teller
     clock: Callable[[], float]
     closed: SagasError | None
+    declared: DeclaredCalls
 
     def feed(self) -> None:
         """There are slots again."""

@@ -15,12 +15,12 @@ from sagas.base.errors import CannotDecode, LeaseLost, SagasError, StoreUnavaila
 from sagas.base.logger import logger
 from sagas.core.lease_signature import Signer
 from sagas.core.model import Attempt
-from sagas.core.offers import task_name
+from sagas.core.offers import task_name, task_of
 from sagas.core.suspensions import Lease
+from sagas.definition.blobs import BlobUnavailable
 from sagas.definition.compiled import Kind
 from sagas.definition.control import Progress
-from sagas.definition import report_undos, shape_validation
-from sagas.definition.saga import Saga
+from sagas.definition import compensation_task, report_undos, shape_validation, undo_text
 from sagas.definition.shape_values import ShapeValues
 from sagas.definition.task import Task
 from sagas.definition.task_data import Told
@@ -126,7 +126,7 @@ class ExternalQueue(ExternalReports):
             return
         if attempt.instance.draining:
             self.owner.executor.drain(attempt.instance)
-        self.wake(task_name(attempt.saga, attempt.declared_name, attempt.kind))
+        self.wake(task_of(attempt))
 
     def withdraw(self, attempt: Attempt) -> None:
         """Its saga is being undone: it is taken back, unless a worker has it. That is a commit of
@@ -254,8 +254,8 @@ class ExternalQueue(ExternalReports):
                 found.append(task := await self._leased(claim, worker, holder))
                 most = max(most, task.size if task else 0)
                 size += task.size if task else 0
-            except CannotDecode as error:
-                await self.park(claim.attempt, claim.lease, str(error))
+            except (CannotDecode, BlobUnavailable) as error:
+                await self.park(claim.attempt, claim.lease, error)
             except BaseException as error:
                 is_passing = isinstance(error, (StoreUnavailable, asyncio.CancelledError))
                 self._unwanted([one for one in claims if is_passing or one is not claim])
@@ -280,7 +280,7 @@ class ExternalQueue(ExternalReports):
         """As `Store.workers.set_aside`."""
         self._raise_if_closed()
         number = self._signer.number(task.attempt_id, task.lease, holder)
-        await self.park(task.attempt_id, number, why)
+        await self.park(task.attempt_id, number, CannotDecode(why))
 
     async def _give_back(self, attempt: str, lease: int) -> None:
         with contextlib.suppress(StoreUnavailable):  # then it runs out
@@ -307,14 +307,14 @@ class ExternalQueue(ExternalReports):
         """What a worker is handed; None where that cannot be computed."""
         now, attempt = self.owner.clock(), self.find(claim.attempt)
         if attempt is None:
-            task, saga = await self._task(claim)
+            kind, task = await self._task(claim)
         else:
+            kind = attempt.instance.kind
             attempt.rare.lease = Lease(claim.lease, worker, now, now + claim.seconds)
             attempt.fresh = False
             await self.owner.executor.values.fill(attempt)
-            task, saga = attempt.task(), attempt.instance.kind.saga
+            task = attempt.task()
             attempt.instance.release()
-        task = report_undos.compensation(task, saga)
         if claim.cancelled is not None:
             task.cancelled.set(claim.cancelled)
         self.owner.teller.tell(
@@ -322,6 +322,11 @@ class ExternalQueue(ExternalReports):
             index=task.index if task.has_item else None, undo=task.is_compensation,
             attempt=task.attempt,
         )  # fmt: skip
+        if kind.saga is not None and kind.saga.undoes_step is not None:
+            task = report_undos.compensation(task, kind.saga)
+        elif kind.undoes is not None:
+            sees = undo_text.sees_of(kind.text).get(task.step, ())
+            task = compensation_task.of(task, kind.undoes, sees)
         lease = self._signer.issue(claim.attempt, claim.lease, holder)
         try:
             given = given_values.text_of(task)
@@ -335,8 +340,8 @@ class ExternalQueue(ExternalReports):
             return None
         return LeasedTask(claim.attempt, lease, now + claim.seconds, task, given)
 
-    async def _task(self, claim: Claim) -> tuple[Task[Any], Saga | None]:
-        """What a worker is handed of an attempt that another node drives, and its definition."""
+    async def _task(self, claim: Claim) -> tuple[Kind, Task[Any]]:
+        """The definition, and what a worker is handed, of an attempt that another node drives."""
         read, undo = self.owner.store.read, claim.action == "undo"
         rows = await read(OF_SAGA, claim.id)
         ((key, text, deadline, traceparent, definition, shape),) = rows
@@ -357,7 +362,7 @@ class ExternalQueue(ExternalReports):
             results.get(claim.step) if undo else None, hint, kind.decoders, deadline,
             kind.actions[claim.action][claim.step].context, traceparent=traceparent, place=place,
         )  # fmt: skip
-        return Task(told), kind.saga
+        return kind, Task(told)
 
     async def heartbeat(
         self, token: str, lease: str, holder: str, seconds: float, told: Progress | None

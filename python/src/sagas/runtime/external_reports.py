@@ -14,6 +14,7 @@ from collections.abc import Callable, Iterator
 from typing import TYPE_CHECKING
 
 from sagas.base.errors import (
+    CannotDecode,
     ConflictingReport,
     LeaseLost,
     NoSuchTask,
@@ -29,6 +30,7 @@ from sagas.core.model import FINISHED, SUSPENDED, Attempt
 from sagas.core.outcomes import CANNOT_DECODE, FAILED, PERMANENT, SUCCEEDED, UNKNOWN, Outcome
 from sagas.core.states import OutcomeKind, Suspension
 from sagas.definition import tokens
+from sagas.definition.blobs import BlobUnavailable
 from sagas.definition.capacity import SHARD_CAPACITY
 from sagas.runtime.offer_check import is_out
 from sagas.runtime.retries import until_answered
@@ -107,22 +109,34 @@ class ExternalReports:
         the task."""
         number = self._signer.number(token, lease, holder)
         self._raise_if_closed()
-        shard = await self._table.report(token, number, str(outcome.kind), outcome.value)
+        value = self._encoded(outcome)
+        shard = await self._table.report(token, number, str(outcome.kind), value)
         if shard is None:
             return await self._repeated(token, number, outcome)
         if shard in self.owner.shards.runners:
             if stored is not None:
                 stored()
-            await self._apply(Report(token, str(outcome.kind), outcome.value))
+            await self._apply(Report(token, str(outcome.kind), value))
         else:
             await self._table.tell()
         return True
 
-    async def park(self, token: str, number: int, why: str) -> None:
+    def _encoded(self, outcome: Outcome) -> str:
+        """The value of an outcome, as the table has it: a result is encoded."""
+        payloads = self.owner.shelf.payloads
+        is_result = payloads.codec is not None and outcome.kind is SUCCEEDED
+        return outcomes.stored(payloads, outcome.value) if is_result else outcome.value
+
+    def _delivered(self, outcome: OutcomeKind, value: str) -> Outcome:
+        """What was reported, by what the table has."""
+        found = outcomes.delivered(outcome, value)
+        return found._replace(encoded=self.owner.shelf.payloads.is_encoded(value))
+
+    async def park(self, token: str, number: int, why: CannotDecode | BlobUnavailable) -> None:
         """Set a claimed task aside that cannot be handed out: it waits for a program that can read
-        what is stored for it, or for an operator."""
+        what is stored for it, or for an operator; or until its values can be got."""
         logger.warning("%s cannot be handed out: %s", token, why)
-        outcome = outcomes.unreadable(why)
+        outcome = outcomes.unreadable(str(why), passes=isinstance(why, BlobUnavailable))
         with contextlib.suppress(StoreUnavailable):  # the lease ends, and it is claimed again
             shard = await self._table.report(token, number, str(outcome.kind), outcome.value)
             if shard in self.owner.shards.runners:
@@ -142,7 +156,7 @@ class ExternalReports:
     def _deliver(self, report: Report, attempt: Attempt) -> bool:
         """Whether what was reported of an attempt that is under way here could be said of it
         now."""
-        outcome = outcomes.delivered(OutcomeKind(report.outcome), report.value)
+        outcome = self._delivered(OutcomeKind(report.outcome), report.value)
         if attempt.pending:
             return False
         if (waiting := self._reports.get(report.attempt)) is not None:
@@ -183,7 +197,7 @@ class ExternalReports:
         """A worker's *done* of an attempt; asks until the store answers."""
         row = await until_answered(lambda: self._table.find(token))
         is_done = row is not None and row.outcome == SUCCEEDED
-        return Outcome(SUCCEEDED, row.value or "null") if row and is_done else None
+        return self._delivered(SUCCEEDED, row.value or "null") if row and is_done else None
 
     async def _repeated(self, token: str, number: int, outcome: Outcome) -> bool:
         """False where it was reported so before; else raises why it does not count."""
@@ -194,9 +208,14 @@ class ExternalReports:
         if row.reported == number and row.value == outcome.value and row.outcome not in KNOWN:
             return False
         if row.outcome in KNOWN:
-            if (row.outcome, row.value) != (outcome.kind, outcome.value):
+            there = row.value or "null"
+            is_same = there == outcome.value or (
+                outcome.kind is SUCCEEDED
+                and self.owner.shelf.payloads.is_same(self._encoded(outcome), there)
+            )
+            if row.outcome != outcome.kind or not is_same:
                 raise ConflictingReport(f"{token} was reported before, with another outcome")
-            await self._apply(Report(token, str(outcome.kind), outcome.value))
+            await self._apply(Report(token, str(outcome.kind), there))
             return False
         _raise_lost(row, token, number, said, outcome)
         return False

@@ -11,6 +11,7 @@ has, takes more and gives back the others: if an answer was lost, the next one m
 from __future__ import annotations
 
 import asyncio
+import hashlib
 from collections import deque
 from collections.abc import Callable, Coroutine
 from typing import TYPE_CHECKING, Protocol
@@ -30,6 +31,11 @@ MOST_LOOK = 30.0  # seconds: the database's clock may jump
 MOST_GATES = 1000
 """So many gates are kept before those are dropped that nobody uses."""
 DOUBT = 25.0  # seconds in which a statement whose answer was lost is over
+
+
+def digest_of(name: str, key: str) -> str:
+    """Name the key of a step's limit, as JSON, in the database. Each step has names of its own."""
+    return hashlib.sha256(f"{name} {key}".encode("utf-8", "surrogatepass")).hexdigest()[:40]
 
 
 class Host(Protocol):
@@ -52,7 +58,8 @@ class Gate:
         self, host: Host, name: str, key: str, bounds: Bounds, enter: Callable[[Attempt], None]
     ) -> None:
         self.name, self.bounds = name, bounds
-        self._place = f"{name}/{key}" if key else name  # the key is of the input, and in no log
+        # the key is of the input: of any length, and in no log or table
+        self._place = f"{name}/{digest_of(name, key)}" if key else name
         self._host, self._enter = host, enter
         self._asking: list[tuple[Attempt, asyncio.Future[bool]]] = []
         self._waiting: deque[Attempt] = deque()

@@ -23,6 +23,8 @@ if TYPE_CHECKING:
     from sagas.definition.compiled import Kind
     from sagas.definition.saga import Saga
 
+INPUT = "SELECT input FROM sagas WHERE key = ?"
+
 
 def conflict(
     key: str, kind: Kind | Saga, text: str, name: str, there: str, payloads: Payloads | None = None
@@ -56,6 +58,20 @@ def conflict(
             "Use another key"
         )
     return None
+
+
+async def conflict_there(
+    store: Database, key: str, kind: Kind | Saga, text: str, name: str, there: str,
+    payloads: Payloads | None = None,
+) -> KeyConflict | None:  # fmt: skip
+    """As `conflict`. An input that is outside of the database is read if its digest is another one:
+    it may be the same under other types. Raises `StoreUnavailable`.
+    """
+    error = conflict(key, kind, text, name, there, payloads)
+    if error and name == kind.name and Reference.of(there):
+        for (whole,) in await store.read(INPUT, key):
+            error = conflict(key, kind, text, name, whole, payloads)
+    return error
 
 
 class Home(Protocol):
@@ -111,11 +127,19 @@ class Relocation:
         self._spawn(self._meet(saga))
 
     async def _meet(self, saga: SagaInstance) -> None:
-        row = await until_answered(lambda: self._store.find(saga.key))
+        row = await until_answered(lambda: self._whole(saga.key))
         if row is not None and row.id >= 0:
             self.found(saga, row, is_whole=True)
         else:
             self.leave(saga, None)
+
+    async def _whole(self, key: str) -> SagaRow | None:
+        """The saga with this key, with its input."""
+        row = await self._store.find(key)
+        if row is not None and Reference.of(row.input):
+            for (text,) in await self._store.read(INPUT, key):
+                row = row._replace(input=text)
+        return row
 
     async def _begun(self, start: int, saga: int | None) -> None:
         """A client's start is a saga that was there, or none: it is to be begun by nobody."""
@@ -173,7 +197,7 @@ class Relocation:
         """It was to be opened in a shard that is lost: it is there already, or another one takes
         it.
         """
-        row = await until_answered(lambda: self._store.find(saga.key))
+        row = await until_answered(lambda: self._whole(saga.key))
         if self._sagas.by_key.get(saga.key) is not saga:
             return
         if row is not None and (row.id >= 0 or saga.start is None):

@@ -22,6 +22,8 @@ AGAIN = 1.0
 MOST = 100
 """Sagas of one schedule that are started in a turn."""
 
+OPEN = "SELECT 1 FROM sagas WHERE key = ? AND phase IS NULL"
+"""Whether a saga is open."""
 StartSaga = Callable[[Schedule, str], Awaitable[object]]
 """Starts the saga of a schedule under a key."""
 Advance = Callable[[Schedule, float, "float | None", "str | None"], Awaitable[object]]
@@ -66,6 +68,7 @@ class Scheduler:
         for one in map(schedules.of_row, await owner.store.read(schedules.DUE)):
             now = owner.clock()
             if (one.saga, one.version) not in owner.shelf.sagas:
+                await self._lack(one, now)
                 continue
             if one.next_at > now:
                 pause = min(pause, one.next_at - now)
@@ -79,12 +82,28 @@ class Scheduler:
         """
         try:
             times, next_at = one.timing.due(one.next_at, now, MOST)
+            first = one.timing.first_of(one.next_at, now)
         except InvalidSchedule as fault:  # a node whose system has its time zone starts them
             self._leave(one, str(fault))
             return MOST_PAUSE
         self._left.pop(one.name, None)
+        if times and one.catch_up == timing.CatchUp.ALL and first > one.next_at:
+            said = f"{one.name}: only the last {one.max:,} missed times are started"
+            await self._advance(one, first, None, said)  # the first node that does so counts
+            self._owner.teller.tell("schedule_missed", saga=one.saga, detail=said)
+            return 0.0
         last = error = None
         for at in times:
+            before = one.last_at if last is None else last
+            if await self._is_open(one, before):
+                if one.overlap == timing.Overlap.SKIP:
+                    said = f"{one.name}: the saga of the time before is open"
+                    self._owner.teller.tell("schedule_missed", saga=one.saga, detail=said)
+                    continue
+                if last is None:
+                    return AGAIN
+                next_at = at
+                break
             if not await self._is_still(one):  # the next turn sees what it is now
                 if last is None:
                     return 0.0
@@ -95,6 +114,24 @@ class Scheduler:
             self._owner.teller.tell("schedule_missed", saga=one.saga, detail=one.name)
         await self._advance(one, next_at, last, error)
         return next_at - self._owner.clock()
+
+    async def _is_open(self, one: Schedule, before: float | None) -> bool:
+        """Whether the saga of the time before is open, where that counts."""
+        if one.overlap == timing.Overlap.ALLOW or before is None:
+            return False
+        return bool(await self._owner.store.read(OPEN, timing.key_of(one.name, before)))
+
+    async def _lack(self, one: Schedule, now: float) -> None:
+        """This program does not have its definition: if no other node starts it, that is told, and
+        the schedule has it as its error.
+        """
+        grace = timing.LATE if self._owner.store.shared else 0.0
+        if one.next_at + grace > now:
+            return
+        why = f"no program has its saga {one.saga!r} (version {one.version})"
+        self._leave(one, why)
+        if one.error != why:
+            await self._advance(one, one.next_at, None, why)
 
     def _leave(self, one: Schedule, why: str) -> None:
         """Leave a schedule to other nodes, which is told once."""

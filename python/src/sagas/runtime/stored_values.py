@@ -7,6 +7,7 @@ from collections.abc import Callable, Sequence
 
 from sagas.core.held_values import StoredValues
 from sagas.core.model import Attempt
+from sagas.definition.blobs import BlobUnavailable
 from sagas.runtime.executor_host import Host
 from sagas.runtime.retries import until_answered
 from sagas.storage.interface import Database
@@ -21,11 +22,16 @@ SELECT step, value FROM attempts WHERE id = ? AND action = 'run' AND event = 'co
 """
 
 
-async def of(store: Database, id: int, steps: Sequence[int]) -> StoredValues | None:
-    """What the store has of a saga, with the results of these steps; None where it is gone."""
-    rows = await store.read(INPUT, id)
+async def of(
+    store: Database, id: int, steps: Sequence[int], with_blobs: bool = True
+) -> StoredValues | None:
+    """What the store has of a saga, with the results of these steps; None where it is gone. Without
+    `with_blobs` it has references in place of what is in the blob store.
+    """
+    read = store.read if with_blobs else store.read_stored
+    rows = await read(INPUT, id)
     marks = ", ".join("?" * len(steps))
-    results = await store.read(f"{RESULTS} ({marks})", id, *steps) if steps else []
+    results = await read(f"{RESULTS} ({marks})", id, *steps) if steps else []
     if not rows:
         return None
     text, shape = rows[0]
@@ -33,18 +39,22 @@ async def of(store: Database, id: int, steps: Sequence[int]) -> StoredValues | N
 
 
 class ValueReader:
-    """Reads what attempts lack.
+    """Reads what attempts lack. It asks until the database answers, and a blob store some times.
 
     Attributes:
         count: How often something was read.
     """
 
-    def __init__(self, host: Host) -> None:
+    def __init__(
+        self, host: Host, unread: Callable[[Attempt, BlobUnavailable], None]
+    ) -> None:  # fmt: skip
+        """`unread`: what is told of an attempt whose values the blob store does not give."""
         self._host, self._places = host, asyncio.Semaphore(AT_ONCE)
+        self._unread = unread
         self.count = 0
 
     async def fill(self, attempt: Attempt) -> None:
-        """Read what an attempt lacks. It asks until the store answers."""
+        """Read what an attempt lacks. Raises `BlobUnavailable`."""
         async with self._places:
             await self._fill(attempt)
 
@@ -52,12 +62,15 @@ class ValueReader:
         """Read what an attempt lacks, and go on with it, unless something became of it meanwhile.
         Its values are held no longer than that takes, if it waits then.
         """
-        state = attempt.state
+        state, fault = attempt.state, None
         async with self._places:
-            await self._fill(attempt)
+            try:
+                await self._fill(attempt)
+            except BlobUnavailable as error:
+                fault = error
             is_here = attempt.instance.busy.get(attempt.word) is attempt
             if is_here and attempt.state is state and not attempt.pending:
-                go_on(attempt)
+                self._unread(attempt, fault) if fault else go_on(attempt)
             attempt.instance.release()
 
     async def _fill(self, attempt: Attempt) -> None:
@@ -66,6 +79,8 @@ class ValueReader:
         self.count += 1
         instance = attempt.instance
         steps = [number for number, _ in attempt.action.given] + [attempt.step]
-        stored = await until_answered(lambda: of(self._host.store, instance.id, steps))
+        stored = await until_answered(
+            lambda: of(self._host.store, instance.id, steps), with_blobs=False
+        )
         if stored is not None:  # else the saga is gone, and so is the attempt
             instance.fill(stored, attempt.results)

@@ -153,9 +153,11 @@ def rights_changed() -> Problem:
     return Problem("RightsChanged", "what your token may was changed meanwhile: ask again")
 
 
-def check_definition(who: Who, definition: str | None) -> None:
-    """Raises `Problem` where sagas of this definition are not the token's to see."""
-    if definition is not None and not who.sees(definition):
+def check_definition(who: Who, definition: str | None, starts: bool = True) -> None:
+    """Raises `Problem` where sagas of this definition are not the token's to see. `starts`: they
+    are to be started, and not only to be looked at; no caller starts those that undo children."""
+    sees = who.sees if starts else who.scope.may_have
+    if definition is not None and not sees(definition):
         raise Problem("Forbidden", f"{who.name} has no right to the definition {definition[:64]!r}")
 
 

@@ -368,6 +368,8 @@ BULK = Record(
         "done": Field(COUNT, "how many were changed"),
         "refused": Field(Several(REFUSED_KEY), "those that were refused, and why"),
         "left": Field(COUNT, "how many are left for a further call"),
+        "undoing": Field(COUNT, "how many an abort leaves out, because they undo children"),
+        "warnings": Field(Several(Text()), "what nothing has, if the filter selects nothing"),
     },
 )
 SCHEDULE = Record(
@@ -382,8 +384,12 @@ SCHEDULE = Record(
         "every": Field(Nullable(SECONDS), "seconds between two times"),
         "timezone": Field(Text(), "of the expression"),
         "catch_up": Field(Choice(("last", "all", "skip")), "what becomes of missed times"),
+        "max": Field(COUNT, "missed times that are started at most"),
+        "overlap": Field(
+            Choice(("allow", "skip", "queue")), "what follows while the last saga is open"
+        ),
         "paused": Field(Flag(), "it starts nothing"),
-        "error": Field(MAYBE, "why its last saga could not be started"),
+        "error": Field(MAYBE, "why its last saga could not be started, or what was not started"),
         **time("next", "the next time", nullable=True),
         **time("last", "the last time", nullable=True),
     },

@@ -106,7 +106,7 @@ class Who:
 
     def sees_event(self, event: Event) -> bool:
         """Whether an event is of a saga that is its to see."""
-        return self.sees(event.saga) and self.scope.has_key(event.key)
+        return self.scope.has_saga(event.saga, event.key)
 
     def does(self, step: str) -> bool:
         """Whether tasks of a step, `saga/step` or `saga/step/undo`, are its to take."""

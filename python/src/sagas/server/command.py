@@ -8,6 +8,7 @@ from __future__ import annotations
 
 import argparse
 import asyncio
+import datetime
 import errno
 import gc
 import ipaddress
@@ -17,17 +18,16 @@ import pathlib
 import re
 import socket
 import sys
-from collections.abc import Iterable
 from typing import Any
 
-from sagas.api.store import Store
 from sagas.base import module_values
 from sagas.base.errors import DefinitionError, InvalidStore, SagasError
-from sagas.base.option_values import integer_from, positive
-from sagas.definition import payloads
+from sagas.base.option_values import age, integer_from, positive
+from sagas.definition import arguments, payloads
+from sagas.definition.blobs import LEAST
 from sagas.definition.blobs import check as check_blobs
-from sagas.definition.saga import Saga
 from sagas.server import auth, definition_files, log_format
+from sagas.server.app_store import AppStore
 from sagas.server.quotas import Quota
 from sagas.server.settings import (
     LOOPBACK,
@@ -40,8 +40,7 @@ from sagas.server.settings import (
     is_loopback,
 )
 from sagas.server.webhook_file import WebhookFault
-from sagas.storage import factory
-from sagas.storage.folder_blobs import FolderBlobStore
+from sagas.storage import blob_option, factory
 
 GOOD, NO, USAGE, CANNOT, OVERDUE, INTERRUPTED = 0, 1, 2, 4, 5, 130
 GARBAGE = 5000
@@ -108,9 +107,9 @@ def parser() -> argparse.ArgumentParser:
         "sagas at once (default: made of host and process)",
     )  # fmt: skip
     found.add_argument(
-        "--lease", type=positive, default=10.0, metavar="SECONDS",
+        "--lease", type=positive, metavar="SECONDS",
         help="PostgreSQL only: seconds without a heartbeat before other services take over its "
-        "sagas (default: 10)",
+        f"sagas ({OF_APP} or 10)",
     )  # fmt: skip
     found.add_argument(
         "--record", metavar="FILE",
@@ -128,6 +127,9 @@ def parser() -> argparse.ArgumentParser:
     return found
 
 
+OF_APP = "default: that of a store of --app,"
+
+
 def add_sagas(found: argparse.ArgumentParser) -> None:
     """What is served."""
     found.add_argument(
@@ -140,22 +142,36 @@ def add_sagas(found: argparse.ArgumentParser) -> None:
         "steps",
     )  # fmt: skip
     found.add_argument(
-        "--concurrency", type=integer_from(1), default=16, metavar="N",
-        help="maximum number of functions of --app that run at once (default: 16)",
+        "--concurrency", type=integer_from(1), metavar="N",
+        help=f"maximum number of functions of --app that run at once ({OF_APP} or 16)",
+    )  # fmt: skip
+    found.add_argument(
+        "--context", metavar="MODULE:NAME",
+        help="what functions of --app get as task.context: an object, or a function that returns a "
+        f"context manager ({OF_APP} or none)",
+    )  # fmt: skip
+    found.add_argument(
+        "--retention", type=age, metavar="TIME",
+        help="delete sagas that ended this long ago, for example 30d or 12h "
+        f"({OF_APP} or never)",
+    )  # fmt: skip
+    found.add_argument(
+        "--archive-dir", metavar="DIR",
+        help="with --retention: first write each shard into its own subfolder of DIR "
+        f"({OF_APP} or none)",
     )  # fmt: skip
     found.add_argument(
         "--codec", metavar="MODULE:NAME",
-        help="codec that encodes stored inputs and results (default: that of a store of --app, or "
-        "none)",
+        help=f"codec that encodes stored inputs and results ({OF_APP} or none)",
     )  # fmt: skip
     found.add_argument(
         "--blobs", metavar="DIR|MODULE:NAME",
         help="where large inputs and results are kept: a directory, or a blob store of a module "
-        "(default: in the database)",
+        f"({OF_APP} or the database)",
     )  # fmt: skip
     found.add_argument(
-        "--blob-threshold", type=integer_from(1), default=65_536, metavar="BYTES",
-        help="size above which --blobs keeps a value (default: 65536)",
+        "--blob-threshold", type=integer_from(1), metavar="BYTES",
+        help=f"size above which --blobs keeps a value ({OF_APP} or 65536)",
     )  # fmt: skip
     found.add_argument(
         "--webhooks", type=pathlib.Path, metavar="FILE",
@@ -247,37 +263,46 @@ def loaded(option: str, place: str) -> Any:
 
 
 def blobs_of(place: str | None) -> Any:
-    """The blob store of an option: of a module, or a folder. Raises `Trouble`."""
-    if place is None:
-        return None
-    if ":" in place:
-        return loaded("--blobs", place)
-    if pathlib.Path(place).exists() and not pathlib.Path(place).is_dir():
-        raise Trouble(f"--blobs {place}: this is a file; pass a directory, or MODULE:NAME")
-    return FolderBlobStore(place)
+    """The blob store of an option. Raises `Trouble`."""
+    try:
+        return None if place is None else blob_option.blobs_of(place)
+    except ValueError as error:
+        raise Trouble(str(error)) from error
 
 
-def codec_of(words: argparse.Namespace) -> Any:
-    """The codec of `--codec`; without that option that of a store of `--app`. Raises `Trouble`."""
-    if words.codec:
-        return loaded("--codec", words.codec)
-    found = loaded("--app", words.app) if words.app else None
-    return found.codec if isinstance(found, Store) else None
+def app_of(place: str | None) -> AppStore | None:
+    """What a module has for the service. Raises `Trouble`."""
+    try:
+        return None if place is None else AppStore(place, loaded("--app", place))
+    except ValueError as error:
+        raise Trouble(str(error)) from error
 
 
-def sagas_of(place: str) -> list[Saga]:
-    """The sagas of a module. Raises `Trouble`."""
-    found = loaded("--app", place)
-    if isinstance(found, Store):
-        return found.sagas
-    some = (
-        [found] if isinstance(found, Saga) else list(found) if isinstance(found, Iterable) else []
-    )
-    if not some or not all(isinstance(saga, Saga) for saga in some):
-        raise Trouble(
-            f"--app {place}: must be a saga, a list of sagas, or a store made by sagas.open"
-        )
-    return some
+def options_of(words: argparse.Namespace, app: AppStore | None) -> dict[str, Any]:
+    """How the store is opened: as the options say, else as a store of `--app`. Raises `Trouble`."""
+    found = dict(app.options) if app else {}
+    given = {
+        "concurrency": words.concurrency,
+        "codec": words.codec and loaded("--codec", words.codec),
+        "context": words.context and loaded("--context", words.context),
+        "blobs": blobs_of(words.blobs),
+        "blob_threshold": words.blob_threshold,
+        "retention": None
+        if words.retention is None
+        else datetime.timedelta(seconds=words.retention),
+        "archive_dir": words.archive_dir,
+        "node": words.node,
+        "lease": words.lease,
+        "record": words.record,
+    }
+    found |= {name: value for name, value in given.items() if value is not None}
+    try:
+        payloads.checked(found.get("codec"))
+        check_blobs(found.get("blobs"), found.get("blob_threshold", LEAST))
+        arguments.keeping(found.get("retention"), found.get("archive_dir"))
+    except (TypeError, ValueError) as error:
+        raise Trouble(str(error)) from error
+    return found
 
 
 def settings_of(words: argparse.Namespace) -> Settings:
@@ -294,7 +319,8 @@ def settings_of(words: argparse.Namespace) -> Settings:
             f"use 127.0.0.1:{port}, or create a file with `sagas token FILE NAME operator`"
         )
     sagas = definition_files.read(words.definitions) if words.definitions else []
-    sagas += sagas_of(words.app) if words.app else []
+    app = app_of(words.app)
+    sagas += app.sagas if app else []
     if not sagas:
         raise Trouble("nothing to serve: pass --definitions DIR or --app MODULE:NAME")
     try:
@@ -309,13 +335,11 @@ def settings_of(words: argparse.Namespace) -> Settings:
             raise Trouble(f"{file} is a directory; pass the path of a file")
         if not file.absolute().parent.is_dir():
             raise Trouble(f"directory {file.parent} does not exist; create it first")
-    codec = codec_of(words)
-    blobs = blobs_of(words.blobs)
-    try:
-        payloads.checked(codec)
-        check_blobs(blobs, words.blob_threshold)
-    except (TypeError, ValueError) as error:
-        raise Trouble(str(error)) from error
+    options = options_of(words, app)
+    seconds, on_event = options.pop("shutdown_timeout", None), options.pop("on_event", None)
+    more: dict[str, Any] = {}
+    if seconds is not None:
+        more["shutdown_timeout"] = arguments.time("shutdown_timeout", seconds, none=False)
     return Settings(
         words.path,
         sagas,
@@ -323,7 +347,6 @@ def settings_of(words: argparse.Namespace) -> Settings:
         port,
         words.token_file,
         WebhookSettings(words.webhooks, words.local_webhooks),
-        concurrency=words.concurrency,
         most_body=words.most_body,
         streams=StreamSettings(most_each=words.most_streams),
         places=PlaceSettings(
@@ -333,9 +356,7 @@ def settings_of(words: argparse.Namespace) -> Settings:
         rate=words.rate,
         quota=Quota(words.open_sagas, words.open_bytes),
         trusted_proxies=words.trusted_proxies,
-        store=StoreSettings(
-            words.node, words.lease, codec, blobs, words.blob_threshold, words.record
-        ),
+        store=StoreSettings(options, on_event), **more,
     )  # fmt: skip
 
 

@@ -75,7 +75,9 @@ class Figures:
         def question() -> Question[Counts]:
             every = some if some.keys is not None else EVERYTHING  # which has the indexes
             counts = yield from lists.counts(every)
-            by_name = {name: of for name, of in counts.items() if some.has_definition(name)}
+            by_name = {name: of for name, of in counts.items() if some.may_have(name)}
+            if any(not some.has_definition(name) for name in by_name):  # by their keys
+                by_name = yield from lists.counts(some)
             return by_name, (yield from lists.asked(some))
 
         found = await self._ask(question())

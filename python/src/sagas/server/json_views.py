@@ -196,6 +196,8 @@ def schedule(one: Schedule) -> dict[str, Any]:
         "every": one.every,
         "timezone": one.timezone,
         "catch_up": one.catch_up,
+        "max": one.max,
+        "overlap": one.overlap,
         "paused": one.paused,
         "error": one.error,
         **times(next=None if one.paused else one.next_at, last=one.last_at),

@@ -94,14 +94,8 @@ class Service:
         self.store: Store = opening.open(
             settings.path,
             settings.sagas,
-            concurrency=settings.concurrency,
             on_event=self._event,
-            node=settings.store.node,
-            lease=settings.store.lease,
-            codec=settings.store.codec,
-            blobs=settings.store.blobs,
-            blob_threshold=settings.store.blob_threshold,
-            record=settings.store.record,
+            **settings.store.options,
         )
         self.store.leased = True
         for path in (settings.tokens, settings.webhooks.file):
@@ -181,6 +175,8 @@ class Service:
         self.hub.publish(event)
         if self._peers and self._peers.others and not self._peers.tell(told := told_of(event)):
             self._peers.tell({**told, "detail": None})
+        if (hook := self.settings.store.on_event) is not None:
+            hook(event)
 
     def ready(self) -> str | None:
         """None where it takes requests; else why not."""
@@ -279,7 +275,7 @@ class Service:
             raise NoSuchSaga(f"no saga has the key {key!r}")
         if who.definitions is not None:
             row = await self.look(one_saga.find(key))
-            if row is None or not who.sees(row.saga):
+            if row is None or not who.scope.has_saga(row.saga, key):
                 raise NoSuchSaga(f"no saga has the key {key!r}")
 
     async def is_approval(self, key: str, step: str) -> bool:

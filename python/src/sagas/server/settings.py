@@ -6,10 +6,10 @@ import dataclasses
 import functools
 import ipaddress
 import pathlib
-from typing import Union
+from collections.abc import Mapping
+from typing import Any, Union
 
-from sagas.definition.blobs import BlobStore
-from sagas.definition.payloads import Codec
+from sagas.base.events import Hook
 from sagas.definition.saga import Saga
 from sagas.server.quotas import Quota
 
@@ -55,16 +55,15 @@ class WebhookSettings:
 
 @dataclasses.dataclass(frozen=True, slots=True)
 class StoreSettings:
-    """How the store is opened, as `sagas.open` has it. `node`, `lease` and `record` are of
-    PostgreSQL.
+    """How the store is opened.
+
+    Attributes:
+        options: Arguments of `sagas.open`, without those that the service has for itself.
+        on_event: What is called with each event, behind the service itself.
     """
 
-    node: str | None = None
-    lease: float = 10.0
-    codec: Codec | None = None
-    blobs: BlobStore | None = None
-    blob_threshold: int = 65_536
-    record: str | None = None
+    options: Mapping[str, Any] = dataclasses.field(default_factory=dict)
+    on_event: Hook | None = None
 
 
 @dataclasses.dataclass(frozen=True, slots=True)
@@ -84,7 +83,6 @@ class Settings:
     port: int = 8080
     tokens: pathlib.Path | None = None
     webhooks: WebhookSettings = WebhookSettings()
-    concurrency: int = 16
     most_body: int = 1 << 20
     streams: StreamSettings = StreamSettings()
     places: PlaceSettings = PlaceSettings()
@@ -97,7 +95,7 @@ class Settings:
     session_time: float = 12 * 3600.0
     shutdown_timeout: float = 20.0
     patience: float = 20.0  # for an answer of another node
-    store: StoreSettings = StoreSettings()
+    store: StoreSettings = dataclasses.field(default_factory=StoreSettings)
 
 
 def is_loopback(host: str) -> bool:

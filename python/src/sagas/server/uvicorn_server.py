@@ -85,9 +85,13 @@ class Serving:
         try:
             while not self._server.started and not work.done():
                 await asyncio.sleep(STARTED)
+            refusal = self._service.store._refusal
+            refusal.add_done_callback(lambda _: self.stop())
             with self._signals():
                 opened()
                 await work
+            if refusal.done():
+                raise refusal.result()
         finally:
             for timer in self._deadline:
                 timer.cancel()

@@ -17,13 +17,16 @@ from sagas.core.history import Projection
 from sagas.core.protocol import HEADER
 from sagas.core.states import saga_phase
 from sagas.definition.capacity import SHARD_CAPACITY
+from sagas.definition.children import parent_of
 from sagas.storage import queries
 from sagas.storage.admin import Row, Source
 
 Json = dict[str, Any]
+COLUMNS = ", ".join(f"s.{name}" for name in queries.SAGA.split(", "))
 SAGAS = f"""
-SELECT {queries.SAGA}, s.recovered, {queries.LABELS} FROM sagas s
-WHERE id >= ? AND id < ? ORDER BY id
+SELECT {COLUMNS}, s.recovered, s.deadline, c.parent, {queries.LABELS}
+FROM sagas s LEFT JOIN children c ON c.id = s.id
+WHERE s.id >= ? AND s.id < ? ORDER BY s.id
 """
 RESULTS = """
 SELECT id, step, action, number, event, value, at FROM attempts
@@ -47,8 +50,8 @@ def write(link: Source, log: int, folder: pathlib.Path) -> pathlib.Path | None:
 
     - `log`, `definition-00.toml` ..: what `sagas audit log definition-*.toml` reads;
       `about.json` has what it said when the log was closed;
-    - `sagas.jsonl`: a line a saga: its number in the log, key, input, times, end, results, and
-      what was asked of it;
+    - `sagas.jsonl`: a line a saga: its number in the log, key, the key of its parent, input,
+      times, deadline, end, results, and what was asked of it;
     - `plans.jsonl`: a line a plan that was adopted: the case and the answer, with its
       certificate, as `sagas check` reads them.
 
@@ -107,14 +110,17 @@ def _sagas(link: Source, log: int, rows: list[Row]) -> Iterator[Json]:
         of: dict[int, list[Json]] = more.setdefault(word, {})
         for id, *columns in link.ask(query, log * SHARD_CAPACITY, (log + 1) * SHARD_CAPACITY):
             of.setdefault(id, []).append(_parsed(dict(zip(NAMES[word], columns))))
-    for id, key, saga, place, text, at, phase, end, ended, note, recovered, labels in rows:
+    for id, key, saga, place, text, at, phase, end, ended, note, *others in rows:
+        recovered, deadline, parent, labels = others
         told = {
             "number": id % SHARD_CAPACITY,
             "key": key,
+            "parent": None if parent is None else parent_of(key),
             "saga": saga,
             "definition": place,
             "input": json.loads(text),
             "started": at,
+            "deadline": deadline,
             "phase": saga_phase(phase, bool(recovered), note).value,
             "ended": ended,
             "note": note,

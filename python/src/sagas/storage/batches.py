@@ -11,23 +11,25 @@ import dataclasses
 import json
 import threading
 import time
-from collections.abc import Callable, Sequence
+from collections.abc import Callable, Iterator, Sequence
 from typing import Any, TypeVar
 
 from sagas.definition.serialization import clean
 from sagas.storage.admin import Row, Source
 from sagas.storage.filters import Filter
 from sagas.storage.operator_requests import reason
-from sagas.storage.queries import PHASES, RESOLVABLE, RESOLVE
+from sagas.storage.queries import PHASES, RESOLVABLE, RESOLVE, UNDOES_CHILD, UNDOING_KEYS
 
 T = TypeVar("T")
 MOST = 1000
 """Sagas of one transaction."""
 LOOK = 0.02, 0.25
 """Seconds between two looks for answers: at first, and at most."""
-ABORTABLE = f"""{PHASES["open"]} AND NOT EXISTS (SELECT 1 FROM operator_commands r
+ABORTABLE = f"""{PHASES["open"]} AND NOT {UNDOES_CHILD} AND NOT EXISTS (
+SELECT 1 FROM operator_commands r
 WHERE r.key = s.key AND r.command = 'abort' AND (r.answer IS NULL OR r.answer = 'true'))"""
-"""The sagas that are open, and of which no abort was asked by a command."""
+"""The sagas that are open, that undo no child, and of which no abort was asked by a command."""
+UNDOING = f"{PHASES['open']} AND {UNDOES_CHILD}"
 TO_RESOLVE = f"{RESOLVABLE} AND note IS NULL"
 NOTED = """
 INSERT INTO operator_commands(key, command, value, at, answer) VALUES(?, 'resolve', ?, ?, 'true')
@@ -43,11 +45,15 @@ class BatchResult:
         refused: Why it was refused, by key.
         waiting: The keys of those that have no answer yet: it is carried out once their program
             comes to it.
+        undoing: The keys of those that an abort left out, because each undoes a child.
+        warnings: What may be misspelt, if the filter selects nothing: labels that no saga has.
     """
 
     done: list[str] = dataclasses.field(default_factory=list)
     refused: dict[str, str] = dataclasses.field(default_factory=dict)
     waiting: list[str] = dataclasses.field(default_factory=list)
+    undoing: list[str] = dataclasses.field(default_factory=list)
+    warnings: list[str] = dataclasses.field(default_factory=list)
 
 
 def resolve_one(link: Source, key: str, note: str, by: str | None = None) -> bool:
@@ -68,7 +74,12 @@ class Batch:
 
     def abort_count(self) -> int:
         """How many sagas `abort` is for now."""
-        return self._count(ABORTABLE) + len(self._link.waiting_starts(self._filter))
+        waiting = len(self._link.waiting_starts(self._filter))
+        return self._count(ABORTABLE, UNDOING_KEYS) + waiting
+
+    def undoing_count(self) -> int:
+        """How many sagas `abort` leaves out now, because they undo children."""
+        return self._count(UNDOING, UNDOING_KEYS)
 
     def resolve_count(self) -> int:
         """How many sagas `resolve` is for now."""
@@ -89,7 +100,7 @@ class Batch:
         until = None if timeout is None else time.monotonic() + timeout
         while not self._stop.is_set():
             with self._link.transaction():
-                lot = self._lot(ABORTABLE, after)
+                lot = self._lot(ABORTABLE, after, UNDOING_KEYS)
                 left = [(self._link.leave(id, "abort", value), key) for id, key in lot]
             if not lot:
                 break
@@ -97,7 +108,15 @@ class Batch:
             asked = {number: key for number, key in left if number is not None}
             self._link.tell("requests")
             self._result.waiting += self._await(asked, until, self._answered).values()
+        self._result.undoing += self._undoing()
         return self._result
+
+    def _undoing(self) -> Iterator[str]:
+        """The keys of the sagas that `abort` leaves out."""
+        after = -1
+        while not self._stop.is_set() and (lot := self._lot(UNDOING, after, UNDOING_KEYS)):
+            yield from (key for _, key in lot)
+            after = lot[-1][0]
 
     def ask(self, what: str, told: Sequence[tuple[int, Any]], timeout: float) -> list[Any]:
         """Ask something of sagas: of all of them first, and then wait for the answers.
@@ -145,16 +164,17 @@ class Batch:
             self._result.done += [key for _, key in lot]
         return self._result
 
-    def _count(self, condition: str) -> int:
+    def _count(self, condition: str, *given: Any) -> int:
         where, words = self._filter.where()
         query = f"SELECT count(*) FROM sagas s WHERE {condition} AND {where}"
-        return int(self._link.ask(query, *words)[0][0])
+        return int(self._link.ask(query, *given, *words)[0][0])
 
-    def _lot(self, condition: str, after: int) -> Sequence[Row]:
+    def _lot(self, condition: str, after: int, *given: Any) -> Sequence[Row]:
+        """The next sagas of the filter. `given`: the words of the condition."""
         where, words = self._filter.where()
         query = f"""SELECT id, key FROM sagas s WHERE {condition} AND {where} AND id > ?
         ORDER BY id LIMIT {MOST}"""
-        return self._link.ask(query, *words, after)
+        return self._link.ask(query, *given, *words, after)
 
     def _await(
         self, asked: dict[int, T], until: float | None, answered: Callable[[T, Any], None]

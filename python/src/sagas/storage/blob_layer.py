@@ -2,7 +2,7 @@
 
 A value is put before the commit of the row that refers to it. Rows that are read have the values
 again, so nothing above this knows of it. A value whose commit was refused is an orphan, which
-`Blobs.sweep` deletes.
+`Blobs.sweep` deletes, unless the values are those of another store (`blob_marks`).
 """
 
 from __future__ import annotations
@@ -15,17 +15,20 @@ import time
 from collections.abc import Callable, Iterable, Sequence
 from typing import TYPE_CHECKING, Any, cast
 
-from sagas.base.errors import StoreUnavailable
+from sagas.base.errors import SagasError
 from sagas.base.logger import logger
 from sagas.core.batch import Batch, Born, Known, Loaded, SagaRow
-from sagas.definition.blobs import HEAD, BlobStore, Reference
+from sagas.definition.blobs import HEAD, BlobStore, BlobUnavailable, Reference
 from sagas.definition.payloads import ABSENT, Payloads
+from sagas.storage.blob_marks import Location, Marks
 
 if TYPE_CHECKING:
     from sagas.storage.interface import Database, Then
 
 AT_ONCE = 8
 """Values that are put, or got, at the same time."""
+PAUSES = (0.02, 0.1, 0.4)
+"""Seconds until a value is asked for again that could not be got."""
 AGE = 86_400.0
 """Seconds after which a value without a row is an orphan: its commit was refused long ago."""
 INPUT, RESULT, SHAPE = 4, 5, 1
@@ -65,19 +68,55 @@ class Blobs:
 
     Attributes:
         prefix: What the keys of this store begin with: others may have theirs in the same place.
+        other: Where the store is whose values are there, if they are not this one's.
+        under_way: The keys of values whose rows are being committed.
     """
 
     def __init__(self, store: BlobStore, threshold: int, payloads: Payloads, path: str) -> None:
         self._store, self._threshold, self._payloads = store, threshold, payloads
         self._path, self.prefix = path, ""
+        self.other: Location | None = None
+        self.under_way: set[str] = set()
         self._places = asyncio.Semaphore(AT_ONCE)
+        self._marks: Marks | None = None
+        self._own = ""
+        self._is_named, self._renewing = asyncio.Event(), asyncio.Lock()
 
-    def name(self, secret: bytes) -> None:
-        """Take the name that is the store's own."""
-        self.prefix = hashlib.sha256(b"blobs" + secret).hexdigest()[:16]
+    def mark(self, file: str, secret: bytes) -> Marks:
+        """Return the marks of a store."""
+        return Marks(file, secret, self._call, self._store)
+
+    async def name(self, file: str, secret: bytes) -> None:
+        """Take the name that is the store's own, if the values are. Else what is put has a name of
+        its own: the store whose values they are knows nothing of it, and would delete it.
+        """
+        self._marks = self.mark(file, secret)
+        self._own = hashlib.sha256(b"blobs" + secret).hexdigest()[:16]
+        try:
+            await self._renew()
+        except Exception as error:  # also what no blob store may raise: values are put all the same
+            told = error if isinstance(error, SagasError) else type(error).__name__
+            logger.warning("%s: whose the blobs are could not be seen: %s", self._path, told)
+            self.prefix = secrets.token_hex(8)
+        self._is_named.set()
+
+    async def is_own(self) -> bool:
+        """Whether the values are this store's, and no other's. Raises `StoreUnavailable`."""
+        await self._is_named.wait()
+        return await self._renew()
+
+    async def _renew(self) -> bool:
+        assert self._marks
+        async with self._renewing:
+            self.other = await self._marks.renew()
+            if self.other is None:
+                self.prefix = self._own
+            elif self.prefix in ("", self._own):
+                self.prefix = secrets.token_hex(8)
+        return self.other is None
 
     async def _call(self, function: Callable[..., Any], *words: Any) -> Any:
-        """Raises `KeyError`, and `StoreUnavailable` for anything else that a blob store raises."""
+        """Raises `KeyError`, and `BlobUnavailable` for anything else that a blob store raises."""
         try:
             if inspect.iscoroutinefunction(function):
                 return await function(*words)
@@ -86,7 +125,7 @@ class Blobs:
             raise
         except Exception as error:  # it may have the value in its text
             name = type(error).__name__
-            raise StoreUnavailable(f"{self._path}: the blob store raised {name}") from error
+            raise BlobUnavailable(f"{self._path}: the blob store raised {name}") from error
 
     # -- written
 
@@ -117,6 +156,7 @@ class Blobs:
 
     async def put_all(self, large: Sequence[tuple[list[Any], int, int]]) -> None:
         """Put values, and references into their rows. Raises `StoreUnavailable`."""
+        await self._is_named.wait()
         texts = [rows[place][cell] for rows, place, cell in large]
         ids = [rows[place][0] for rows, place, _ in large]
         references = await asyncio.gather(*map(self._put, ids, texts))
@@ -126,6 +166,7 @@ class Blobs:
 
     async def _put(self, id: int, text: str) -> str:
         key = f"{self.prefix}/{id:x}/{secrets.token_hex(16)}"
+        self.under_way.add(key)
         data = text.encode("utf-8", "surrogatepass")
         async with self._places:
             await self._call(self._store.put, key, data)
@@ -135,18 +176,30 @@ class Blobs:
 
     async def text(self, text: str) -> str:
         """Return a value as it was before it was put; a reference whose value is not there stays.
-        Raises `StoreUnavailable`.
+        Raises `BlobUnavailable`.
         """
         reference = Reference.of(text)
         if reference is None:
             return text
         try:
-            async with self._places:
-                data: bytes = await self._call(self._store.get, reference.key)
+            data = await self._got(reference.key)
         except KeyError:
             logger.error("%s: the blob %s is missing", self._path, reference.key)
             return text
         return data.decode("utf-8", "surrogatepass")
+
+    async def _got(self, key: str) -> bytes:
+        """Get a value, at the last of some tries. Raises `KeyError`, `BlobUnavailable`."""
+        for pause in (*PAUSES, None):
+            try:
+                async with self._places:
+                    data: bytes = await self._call(self._store.get, key)
+                return data
+            except BlobUnavailable:
+                if pause is None:
+                    raise
+                await asyncio.sleep(pause)
+        raise AssertionError
 
     async def rows(self, rows: Sequence[Row]) -> list[Row]:
         """Return rows with their values."""
@@ -165,13 +218,20 @@ class Blobs:
 
     # -- deleted
 
-    async def delete(self, keys: Iterable[str]) -> None:
-        """Delete values to which no row refers any more. Raises `StoreUnavailable`."""
+    async def delete(self, keys: Sequence[str]) -> None:
+        """Delete values to which no row refers any more, unless they are another store's. Raises
+        `StoreUnavailable`.
+        """
+        if keys and await self.is_own():
+            await self._delete(keys)
+
+    async def _delete(self, keys: Iterable[str]) -> None:
         for key in keys:
             await self._call(self._store.delete, key)
 
     async def sweep(self, read: Callable[..., Any]) -> int:
-        """Delete orphans: values that were put long ago, and to which no row refers.
+        """Delete orphans: values that were put long ago, and to which no row refers. Of values that
+        are another store's nothing is deleted.
 
         Args:
             read: Rows of a query, with their references.
@@ -179,15 +239,18 @@ class Blobs:
         Returns:
             How many were deleted.
         """
+        if not await self.is_own():
+            return 0
         before = time.time() - AGE
         by_id: dict[int, list[str]] = {}
         for key in await self._call(self._store.keys, f"{self.prefix}/", before):
             by_id.setdefault(int(key.split("/")[1], 16), []).append(key)
         count = 0
         for id, keys in by_id.items():
-            there = set(referred(await read(REFERRED, *within(id, id + 1))))
+            there = set(self.under_way)
+            there.update(referred(await read(REFERRED, *within(id, id + 1))))
             orphans = [key for key in keys if key not in there]
-            await self.delete(orphans)
+            await self._delete(orphans)
             count += len(orphans)
         return count
 
@@ -198,6 +261,7 @@ class BlobDatabase:
     def __init__(self, inner: Database, blobs: Blobs) -> None:
         self._inner, self.blobs = inner, blobs
         self._putting: set[asyncio.Task[None]] = set()
+        self._naming: asyncio.Task[None] | None = None
 
     def __getattr__(self, name: str) -> Any:
         return getattr(self._inner, name)
@@ -214,8 +278,16 @@ class BlobDatabase:
     async def open(self, drives: Any) -> Any:
         """As of the database; then the blobs of this store have their name."""
         found = await self._inner.open(drives)
-        self.blobs.name(await self._inner.secret())
+        naming = self.blobs.name(self._inner.file, await self._inner.secret())
+        self._naming = asyncio.get_running_loop().create_task(naming)
         return found
+
+    async def close(self) -> None:
+        """As of the database."""
+        if self._naming is not None:
+            self._naming.cancel()
+            await asyncio.wait([self._naming])
+        await self._inner.close()
 
     def commit(self, batches: Sequence[Batch], then: Then, now: bool) -> None:
         """As `CommitWriter.commit`. The values are put first; meanwhile nothing else is written."""
@@ -230,12 +302,16 @@ class BlobDatabase:
     async def _put(
         self, large: Sequence[tuple[list[Any], int, int]], batches: Sequence[Batch], then: Then
     ) -> None:
+        def settled(*told: Any) -> None:
+            self.blobs.under_way.clear()  # one commit is made at a time
+            then(*told)
+
         try:
             await self.blobs.put_all(large)
         except Exception as error:
-            then(batches, error, frozenset())
+            settled(batches, error, frozenset())
         else:
-            self._inner.commit(batches, then, True)
+            self._inner.commit(batches, settled, True)
 
     async def load(self, log: int, epoch: int, born: Born | None) -> Loaded | None:
         """As of the database: large values of open sagas are read when a function needs them."""
@@ -245,11 +321,6 @@ class BlobDatabase:
             held = [_without(row) if row[EVENT] in HELD else row for row in loaded.results]
             loaded.results = cast(Any, await self.blobs.rows(held))
         return loaded
-
-    async def find(self, key: str) -> SagaRow | None:
-        """As of the database."""
-        row = await self._inner.find(key)
-        return row and row._replace(input=await self.blobs.text(row.input))
 
     async def known(self, row: SagaRow) -> Known:
         """As of the database."""
@@ -267,6 +338,10 @@ class BlobDatabase:
     async def read(self, query: str, *words: Any) -> list[Row]:
         """As of the database."""
         return await self.blobs.rows(await self._inner.read(query, *words))
+
+    async def read_stored(self, query: str, *words: Any) -> list[Row]:
+        """As of the database."""
+        return await self._inner.read(query, *words)
 
     async def read_long(self, query: str, *words: Any) -> list[Row]:
         """As of the database."""

@@ -28,14 +28,15 @@ REPORTED_IN_PAIRS = (
 one. Measured on 2026-11-28, in instructions: an update of an outcome takes 50,000 in place of
 112,000 by the condition of the index."""
 OFFERED_AGAIN = """
-lease = CASE WHEN excluded.lease IS NULL THEN e.lease
+task = excluded.task, lease = CASE WHEN excluded.lease IS NULL THEN e.lease
   ELSE greatest(excluded.lease, coalesce(e.lease, 0) + 1) END,
 offered_at = CASE WHEN e.outcome IS NULL THEN e.offered_at ELSE excluded.offered_at END,
 until = CASE WHEN e.outcome IS NULL THEN e.until END, outcome = NULL,
 cancelled = coalesce(excluded.cancelled, e.cancelled)
 WHERE e.outcome IS NULL OR e.outcome IN ('suspended', 'withdrawn') OR e.outcome = 'person'
 """
-"""One that is offered already keeps its place and its lease; what a worker reported stands."""
+"""One that is offered already keeps its place and its lease; what a worker reported stands. The
+task may have a name that an older release gave it."""
 TAKES = """(
   {outcome} = 'succeeded' AND lease >= {lease}
     AND (outcome IS NULL OR outcome IN ('unknown', 'suspended')

@@ -3,14 +3,14 @@
 from __future__ import annotations
 
 import dataclasses
-import json
-import re
 from typing import Any
 
 from sagas.definition import labels as labels_module
 from sagas.definition.arguments import BELOW, root_of
+from sagas.definition.children import undoes_child
 from sagas.definition.labels import Labels
-from sagas.storage.queries import IN_OPEN_LOGS, PHASES
+from sagas.definition.undo_text import name_of
+from sagas.storage.queries import ERROR, IN_OPEN_LOGS, PHASES, UNDOES_CHILD, UNDOING_KEYS
 from sagas.storage.sqlite.schema import PLANNED
 
 MISSES = "('missed', 'fail', 'undo_missed', 'undo_fail')"
@@ -19,17 +19,16 @@ LABELED = "s.id IN (SELECT id FROM labels WHERE name = ? AND value = ?)"
 WITH_LABEL = "(SELECT b.value FROM labels b WHERE b.id = s.id AND b.name = ?) = ?"
 """For sagas that come in an order, or that something else has selected: each one's label is looked
 up."""
-KEYED = "s.id IN (SELECT id FROM sagas WHERE key LIKE ? ESCAPE '!')"
+KEYED = "s.id IN (SELECT id FROM sagas WHERE instr(key, ?) > 0)"
 """The keys alone are looked through, by their index."""
 WITH_ERROR = f"""(EXISTS (SELECT 1 FROM attempts x WHERE x.id = s.id AND x.event IN {MISSES}
-  AND x.value LIKE ? ESCAPE '!')
+  AND instr({ERROR}, ?) > 0)
   OR EXISTS (SELECT 1 FROM suspensions x WHERE x.id = s.id AND x.number > 0
-  AND x.detail LIKE ? ESCAPE '!'))"""
+  AND instr(x.detail, ?) > 0))"""
 """For few sagas: each one's attempts are looked up."""
 AMONG_ERRORS = f"""s.id IN (
-  SELECT x.id FROM attempts x WHERE x.event IN {MISSES} AND x.value LIKE ? ESCAPE '!'
-  UNION SELECT x.id FROM suspensions x WHERE x.number > 0
-  AND x.detail LIKE ? ESCAPE '!')"""
+  SELECT x.id FROM attempts x WHERE x.event IN {MISSES} AND instr({ERROR}, ?) > 0
+  UNION SELECT x.id FROM suspensions x WHERE x.number > 0 AND instr(x.detail, ?) > 0)"""
 """For many: all attempts are looked through once."""
 IN_ORDER = {
     phase: text.replace(IN_OPEN_LOGS, "").replace(f"{PLANNED} AND", f"{PLANNED} IS TRUE AND")
@@ -40,17 +39,13 @@ FEW = ("open", "stuck", "recovered", "undo_failed", "resolved")
 """The phases that few sagas of a store are in."""
 
 
-def part(text: str) -> str:
-    """A pattern of what contains a text."""
-    return "%" + re.sub(r"([!%_])", r"!\1", text) + "%"
-
-
 @dataclasses.dataclass(frozen=True, slots=True)
 class Scope:
     """The sagas that a caller may see.
 
     Attributes:
-        definitions: The names of their definitions; None: all.
+        definitions: The names of their definitions; None: all. A saga that undoes a child goes
+            with the child's definition.
         keys: Their keys, or with `*` at the end what these begin with; None: all. A child has the
             key of its root.
     """
@@ -61,6 +56,20 @@ class Scope:
     def has_definition(self, name: str | None) -> bool:
         """Whether sagas of a definition are in it; what is of none is only in that of all."""
         return self.definitions is None or name in self.definitions
+
+    def may_have(self, name: str | None) -> bool:
+        """Whether sagas of a definition may be in it: also of one that undoes children."""
+        return self.has_definition(name) or name in self._undoing
+
+    def has_saga(self, name: str | None, key: str | None) -> bool:
+        """Whether a saga of a definition, and with a key, is in it."""
+        is_undoing = key is not None and undoes_child(key) and name in self._undoing
+        return (self.has_definition(name) or is_undoing) and self.has_key(key)
+
+    @property
+    def _undoing(self) -> frozenset[str]:
+        """The names of the definitions that undo children of its own."""
+        return frozenset(map(name_of, self.definitions or ()))
 
     def has_key(self, key: str | None) -> bool:
         """Whether a saga's key is in it; what is of no saga is only in that of all."""
@@ -76,10 +85,15 @@ class Scope:
     def where(self) -> tuple[str, list[Any]]:
         """Return a condition on rows of `sagas`, which has the name `s`, and its words."""
         wheres, words = ["1 = 1"], list[Any]()
-        if self.definitions is not None:
-            marks = ", ".join("?" * len(self.definitions))
-            wheres.append(f"s.saga IN ({marks})" if marks else "1 = 0")
-            words += sorted(self.definitions)
+        if self.definitions:
+            own, undoing = sorted(self.definitions), sorted(self._undoing)
+            of_own, of_undoing = (", ".join("?" * len(some)) for some in (own, undoing))
+            wheres.append(
+                f"s.saga IN ({of_own}, {of_undoing}) AND (s.saga IN ({of_own}) OR {UNDOES_CHILD})"
+            )
+            words += [*own, *undoing, *own, UNDOING_KEYS]
+        elif self.definitions is not None:
+            wheres.append("1 = 0")
         if self.keys is not None:
             some = [_keyed(one) for one in sorted(self.keys)]
             wheres.append(f"({' OR '.join(condition for condition, _ in some)})")
@@ -153,15 +167,15 @@ class Filter:
             wheres.append(WITH_LABEL if in_order or each_label else LABELED)
             words += label
         if self.search:
-            wheres.append(KEYED if not of_few else "s.key LIKE ? ESCAPE '!'")
-            words.append(part(self.search))
+            wheres.append(KEYED if not of_few else "instr(s.key, ?) > 0")
+            words.append(self.search)
         times, bounds = self.times()
         wheres += [f"+{condition}" for condition in times]
         words += bounds
         if self.error:
             is_few = of_few or bool(self.labels) or self.phase in FEW
             wheres.append(WITH_ERROR if is_few else AMONG_ERRORS)
-            words += [part(json.dumps(self.error, ensure_ascii=False)[1:-1]), part(self.error)]
+            words += [self.error, self.error]
         return " AND ".join(wheres), words
 
     def times(self) -> tuple[list[str], list[Any]]:

@@ -20,6 +20,7 @@ from collections.abc import Awaitable, Callable, Sequence
 from concurrent.futures import Executor
 from typing import TYPE_CHECKING, Any, Optional, Protocol
 
+from sagas.base.errors import InvalidStore
 from sagas.core.batch import (  # fmt: skip
     Batch,
     Born,
@@ -33,6 +34,7 @@ from sagas.core.batch import (  # fmt: skip
     Tail,
 )
 from sagas.core.step_transactions import StepTransactions
+from sagas.core.undo_check import CompletedChild
 from sagas.storage.external import ExternalAttempts
 from sagas.storage.record_file import RecordFile
 
@@ -49,9 +51,9 @@ Then = Callable[[Sequence[Batch], "BaseException | None", frozenset[int]], None]
 and the logs of which nothing was written (`Lost`).
 """
 
-Drives = Callable[[list[str], list[int]], "str | None"]
-"""Of a log's definitions and of the places of those that have open sagas: None where this
-program has all functions, else what it lacks.
+Drives = Callable[[list[str], list[int], Sequence[CompletedChild]], "str | None"]
+"""Of a log's definitions, of the places of those that have open sagas, and of the completed
+children below these: None where this program has all functions, else what it lacks.
 """
 
 
@@ -122,6 +124,9 @@ class Watcher(Protocol):
     def offered(self) -> None:
         """Another node has something for workers."""
 
+    def refused(self, error: InvalidStore) -> None:
+        """The server has no tables of the store, and this node may not make them."""
+
     def logs(self) -> list[int]:
         """The logs that this node drives, as far as it knows."""
 
@@ -165,6 +170,9 @@ class StoreReader(Protocol):
 
     async def read(self, query: str, *words: Any) -> list[tuple[Any, ...]]:
         """Rows of a query that SQLite and PostgreSQL both understand, with `?` for each word."""
+
+    async def read_stored(self, query: str, *words: Any) -> list[tuple[Any, ...]]:
+        """As `read`, with references in place of values that are outside of the database."""
 
     async def read_long(self, query: str, *words: Any) -> list[tuple[Any, ...]]:
         """As `read`, of what may be many megabytes."""
@@ -264,7 +272,7 @@ class Database(CommitWriter, StoreReader, Protocol):
     # -- reading, for the coordinator
 
     async def find(self, key: str) -> SagaRow | None:
-        """The saga with this key."""
+        """The saga with this key. Its input may be a reference to a value outside."""
 
     async def load(self, log: int, epoch: int, born: Born | None) -> Loaded | None:
         """A log as a pump takes it up; None where it is another node's, or is not there. What of

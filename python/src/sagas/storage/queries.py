@@ -12,9 +12,13 @@ from collections.abc import Callable, Sequence
 from typing import Any
 
 from sagas.base.errors import NoSuchSaga
+from sagas.core import undo_check
 from sagas.core.batch import Known, LogRow, SagaRow
 from sagas.core.held_values import LARGE
+from sagas.core.undo_check import CompletedChild
+from sagas.definition import arguments
 from sagas.definition.capacity import SHARD_CAPACITY
+from sagas.definition.children import UNDO
 from sagas.definition.labels import TOKEN
 from sagas.definition.payloads import ABSENT
 from sagas.storage.sqlite.schema import PLANNED, UNDO_FAILED
@@ -61,6 +65,42 @@ ORDER BY s.id, r.step, r.action, r.number
 OPEN_HELD = f"SELECT {HELD} FROM sagas s CROSS JOIN suspensions h WHERE {OPEN} AND h.id = s.id"
 """SQLite goes by a CROSS JOIN from left to right: by the open sagas first."""
 PLACES = f"SELECT DISTINCT definition_index FROM sagas s WHERE {OPEN}"
+DESCENDANTS = f"""
+WITH RECURSIVE below(shard, id, parent) AS (
+  SELECT l.shard, c.id, c.parent FROM shards l CROSS JOIN sagas s CROSS JOIN children c
+  WHERE EXISTS (SELECT 1 FROM children) AND {{which}} AND s.phase IS NULL AND c.parent = s.id
+    AND s.id >= l.shard * {SHARD_CAPACITY} AND s.id < (l.shard + 1) * {SHARD_CAPACITY}
+  UNION ALL SELECT b.shard, c.id, c.parent FROM below b CROSS JOIN children c WHERE c.parent = b.id)
+"""
+"""The sagas below the open ones of shards, with the shards of these, and their parents."""
+COMPLETED = f"""
+FROM below b CROSS JOIN sagas s CROSS JOIN sagas p CROSS JOIN shard_definitions d
+WHERE s.id = b.id AND s.phase = 'ended' AND NOT s.{PLANNED}
+  AND p.id = b.parent AND (p.phase IS NULL OR p.phase = 'ended' AND NOT p.{PLANNED})
+  AND substr(s.key, length(p.key)) NOT LIKE '%%{UNDO}%%'
+  AND NOT EXISTS (SELECT 1 FROM sagas u
+    WHERE u.key = s.key || '{UNDO}' AND u.phase = 'ended' AND NOT u.{PLANNED})
+  AND d.shard = s.id / {SHARD_CAPACITY} AND d.place = s.definition_index
+"""
+"""Those of them that have completed, undo no child and are not undone: `s`, with its parent `p` and
+its definition `d`. For psycopg, each % is there twice, which means the same.
+"""
+COMPLETED_CHILDREN = f"""
+{DESCENDANTS} SELECT DISTINCT b.shard, p.phase IS NULL,
+  (SELECT q.definition FROM shard_definitions q
+   WHERE q.shard = p.id / {SHARD_CAPACITY} AND q.place = p.definition_index),
+  substr(s.key, length(p.key) + 3), d.definition {COMPLETED}
+"""
+"""Of each the shard, whether its parent is open, that one's definition, what follows the parent's
+key in its own, and its definition.
+"""
+UNDOABLE = f"""
+{DESCENDANTS.format(which="l.closed = 0")}
+SELECT d.definition, s.saga, count(*) {COMPLETED} GROUP BY 1, 2
+"""
+"""How many they are of each definition, in the whole store."""
+COMPLETED_IN_FILE = COMPLETED_CHILDREN.format(which="l.closed = 0")
+ALL_DEFINITIONS = "SELECT definition, text FROM definitions"
 COUNT = "SELECT count(*) FROM sagas s WHERE s.id >= ? AND s.id < ?"
 FIND = f"SELECT {SAGA} FROM sagas WHERE key = ?"
 FIND_MANY = {
@@ -88,6 +128,9 @@ step
 had failed or they were aborted; `undo_failed`: those of these of which a compensation failed for
 good. Once a person has resolved such a saga it is `resolved`, as one that was stuck.
 """
+UNDOES_CHILD, UNDOING_KEYS = "s.key LIKE ?", f"%{arguments.BELOW}%{UNDO}%"
+"""A saga `s` undoes a child, as `definition.children.undoes_child` says it of a key; with the word
+for it."""
 DAMAGED = f"""FROM shards l CROSS JOIN sagas s
 LEFT JOIN shard_definitions d ON d.shard = l.shard AND d.place = s.definition_index
 WHERE l.closed = 0 AND l.audit IS NOT NULL AND s.phase IS NULL
@@ -149,11 +192,21 @@ WHERE r.answer IS NULL AND r.id > ? ORDER BY r.id LIMIT ?
 """Of a file, which forgets with a saga what was asked of its key."""
 
 
+ERROR = "json_extract(x.value, '$.error')"
+"""What an attempt `x` raised, of a row that has it as JSON."""
+ERROR_IN_POSTGRESQL = r"""CASE WHEN
+  x.value ~ '\\u0000|\\ud[89ab]..(?!\\ud[c-f])|(?<!\\ud[89ab]..)\\ud[c-f]'
+  THEN x.value ELSE x.value::json ->> 'error' END"""
+"""The same. A text with a NUL or half of a pair, which PostgreSQL does not take from JSON, stays as
+it is.
+"""
+
+
 def for_postgresql(query: str, mark: str = "%s") -> str:
     """A query as psycopg and PostgreSQL take it, with a mark for each value."""
     query = query.replace(IN_OPEN_LOGS, "").replace("json_group_object", "json_object_agg")
-    query = query.replace(SORTED_AT, "s.at")
-    return query.replace("?", mark)
+    query = query.replace(SORTED_AT, "s.at").replace("instr(", "strpos(")
+    return query.replace("?", mark).replace(ERROR, ERROR_IN_POSTGRESQL)  # which has ? of its own
 
 
 def labels_of(told: str | None) -> dict[str, str]:
@@ -216,6 +269,11 @@ class Rows:
         """The places of the definitions of a log's open sagas."""
         return [place for (place,) in self.rows(PLACES, *bounds(log))]
 
+    def completed_children(self) -> dict[int, list[CompletedChild]]:
+        """The completed children below the open sagas of each log."""
+        rows = self.rows(COMPLETED_IN_FILE)
+        return undo_check.by_shard(rows, self.rows(ALL_DEFINITIONS)) if rows else {}
+
     def find_now(self, key: str) -> SagaRow | None:
         """The saga with this key."""
         found = self.rows(FIND, key)
@@ -266,6 +324,10 @@ class Questions:
     async def read(self, query: str, *words: Any) -> list[tuple[Any, ...]]:
         """Rows of a query."""
         raise NotImplementedError
+
+    async def read_stored(self, query: str, *words: Any) -> list[tuple[Any, ...]]:
+        """As `read`, with references in place of values that are outside of the database."""
+        return await self.read(query, *words)
 
     async def read_long(self, query: str, *words: Any) -> list[tuple[Any, ...]]:
         """As `read`, of what may be many megabytes."""

@@ -6,9 +6,9 @@ import dataclasses
 import json
 from typing import Any
 
-from sagas.base.errors import CannotDecode, NoSuchSchedule
+from sagas.base.errors import CannotDecode, InvalidSchedule, NoSuchSchedule
 from sagas.definition.payloads import PLAIN, Payloads
-from sagas.definition.timing import CatchUp, Timing
+from sagas.definition.timing import CatchUp, Overlap, Timing, policy_of
 from sagas.storage import codec_note
 from sagas.storage.admin import Row, Source
 
@@ -30,7 +30,8 @@ WHERE {" OR ".join(f"schedules.{name} <> excluded.{name}" for name in SAME)}
 LOCK = "UPDATE schedules SET input = input WHERE name = ? RETURNING input"
 """Its input as it is stored; nobody else changes it until the transaction ends."""
 ADVANCE = """
-UPDATE schedules SET next_at = ?, last_at = coalesce(?, last_at), error = ?
+UPDATE schedules SET next_at = ?, last_at = coalesce(?, last_at),
+  error = coalesce(?, CASE WHEN paused = 1 THEN error END)
 WHERE name = ? AND next_at = ? AND cron = ? AND every = ? AND timezone = ?
 """
 """Only the one who finds it as it was read: of two nodes, the second changes nothing. A change of
@@ -52,10 +53,13 @@ class Schedule:
         every: Seconds between two sagas, or None.
         timezone: The time zone of the expression.
         catch_up: What becomes of missed times: `last`, `all` or `skip`.
+        max: How many missed times are started at most.
+        overlap: What becomes of a time while the saga of the time before is open: `allow`, `skip`
+            or `queue`.
         next_at: Wall time of its next saga, in seconds since 1970; if paused, without meaning.
         last_at: Wall time of its last saga, or None.
         paused: Whether it starts nothing.
-        error: Why its last saga could not be started, or None.
+        error: Why its last saga could not be started, or what was not started; or None.
     """
 
     name: str
@@ -67,6 +71,8 @@ class Schedule:
     every: float | None
     timezone: str
     catch_up: str
+    max: int
+    overlap: str
     next_at: float
     last_at: float | None
     paused: bool
@@ -76,15 +82,18 @@ class Schedule:
     def timing(self) -> Timing:
         """When it starts its sagas."""
         every, catch_up = self.every or 0.0, CatchUp(self.catch_up)
-        return Timing(self.cron or "", every, self.timezone, catch_up)
+        more = self.max, Overlap(self.overlap)
+        return Timing(self.cron or "", every, self.timezone, catch_up, *more)
 
 
 def of_row(row: Row) -> Schedule:
     """Return a schedule as the store has it."""
     name, saga, version, input, labels, cron, every, *rest = row
-    timezone, catch_up, next_at, last_at, paused, error = rest
-    told = json.loads(input), json.loads(labels), cron or None, every or None, timezone, catch_up
-    return Schedule(name, saga, version, *told, next_at, last_at, bool(paused), error)
+    timezone, policy, next_at, last_at, paused, error = rest
+    catch_up, most, overlap = policy_of(policy)
+    told = json.loads(input), json.loads(labels), cron or None, every or None, timezone
+    when = catch_up.value, most, overlap.value, next_at, last_at
+    return Schedule(name, saga, version, *told, *when, bool(paused), error)
 
 
 class Schedules:
@@ -100,7 +109,7 @@ class Schedules:
         """Declare one, or change it; as it is, it keeps its next time. Raises `NotSerializable`
         and `MissingCodec`."""
         stored = payloads.encode(input)
-        when = timing.cron, timing.every, timing.timezone, timing.catch_up.value
+        when = timing.cron, timing.every, timing.timezone, timing.policy
         words = (name, *saga, stored, labels, *when, timing.next_after(now))
         with self._link.transaction():
             codec_note.check(self._link, payloads)
@@ -117,9 +126,18 @@ class Schedules:
             if _is_of(there, input, payloads):
                 self._link.changed("UPDATE schedules SET input = ? WHERE name = ?", stored, name)
 
-    def pause(self, name: str) -> None:
-        """Start nothing of it from now on. Raises `NoSuchSchedule`."""
-        self._changed(name, "UPDATE schedules SET paused = 1 WHERE name = ?", name)
+    def pause(self, name: str, now: float | None = None) -> str | None:
+        """Start nothing of it from now on. Return what is said of times that were missed before:
+        they are not started, and the schedule's `error` says so. Raises `NoSuchSchedule`.
+        """
+        said, now = None, self._link.now() if now is None else now
+        with self._link.transaction():
+            for (_,) in self._link.ask(LOCK, name):
+                one = of_row(self._link.ask(ONE, name)[0])
+                said = None if one.paused else missed_before_pause(one, now)
+            text = "UPDATE schedules SET paused = 1, error = coalesce(?, error) WHERE name = ?"
+            self._changed(name, text, said, name)
+        return said
 
     def resume(self, name: str, now: float) -> None:
         """Start its sagas again, from the next time on. Raises `NoSuchSchedule`."""
@@ -145,6 +163,19 @@ class Schedules:
     def _changed(self, name: str, text: str, *words: Any) -> None:
         if not self._link.changed(text, *words):
             raise _absent(name)
+
+
+def missed_before_pause(one: Schedule, now: float) -> str | None:
+    """What is said of the missed times of a schedule that is paused: nothing starts them."""
+    if one.next_at > now or one.catch_up == CatchUp.SKIP:
+        return None
+    try:
+        count = one.timing.missed(one.next_at, now)
+    except InvalidSchedule:  # this system does not have the time zone
+        return None
+    count = 1 if one.catch_up == CatchUp.LAST else count
+    times = "1 missed time" if count == 1 else f"{count:,} missed times"
+    return f"{times} before the pause {'was' if count == 1 else 'were'} not started"
 
 
 def _is_of(stored: str, input: str, payloads: Payloads) -> bool:

@@ -65,17 +65,18 @@ class Family:
         """Run the child of an attempt to its end; return what that comes to."""
         child = attempt.declared.child
         assert child
-        saga = undo_sagas.undo_saga(child) if attempt.undo else child
+        is_undoing = attempt.undo or attempt.instance.kind.undoes is not None
+        saga = undo_sagas.undo_saga(child) if is_undoing else child
         if saga is None:
             return Outcome(SUCCEEDED, "null")
         if attempt.undo:
             scenario = scenario.undoing()
-        elif saga.undoes is None:
+        elif not is_undoing:
             own = deadline_at(saga.deadline, self._clock())
             times = [at for at in (scenario.deadline, own) if at is not None]
             scenario = dataclasses.replace(scenario, deadline=min(times, default=None))
         try:
-            given = self._input(attempt, saga)
+            given = self._input(attempt)
         except Exception as error:  # of the step's function
             return outcomes.raised(error, attempt.manner)
         key = children.key_of(attempt)
@@ -90,17 +91,15 @@ class Family:
         assert outcome
         return Outcome(SUCCEEDED, "null") if attempt.undo and outcome.kind is SUCCEEDED else outcome
 
-    def _input(self, attempt: Attempt, saga: Saga) -> Any:
-        if not attempt.undo:
-            given = children.child_input(attempt)
-            if saga.undoes is None:
-                return given
-            key = str(given)
-        else:
-            key = str(attempt.task().result["key"])
+    def _input(self, attempt: Attempt) -> Any:
+        key = children.undone_key(attempt)
+        if key is None:
+            return children.child_input(attempt)()
         simulation, kind, token = self._members[key]
         saga_instance = simulation.saga
-        return children.undo_input(key, token, kind, saga_instance.text, saga_instance.results)
+        undone = children.left_by(self.trials[key].states, ())
+        text, results = saga_instance.text, saga_instance.results
+        return children.undo_input(key, token, kind, text, results, undone)
 
 
 def _named(scenario: Scenario) -> set[str]:

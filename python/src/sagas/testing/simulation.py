@@ -28,7 +28,7 @@ from sagas.core.shard import MOST_CLAIMS, ShardDriver, ShardIdentity
 from sagas.core.shard_definitions import ShardDefinitions
 from sagas.core.states import Action, OutcomeKind, Suspension, saga_phase, step_state
 from sagas.core.suspensions import SuspensionRow
-from sagas.definition import serialization
+from sagas.definition import children, serialization
 from sagas.definition.compiled import Kind
 from sagas.definition.start_options import StartOptions
 from sagas.runtime import invocation
@@ -235,6 +235,10 @@ class Simulation:
             if attempt.outcome.called:
                 self._note(attempt, attempt.outcome)
             self._driver.report(attempt)
+        elif decision.do is Do.ASK:
+            assert decision.question
+            attempt.rare.returned |= decision.question.answers()
+            self._do(attempt, self._machine.go_on(attempt, self._clock()))
         elif decision.do is Do.OFFER:
             self._put(self._clock(), Due.ANSWER, attempt)
         elif decision.do is Do.FOLLOW and attempt not in self._followed:
@@ -320,6 +324,10 @@ class Simulation:
         answers, name = self._scenario.answers, attempt.name
         if name not in answers:
             name = self._kind.declared_name(attempt.step)
+        if name not in answers and attempt.reason is Suspension.EXHAUSTED:
+            undoes = children.undoes_child(attempt.key)
+            if attempt.is_child and (attempt.undo or undoes) and attempt.outcome:
+                return attempt.outcome  # a person has answered in the saga that undoes it
         if name not in answers:
             whose = f"{'the compensation of ' if attempt.undo else ''}step {name!r}"
             how = f"Set answers={{{name!r}: ...}}"

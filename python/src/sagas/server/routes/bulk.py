@@ -9,7 +9,7 @@ from typing import Any
 from starlette.responses import Response
 
 from sagas.base.errors import SagasError, StepNotWaiting
-from sagas.inspection import attention_pages, lists
+from sagas.inspection import attention_pages, lists, unmatched
 from sagas.inspection.question import Question
 from sagas.server import answers, problems
 from sagas.server.auth import May
@@ -39,7 +39,7 @@ STEPS = Record(
         **filters.SAGAS,
         **filters.LABELS,
         "kind": Field(Choice(tuple(KINDS[3:])), "of attempts that wait"),
-        "step": Field(Text(most=32), "of this step"),
+        "step": Field(Text(most=32), "of this step; of one with items: of all its items"),
         "undo": UNDO,
     },
 )
@@ -86,11 +86,21 @@ def entries_of(
     return total, list(some)
 
 
+async def warnings_of(call: Call, of: Filter) -> list[str]:
+    """What may be misspelt in a filter that selects nothing."""
+    names = [name for saga in call.service.store.sagas for name, _ in saga.declared_steps]
+    step = call.body["filter"].get("step")
+    return await call.service.look(unmatched.of(of, step, names))
+
+
 async def carried_out(
-    call: Call, question: Question[tuple[int, list[Target]]], deed: Deed
+    call: Call, of: Filter, question: Question[tuple[int, list[Target]]], deed: Deed,
+    undoing: int = 0,
 ) -> Response:
-    """Counts; then, where it is no dry run and the count is still the same, does it to each."""
+    """Counts; then, where it is no dry run and the count is still the same, does it to each.
+    `undoing`: how many are left out, because they undo children."""
     body, (total, targets) = call.body, await call.service.look(question)
+    warnings = [] if total else await warnings_of(call, of)
     done, refused = 0, list[Any]()
     if not body["dry_run"]:
         if body["count"] is None:
@@ -109,7 +119,8 @@ async def carried_out(
         "keys": [key for key, *_ in targets[:SHOWN]],
     }
     left = total - done - len(refused)
-    return Json({**told, "done": done, "refused": refused, "left": max(0, left)})
+    told |= {"done": done, "refused": refused, "left": max(0, left), "undoing": undoing}
+    return Json(told | {"warnings": warnings})
 
 
 async def each(
@@ -159,13 +170,18 @@ def declare(name: str, body: Record, verb: str, told: str) -> Handler:
 
     async def handler(call: Call) -> Response:
         given, sent = call.body["filter"], call.body
+        if given["labels"] is not None and not given["labels"]:
+            why = "this selects every saga. Leave it out to mean that"
+            raise Problem("InvalidRequest", f"filter.labels: {why}", "filter.labels")
         words = {"by": call.who.name, "note": sent["note"]}
         deed = deed_of(call.service, verb, words, sent.get("result"), sent.get("error"))
         if "kind" not in given:
-            return await carried_out(call, sagas_of(filters.of(call.who, given, "open")), deed)
+            of = filters.of(call.who, given, "open")
+            undoing = await call.service.look(lists.undoing(of))
+            return await carried_out(call, of, sagas_of(of), deed, undoing)
         of = filters.of(call.who, given)
         entries = entries_of(given["kind"], of, given.get("step"), given.get("undo"))
-        return await carried_out(call, entries, deed)
+        return await carried_out(call, of, entries, deed)
 
     handler.__doc__ = told
     answer = Answer("What the filter selects, and what was done.", answers.BULK)
@@ -181,7 +197,8 @@ BEHIND = (
 )
 abort = declare(
     "abort", record("AbortMany", SAGAS, {"note": NOTE}), "abort",
-    f"Abort the open sagas of a filter.\n\nThose that were asked before are left out. {BEHIND}",
+    "Abort the open sagas of a filter.\n\nThose that were asked before, and those that undo "
+    f"children, are left out. {BEHIND}",
 )  # fmt: skip
 resolve = declare(
     "resolve", record("ResolveMany", HEALED, {"note": NEEDED_NOTE}), "resolve",

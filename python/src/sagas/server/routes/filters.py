@@ -69,7 +69,7 @@ SAGAS: dict[str, Field] = {
 
 def of(who: Who, told: Mapping[str, Any], phase: str | None = None) -> Filter:
     """The filter, of sagas that are theirs to see. Raises `Problem`."""
-    check_definition(who, told["definition"])
+    check_definition(who, told["definition"], starts=False)
     words = {name: told[name] for name in ("search", "started_after", "started_before", "error")}
     labels = checked(told.get("labels") or labels_of(told.get("label") or ()))
     return Filter(phase=phase, saga=told["definition"], labels=labels, scope=who.scope, **words)

@@ -4,6 +4,7 @@ from __future__ import annotations
 
 import contextlib
 import functools
+import json
 import time
 from typing import Any
 
@@ -11,6 +12,7 @@ from starlette.requests import Request
 from starlette.responses import RedirectResponse, Response
 
 from sagas.base.errors import DefinitionError, NoSuchSaga, NoSuchSchedule, SagasError
+from sagas.definition import children
 from sagas.inspection.views import SagaView
 from sagas.server import json_texts, problems, step_waits
 from sagas.server.access import service_of
@@ -37,6 +39,10 @@ FAULTS = {
     "number": "The result is not a number.",
     "yes": "The result must be yes or no.",
 }
+NO_CHILD = (
+    "The result is that of its child: enter what other steps read of it. If there is nothing to "
+    "undo, enter null as the key."
+)
 RESOLVE = {
     "title": "Mark it as resolved?", "verb": "Mark as resolved",
     "note_title": "What was done about it (a note)", "note_needed": True,
@@ -235,9 +241,22 @@ async def step_asked(call: Call, view: SagaView | None, status: int = 200, **mor
     if view is not None:
         words["given"] = [("Input", view.input), ("Results in effect", view.results)]
         words["waits"] = step_waits.name_of(view, name, undo)
+        if outcome == "done" and not undo and (child := child_of(view, name)):
+            words["result"], words["text"] = child_result(child), f"{words['text']} {NO_CHILD}"
     if outcome != "retry":
         words["effect"] = await effect_of(call, **{outcome: name})
     return asked(call.request, call.key, words, status, **more)
+
+
+def child_of(view: SagaView, step: str) -> str | None:
+    """The key of the last child that a step of a saga started."""
+    some = [one.key for one in view.children if children.is_of_step(one.key, view.key, step)]
+    return None if children.undoes_child(view.key) else next(reversed(some), None)
+
+
+def child_result(key: str) -> str:
+    """What a form proposes as the result of a step that starts a child."""
+    return json.dumps({"key": key, "phase": "completed", "results": {}}, ensure_ascii=False)
 
 
 def result_of(form: dict[str, str]) -> Any:

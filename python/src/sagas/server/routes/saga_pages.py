@@ -12,6 +12,7 @@ from urllib.parse import urlencode
 from starlette.responses import Response
 
 from sagas.base.errors import DefinitionError, NoSuchSaga
+from sagas.definition import children
 from sagas.definition.groups import Groups
 from sagas.engine.plan import certificate_text
 from sagas.inspection import families, picture, step_items, timeline, timeline_picture, what_if
@@ -43,7 +44,7 @@ async def saga(call: Call) -> Response:
     with contextlib.suppress(NoSuchSaga):
         await service.check_sees(looker(request), key)
         view = await service.saga(key, is_page=True)
-        view = view and families.seen_by(view, looker(request).sees)
+        view = view and families.seen_by(view, looker(request).scope)
     if view is None:
         told: dict[str, Any] = {"title": "There is no such saga", "back": "/ui/sagas"}
         return shows(request, "fault.html", 404, text=f"No saga has the key {key}.", **told)
@@ -78,6 +79,7 @@ def told_of(
         "now": now,
         "live": f"/ui/events?{urlencode({'key': view.key})}" if view.phase == "open" else None,
         "saga": view,
+        "undoes": children.undoes_child(view.key),
         "base": base,
         "unfolding": unfolding,
         "asks": asks,
@@ -115,7 +117,8 @@ def unused_of(view: SagaView) -> list[str]:
 def effect(view: SagaView, *, abort: bool = False, **step: str) -> str | None:
     """What an abort, or the end of a step (`done=`, `failed=`), would come to, in words; None
     where it would not be accepted."""
-    if view.phase != "open" or (abort and view.aborted):
+    is_refused = abort and (view.aborted or children.undoes_child(view.key))
+    if view.phase != "open" or is_refused:
         return None
     for name in step.values():
         if any((one.name, one.state) == (name, "waiting") for one in view.steps):

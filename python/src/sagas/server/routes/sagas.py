@@ -15,7 +15,7 @@ from starlette.requests import Request
 from starlette.responses import PlainTextResponse, Response
 
 from sagas.base.errors import DefinitionError, NoSuchSaga
-from sagas.definition import tracing
+from sagas.definition import children, tracing
 from sagas.engine.plan import certificate_text
 from sagas.inspection import families, pages
 from sagas.inspection import picture as picture_module
@@ -122,7 +122,7 @@ async def view_of(call: Call, key: str | None = None) -> SagaView:
     """
     await call.service.check_sees(call.who, key or call.key)
     view = there(await call.service.saga(key or call.key), key or call.key)
-    return families.seen_by(view, call.who.sees)
+    return families.seen_by(view, call.who.scope)
 
 
 async def kept_of(service: Any, who: Who, key: str) -> SagaView:
@@ -241,12 +241,13 @@ async def wait(call: Call) -> Response:
 @routes.post(
     "/sagas/{key}/abort", "abortSaga", may=May.START, body=WHY,
     answers={200: Answer("Whether it was aborted now.", answers.ABORTED)},
-    problems=("NoSuchSaga", "OwnerUnavailable"),
+    problems=("NoSuchSaga", "NotAbortable", "OwnerUnavailable"),
 )  # fmt: skip
 async def abort(call: Call) -> Response:
     """Abort a saga.
 
-    No further step of it starts, and what costs least is undone."""
+    No further step of it starts, and what costs least is undone. A saga that undoes a child is not
+    aborted."""
     service, note = call.service, call.body["note"]
     await service.check_sees(call.who, call.key)
     done = await service.in_time(service.store.abort(call.key, by=call.who.name, note=note))
@@ -256,7 +257,7 @@ async def abort(call: Call) -> Response:
 @routes.post(
     "/sagas/{key}/what-if", "whatIf", may=May.LOOK, body=SUPPOSE,
     answers={200: Answer("The plan, which nobody goes by.", answers.WHAT_IF)},
-    problems=("NoSuchSaga", "SagaOver"),
+    problems=("NoSuchSaga", "SagaOver", "NotAbortable"),
 )  # fmt: skip
 async def what_if(call: Call) -> Response:
     """Compute what an abort, or a failure of a step, would cost now.
@@ -269,6 +270,8 @@ async def what_if(call: Call) -> Response:
     view = await view_of(call)
     if view.phase != "open":
         raise Problem("SagaOver", f"saga {call.key!r} is {view.phase}: nothing of it is to be done")
+    if suppose["abort"]:
+        children.check_abortable(call.key)
 
     def told() -> Response:
         try:
@@ -349,14 +352,17 @@ async def decided(call: Call, outcome: str, value: Any) -> Response:
     "/sagas/{key}/steps/{step}/complete", "completeStep", may=May.APPROVE, body=COMPLETE,
     answers=DECIDED,
     problems=(
-        "NoSuchSaga", "StepNotWaiting", "ConflictingReport", "NotSerializable", "OwnerUnavailable",
+        "NoSuchSaga", "StepNotWaiting", "ConflictingReport", "NotSerializable", "InvalidResult",
+        "OwnerUnavailable",
     ),
 )  # fmt: skip
 async def complete(call: Call) -> Response:
     """Report that a step is done.
 
     An approval; for operators also a step with an unknown outcome, or one that nobody takes. Of an
-    approval, or a worker's step, that has not begun the report is stored until it begins."""
+    approval, or a worker's step, that has not begun the report is stored until it begins. The
+    result of a step that starts a child has the key of a child that this step started, or null as
+    the key if there is nothing to undo."""
     return await decided(call, "complete", call.body["result"])
 
 
@@ -396,7 +402,7 @@ async def events(call: Call) -> Response:
 
     From now on, or behind the header `Last-Event-ID`, of the definitions that the token may see.
     An event `missed` says that some are no longer stored: look at the sagas themselves."""
-    check_definition(call.who, call.query["definition"])
+    check_definition(call.who, call.query["definition"], starts=False)
     listener = Listener(call.query["key"], call.query["definition"], call.who.sees_event)
     return stream(call.request, call.who, listener, None, lambda: is_still(call.request, call.who))
 

@@ -58,9 +58,31 @@ SELECT (SELECT most FROM most), ARRAY(SELECT slot FROM mine ORDER BY slot),
 server has taken over that does not have them: so nobody remembers that they are made."""
 
 
-TAKE_KEYED = TAKE.replace("UPDATE limit_slots SET node = NULL\n", "DELETE FROM limit_slots\n")
-"""As `TAKE`, for the limit of a key: its places go when they are given back, since there may be
-any number of keys."""
+TAKE_KEYED = f"""
+WITH back AS (DELETE FROM limit_slots
+  WHERE name = %(name)s AND kind = 'limit' AND node = %(node)s
+    AND slot <> ALL(%(have)s::integer[]) RETURNING slot),
+mine AS (INSERT INTO limit_slots(name, kind, slot, node)
+  SELECT %(name)s, 'limit', n, %(node)s FROM generate_series(1, %(limit)s) n
+  WHERE NOT EXISTS (SELECT 1 FROM limit_slots p
+    WHERE p.name = %(name)s AND p.kind = 'limit' AND p.slot = n
+      AND (p.node = %(node)s OR {LIVE.format('p.node')}))
+  ORDER BY n LIMIT %(want)s
+  ON CONFLICT (name, kind, slot) DO UPDATE SET node = excluded.node
+    WHERE limit_slots.node IS NULL OR NOT {LIVE.format('limit_slots.node')}
+  RETURNING slot)
+SELECT (SELECT count(*) FROM mine), ARRAY(SELECT slot FROM mine ORDER BY slot),
+  (SELECT count(*) FROM back), NULL::double precision, false
+"""
+"""As `TAKE`, for the limit of a key. There may be any number of keys, so a place has a row only
+while a node has the place."""
+TIDY = f"""
+DELETE FROM limit_slots WHERE (name, kind, slot) IN (SELECT name, kind, slot FROM limit_slots p
+  WHERE kind = 'limit' AND name LIKE '%%/%%/%%'
+    AND (node IS NULL OR NOT {LIVE.format('p.node')}) FOR UPDATE SKIP LOCKED)
+"""
+"""Of keys, the places that nodes had that are gone, and those that releases before this one kept. A
+place of a step has two names, and that of a key three."""
 
 
 class Places:

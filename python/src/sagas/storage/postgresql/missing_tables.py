@@ -26,11 +26,12 @@ class MissingTables:
     def __init__(self, url: str, path: str) -> None:
         self._url, self._path = url, path
         self._line = ""  # the timeline of the server at which they were seen last
-        self._reason = ""  # why they cannot be made, as it was logged
+        self.refusal: InvalidStore | None = None
+        """Why they cannot be made, as it was logged."""
 
     def seen(self, line: str) -> None:
         """The tables are at the server with this timeline."""
-        self._line, self._reason = line, ""
+        self._line, self.refusal = line, None
 
     async def make(self, error: StoreUnavailable) -> bool:
         """Make the tables if that is why this error was raised; whether it was done. Why they
@@ -43,9 +44,9 @@ class MissingTables:
         except StoreUnavailable:
             return False  # the next error tells
         except InvalidStore as refusal:
-            if self._reason != str(refusal):
-                self._reason = str(refusal)
+            if str(self.refusal) != str(refusal):
                 logger.error("%s", refusal)
+            self.refusal = refusal
             return False
         logger.warning("%s: made the tables, which this server did not have", self._path)
         return True

@@ -22,14 +22,16 @@ import tomllib
 
 from sagas.base.logger import logger
 from sagas.base.wording import number
+from sagas.core import undo_check
 from sagas.core.batch import LogRow
+from sagas.core.undo_check import CompletedChild
 from sagas.definition.capacity import SHARD_CAPACITY
 from sagas.definition.compiled import version_of
 from sagas.storage.codec_note import NOTED, missing
 from sagas.storage.postgresql import codec_note, notifications
 from sagas.storage.postgresql.codec_note import ALLOWS
 from sagas.storage.postgresql.connections import LINE, RAISED, Asker
-from sagas.storage.queries import OPENED
+from sagas.storage.queries import COMPLETED_CHILDREN, OPENED
 
 if TYPE_CHECKING:
     from sagas.storage.interface import Drives
@@ -105,6 +107,8 @@ took would not see the last commit of a node that still wrote.
 
 Each row is one text, which psycopg reads in less time than several cells.
 """
+COMPLETED = COMPLETED_CHILDREN.format(which="l.shard = ANY(%(logs)s::bigint[])")
+TEXTS_OF = "SELECT definition, text FROM definitions WHERE definition = ANY(%(digests)s::text[])"
 UNDRIVEN = f"""
 SELECT text, count(DISTINCT l.shard), count(*)
 FROM shards l
@@ -305,13 +309,24 @@ class Lease:
         """Those of these logs that this program has the functions for; the others are left to
         other nodes, and given back where they are this one's by now.
         """
-        lacks = {log: drives(texts, places) for log, texts, places, _ in found}
+        completed = await self._completed([log for log, *_ in found]) if found else {}
+        lacks = {
+            log: drives(texts, places, completed.get(log, [])) for log, texts, places, _ in found
+        }
         left = {log: at for log, _, _, at in found if lacks[log] is not None}
         if left:
             await self._asker.ask(LEAVE, node=self.node, logs=[*left])
             self.left |= left
             logger.info("left %d shards to other nodes: %s", len(left), lacks[next(iter(left))])
         return [log for log in lacks if log not in left]
+
+    async def _completed(self, logs: Sequence[int]) -> dict[int, list[CompletedChild]]:
+        """The completed children below the open sagas of these logs."""
+        rows = await self._asker.read(COMPLETED, logs=[*logs])
+        if not rows:
+            return {}
+        digests = [*{digest for _, _, one, _, other in rows for digest in (one, other)}]
+        return undo_check.by_shard(rows, await self._asker.read(TEXTS_OF, digests=digests))
 
     async def _has(self, drives: Drives, taken: list[int]) -> list[LogRow]:
         """What is in the logs that were just taken: a saga of theirs, which was opened

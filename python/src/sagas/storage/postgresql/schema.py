@@ -180,9 +180,10 @@ CREATE INDEX webhook_deliveries_due ON sagas.webhook_deliveries(webhook, due)
   WHERE state = 'pending';
 CREATE INDEX webhook_deliveries_at ON sagas.webhook_deliveries(at);
 
--- Slots of steps that are limited over all nodes, by saga and step. kind: limit (who is called has
--- one, as long as the lease of its node holds) or rate (a call takes one until a time, in seconds
--- of this server's clock).
+-- Slots of steps that are limited over all nodes, by saga and step; of the key of a limit, by the
+-- digest of the key too, and only while a node has the slot. kind: limit (who is called has one, as
+-- long as the lease of its node holds) or rate (a call takes one until a time, in seconds of this
+-- server's clock).
 CREATE TABLE sagas.limit_slots(
   name text NOT NULL, kind text NOT NULL, slot integer NOT NULL, node text, until double precision,
   PRIMARY KEY(name, kind, slot)) WITH (fillfactor = 50);

@@ -28,7 +28,7 @@ from sagas.storage.postgresql.commit_statement import Commit
 from sagas.storage.postgresql.continuity import Continuity
 from sagas.storage.postgresql.external_attempts import PostgreSQLExternalAttempts
 from sagas.storage.postgresql.key_finder import KeyFinder
-from sagas.storage.postgresql.limit_slots import Places
+from sagas.storage.postgresql.limit_slots import TIDY, Places
 from sagas.storage.postgresql.lookups import Lookups
 from sagas.storage.postgresql.missing_tables import MissingTables
 from sagas.storage.postgresql.node_lease import UNDRIVEN, Lease, said_of
@@ -137,6 +137,7 @@ class PostgreSQL(queries.Questions):
         while (taken := await self.lease.take(drives, [row.log for row in rows])) is not None:
             rows += taken
         await self._numbers.fill()
+        await self.asker.ask(TIDY)
         return rows
 
     async def secret(self) -> bytes:
@@ -221,6 +222,8 @@ class PostgreSQL(queries.Questions):
             except StoreUnavailable as error:
                 if await tables.make(error):
                     continue
+                if tables.refusal and self._watcher:
+                    self._watcher.refused(tables.refusal)
             else:
                 tables.seen(self._line)
             with contextlib.suppress(TimeoutError):

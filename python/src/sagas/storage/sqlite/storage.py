@@ -117,8 +117,10 @@ class Sqlite(queries.Questions, queries.Rows):
         self._note_codec()
         self._next_log = int(self.rows("SELECT coalesce(max(shard) + 1, 0) FROM shards")[0][0])
         rows = self.open_logs()
+        completed = self.completed_children()
         for row in rows:
-            lacks = drives(row.texts, self.places(row.log)) if row.open else None
+            below = completed.get(row.log, [])
+            lacks = drives(row.texts, self.places(row.log), below) if row.open else None
             if lacks:
                 count = sum(row.open for row in rows)
                 told = (

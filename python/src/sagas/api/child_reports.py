@@ -1,0 +1,31 @@
+"""Reports by hand of the steps that start children."""
+
+from __future__ import annotations
+
+from sagas.api.repeated_reports import Read
+from sagas.core import child_results
+from sagas.core.model import Attempt
+from sagas.core.outcomes import SUCCEEDED, Outcome
+from sagas.definition import children, serialization
+from sagas.storage.queries import PHASE
+
+CHILDREN = child_results.CHILDREN.format(PHASE)
+
+
+def is_of_child(attempt: Attempt, outcome: Outcome) -> bool:
+    """Whether an operator reports that the child of an attempt is done. The result of an attempt
+    that undoes a child is never read.
+    """
+    starts_child = attempt.declared.child is not None and not attempt.undo
+    is_done = outcome.kind is SUCCEEDED
+    return starts_child and is_done and not children.undoes_child(attempt.key)
+
+
+async def check(read: Read, attempt: Attempt, outcome: Outcome) -> None:
+    """Raise `InvalidResult` where no child of this step can have what is reported."""
+    child = attempt.declared.child
+    steps = None if child is None or child.is_shaped else [step.name for step in child.steps]
+    rows = await read(CHILDREN, attempt.instance.id)
+    result = serialization.read(outcome.value)
+    phases = [(str(key), str(phase)) for key, phase in rows]
+    child_results.check(attempt.key, attempt.name, result, phases, steps)

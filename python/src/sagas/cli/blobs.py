@@ -1,0 +1,47 @@
+"""`own-blobs`: whose the values in a blob store are."""
+
+from __future__ import annotations
+
+import argparse
+import asyncio
+
+from sagas.cli.formatting import GOOD, show_json
+from sagas.definition.blobs import LEAST, check
+from sagas.definition.payloads import PLAIN
+from sagas.storage import admin
+from sagas.storage.admin import CANNOT, Trouble
+from sagas.storage.blob_layer import Blobs
+from sagas.storage.blob_option import blobs_of
+
+SECRET = "SELECT value FROM secrets WHERE name = 'leases'"
+
+
+def words_of_blobs(part: argparse.ArgumentParser) -> argparse.ArgumentParser:
+    """Add the option; return the parser."""
+    told = "the values: a directory, or a blob store of a module"
+    part.add_argument("--blobs", metavar="DIR|MODULE:NAME", required=True, help=told)
+    return part
+
+
+def own_blobs(path: str, words: argparse.Namespace) -> int:
+    """Make the values in a blob store those of this store.
+
+    For a store that was restored or copied, and replaces the other one: stop that one first, or
+    give it a blob store of its own. From then on this store deletes values to which it has no row.
+    """
+    try:
+        store = blobs_of(words.blobs)
+        check(store, LEAST)
+    except (ValueError, TypeError) as error:
+        raise Trouble(str(error), 2) from error
+    with admin.writing(path) as link:
+        name, rows = link.name, link.ask(SECRET)
+    if not rows:
+        raise Trouble(f"{name}: no program has opened this store with a blob store", CANNOT)
+    blobs = Blobs(store, LEAST, PLAIN, name)
+    asyncio.run(blobs.mark(path, bytes.fromhex(rows[0][0])).take())
+    if words.json:
+        show_json({"store": name, "blobs": words.blobs})
+    else:
+        print(f"the values in {words.blobs} are those of {name}")
+    return GOOD

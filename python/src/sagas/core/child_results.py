@@ -1,0 +1,73 @@
+"""Results that are reported by hand for a step that starts a child."""
+
+from __future__ import annotations
+
+from collections.abc import Collection, Mapping
+from typing import Any
+
+from sagas.base.errors import InvalidResult
+from sagas.core.states import SagaPhase
+from sagas.definition import children
+
+PARTS = {"key", "phase", "results"}
+FORM = '{"key": KEY, "phase": "completed", "results": {STEP: RESULT}}'
+CHILDREN = "SELECT s.key, {} FROM children c JOIN sagas s ON s.id = c.id WHERE c.parent = ?"
+"""The children of a saga by its id, each with its phase, which is to be put in."""
+
+
+def check(
+    key: str, step: str, result: Any, rows: Collection[tuple[str, str]],
+    steps: Collection[str] | None,
+) -> None:  # fmt: skip
+    """Check a result that is reported by hand for a step that starts a child.
+
+    Args:
+        key: The saga's key.
+        step: The step's name.
+        result: What is reported, as JSON values.
+        rows: All children of the saga: their keys and phases.
+        steps: The names of the child's steps; None: they are not known.
+
+    Raises:
+        InvalidResult: It is neither the result of a child that this step started and that has
+            ended, nor that of none. The message has nothing of the result.
+    """
+    there = {key_of: phase for key_of, phase in rows if children.is_of_step(key_of, key, step)}
+    if fault := _fault_of_form(result, steps) or _fault_of_key(result["key"], there):
+        known = f"it started {', '.join(map(repr, sorted(there)))}" if there else "it started none"
+        raise InvalidResult(
+            f"saga {key!r}, step {step!r}: {fault}. Complete a step that starts a child with "
+            f"{FORM}: KEY is that of its child ({known}), or null if there is nothing to undo. "
+            "Nothing was stored"
+        )
+
+
+def _fault_of_form(result: Any, steps: Collection[str] | None) -> str | None:
+    if not isinstance(result, dict) or set(result) != PARTS:
+        return "this is not the result of a child"
+    if result["phase"] != SagaPhase.COMPLETED:
+        return "the phase of a child's result is 'completed'"
+    if not isinstance(result["results"], dict):
+        return "the results of a child are an object by step"
+    if steps is not None and not {*steps} >= result["results"].keys():
+        return "the results name a step that the child does not have"
+    if result["key"] is not None and not isinstance(result["key"], str):
+        return "the key of a child is a text"
+    return None
+
+
+def _fault_of_key(key: str | None, there: Mapping[str, str]) -> str | None:
+    """What is wrong with a key, by the children of the step with their phases."""
+    if key is not None and key not in there:
+        return "the key is not that of a child of this step"
+    for one, phase in there.items():
+        if key in (None, one) and phase == SagaPhase.OPEN:
+            return f"its child {one!r} is open. Abort the child, or wait for its end"
+        if key is None and phase == SagaPhase.COMPLETED:
+            return f"its child {one!r} has completed, so its key is needed"
+    return None
+
+
+def is_none(result: Any) -> bool:
+    """Whether a step that starts a child was completed without one: there is nothing to undo."""
+    return isinstance(result, dict) and result.get("key", "") is None

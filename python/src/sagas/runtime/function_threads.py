@@ -1,0 +1,195 @@
+"""`FunctionThreads`: many short functions in one thread, and other threads for slow ones."""
+
+from __future__ import annotations
+
+import asyncio
+import contextvars
+import os
+import threading
+import time
+from collections import Counter, deque
+from collections.abc import Callable
+from concurrent.futures import ThreadPoolExecutor
+from typing import Any, NamedTuple
+
+FORKED = 70
+"""The exit status of a child that a function forked, and that came back here."""
+LOOK = 0.01
+"""Seconds after which a function counts as slow: those that follow get another thread."""
+TELL = 0.001
+"""Seconds after which a thread tells the loop of what is over, and goes on."""
+
+
+class Call(NamedTuple):
+    """A function that is to be called."""
+
+    name: str
+    context: contextvars.Context
+    function: Callable[[], object]
+    future: asyncio.Future[tuple[Any, Exception | None]]
+
+
+class FunctionThreads:
+    """Calls functions in threads, for one event loop.
+
+    To wake a thread takes longer than most functions. So one thread calls all that wait, in turn.
+    If it stands still, because a function is slow, another thread goes on with the others. Names
+    are served in turn, and the functions of a name have half of the threads.
+    """
+
+    def __init__(self, most: int, title: str) -> None:
+        """Make them. No thread is started before there is a function.
+
+        Args:
+            most: Maximum number of threads, at least 2.
+            title: What the names of the threads begin with.
+        """
+        self._most, self._title = most, title
+        self._pool: ThreadPoolExecutor | None = None
+        self._lock = threading.Lock()
+        # what the lock guards: who waits, and how many threads and functions run
+        self._waiting: dict[str, deque[Call]] = {}
+        self._running: Counter[str] = Counter()
+        self._active = 0
+        self._moves = 0  # how many calls were taken
+        self._over: deque[tuple[Call, Any, Exception | None]] = deque()
+        self._is_telling = self._is_sending = self._is_watching = False
+        self._seen = 0
+        self._idle = asyncio.Event()
+        self._loop: asyncio.AbstractEventLoop | None = None
+
+    async def call(self, name: str, function: Callable[[], Any]) -> Any:
+        """Call a function in the context of the caller; return what it returns, or raise that.
+
+        Args:
+            name: Whose it is.
+            function: The function.
+        """
+        loop = self._loop = asyncio.get_running_loop()
+        call = Call(name, contextvars.copy_context(), function, loop.create_future())
+        with self._lock:
+            self._waiting.setdefault(name, deque()).append(call)
+        if not self._is_sending:  # others of this turn of the loop may follow
+            self._is_sending = True
+            loop.call_soon(self._send)
+        value, error = await call.future
+        if error is not None:
+            raise error
+        return value
+
+    # -- in the loop
+
+    def _send(self) -> None:
+        self._is_sending = False
+        with self._lock:
+            is_new = self._active == 0
+            self._active += is_new
+        if is_new:
+            self._add()
+        if not self._is_watching:
+            self._watch()
+
+    def _add(self) -> None:
+        if self._pool is None:
+            self._pool = ThreadPoolExecutor(self._most, self._title)
+        self._pool.submit(self._work)
+
+    def _watch(self) -> None:
+        assert self._loop
+        self._is_watching, self._seen = True, self._moves
+        self._loop.call_later(LOOK, self._look)
+
+    def _look(self) -> None:
+        """If nothing moved, another thread goes on."""
+        self._is_watching = False
+        self._deliver()
+        with self._lock:
+            is_open = any(self._running[name] < self._most // 2 for name in self._waiting)
+            is_stuck = is_open and self._moves == self._seen and self._active < self._most
+            self._active += is_stuck
+            is_over = not (self._active or self._waiting)
+        if is_stuck:
+            self._add()
+        if not is_over:
+            self._watch()
+
+    def _deliver(self) -> None:
+        """Tell callers what is over."""
+        self._is_telling = False
+        while self._over:
+            call, value, error = self._over.popleft()
+            if not call.future.done():
+                call.future.set_result((value, error))
+        if not (self._active or self._waiting):
+            self._idle.set()
+
+    async def end(self, timeout: float | None) -> None:
+        """Wait until no function runs, or for so many seconds."""
+        if self._active or self._waiting:
+            self._idle.clear()
+            try:
+                async with asyncio.timeout(timeout):
+                    await self._idle.wait()
+            except TimeoutError:
+                pass
+
+    def close(self) -> None:
+        """Call nothing any more. A function that runs still is left to itself."""
+        pool, self._pool = self._pool, None
+        with self._lock:
+            self._waiting.clear()
+        if pool is not None:
+            pool.shutdown(wait=not self._active, cancel_futures=True)
+
+    # -- in a thread
+
+    def _take(self, done: str | None) -> Call | None:
+        """Take what is next, after one that is over. None: this thread has no more to do."""
+        with self._lock:
+            if done is not None:
+                self._running[done] -= 1
+            for name, calls in self._waiting.items():
+                if self._running[name] >= self._most // 2:
+                    continue
+                call = calls.popleft()
+                del self._waiting[name]
+                if calls:
+                    self._waiting[name] = calls  # the last one in turn
+                self._running[name] += 1
+                self._moves += 1
+                return call
+            self._active -= 1
+            return None
+
+    def _work(self) -> None:
+        done, told = None, time.monotonic()
+        while call := self._take(done):
+            done = call.name
+            if not call.future.cancelled():
+                self._over.append((call, *_called(call)))
+            if (now := time.monotonic()) - told > TELL:
+                told = now
+                self._tell()
+        self._tell()
+
+    def _tell(self) -> None:
+        if not self._is_telling:
+            self._is_telling = True
+            assert self._loop
+            try:
+                self._loop.call_soon_threadsafe(self._deliver)
+            except RuntimeError:  # the loop is closed: nobody waits for it
+                pass
+
+
+def _called(call: Call) -> tuple[Any, Exception | None]:
+    pid = os.getpid()
+    try:
+        return call.context.run(call.function), None
+    except Exception as error:
+        return None, error
+    except BaseException as error:  # nothing of a thread may end the program
+        return None, RuntimeError(f"{type(error).__name__}: {error}")
+    finally:
+        if os.getpid() != pid:  # it forked, and its child came back here: that has no loop
+            os._exit(FORKED)

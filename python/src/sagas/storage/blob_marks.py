@@ -1,0 +1,164 @@
+"""The marks by which a store knows that the values in a blob store are its own.
+
+A copy of a store refers to the values of the original, and does not know of those that the original
+put later: it would take them for orphans. So a store deletes values only if it has the mark that is
+in the blob store. A mark is a random token, which the store has too, and says where the store is.
+Each check puts a new one in its place, so that a copy has an older token, or is elsewhere.
+"""
+
+from __future__ import annotations
+
+import asyncio
+import hashlib
+import json
+import os
+import secrets
+import time
+from collections.abc import Awaitable, Callable
+from typing import Any, NamedTuple
+
+from sagas.base.errors import StoreUnavailable
+from sagas.storage import admin, factory
+
+TURNS, PAUSE = 4, 0.25
+"""How often the marks are looked at before they are taken for another store's, and seconds between
+two looks: another node may be about to put a new one."""
+LATER = 10 * 86_400.0
+"""Seconds by which the clocks of a blob store's machines may differ."""
+NOTED = "SELECT value FROM secrets WHERE name = 'blobs'"
+NOTE = "INSERT INTO secrets(name, value) VALUES('blobs', '') ON CONFLICT DO NOTHING"
+CHANGE = "UPDATE secrets SET value = ? WHERE name = 'blobs' AND value = ?"
+MAY = "SELECT has_function_privilege('pg_control_system()', 'EXECUTE')"
+SERVER = "SELECT CAST(system_identifier AS text) FROM pg_control_system()"
+DATABASE = "SELECT CAST(oid AS text) FROM pg_database WHERE datname = current_database()"
+Call = Callable[..., Awaitable[Any]]
+
+
+class Location(NamedTuple):
+    """Where a store is: its name for people, and what no copy has."""
+
+    name: str
+    id: str
+
+    def written(self) -> bytes:
+        """As a mark has it."""
+        return json.dumps({"store": self.name, "id": self.id}).encode()
+
+    @classmethod
+    def read(cls, data: bytes) -> Location:
+        """What a mark has."""
+        try:
+            told = json.loads(data)
+            return cls(str(told["store"]), str(told["id"]))
+        except (ValueError, KeyError, TypeError):
+            return cls("another store", "")
+
+
+class Notes:
+    """What a store has of its marks: tokens, with blanks between. Each method is for a thread."""
+
+    def __init__(self, file: str) -> None:
+        self._file = file
+
+    def location(self) -> Location:
+        """Where the store is."""
+        with admin.writing(self._file) as link:
+            if factory.is_url(self._file):
+                server = link.ask(SERVER)[0][0] if link.ask(MAY)[0][0] else ""
+                return Location(link.name, f"{server}/{link.ask(DATABASE)[0][0]}")
+            path = os.path.realpath(self._file)
+            return Location(path, f"{path} {os.stat(path).st_ino}")
+
+    def tokens(self) -> str:
+        """The tokens that are noted."""
+        with admin.writing(self._file) as link:
+            return "".join(value for (value,) in link.ask(NOTED))
+
+    def change(self, before: str, tokens: str) -> bool:
+        """Note other tokens, unless others than `before` are noted by now."""
+        with admin.writing(self._file) as link:
+            link.changed(NOTE)
+            return bool(link.changed(CHANGE, tokens, before))
+
+
+class Marks:
+    """The marks of one store in a blob store."""
+
+    def __init__(self, file: str, secret: bytes, call: Call, store: Any) -> None:
+        """`call`: calls a function of the blob store."""
+        self._notes, self._call, self._store = Notes(file), call, store
+        self._prefix = hashlib.sha256(b"marks" + secret).hexdigest()[:16]
+        self._mine: str | None = None
+
+    def _key(self, token: str) -> str:
+        return f"{self._prefix}/{token}"
+
+    async def _there(self) -> dict[str, Location]:
+        """The marks that are in the blob store."""
+        found = {}
+        for key in await self._call(self._store.keys, f"{self._prefix}/", time.time() + LATER):
+            try:
+                data: bytes = await self._call(self._store.get, key)
+            except KeyError:  # deleted meanwhile
+                continue
+            found[key.rpartition("/")[2]] = Location.read(data)
+        return found
+
+    async def renew(self) -> Location | None:
+        """Put a new mark in place of those of this store.
+
+        Returns:
+            None if the values are this store's; else where the store is whose they are.
+
+        Raises:
+            StoreUnavailable: The blob store or the database does not answer.
+        """
+        here = await _beside(self._notes.location)
+        for turn in range(TURNS):
+            if turn:
+                await asyncio.sleep(PAUSE)
+            noted: str = await _beside(self._notes.tokens)
+            there = await self._there()
+            own = set(noted.split())
+            others = [place for token, place in there.items() if token not in own]
+            others += [place for place in there.values() if place.id != here.id]
+            if not others and await self._replace(noted, [*own], here):
+                return None
+        if not others:
+            raise StoreUnavailable(f"{here.name}: other nodes change the marks of the blob store")
+        if self._mine is not None and self._mine not in there:
+            # this store had the values, and another one took them: neither deletes any from now on
+            await self._call(self._store.put, self._key(self._mine), here.written())
+        return others[0]
+
+    async def take(self) -> None:
+        """Put a mark of this store in place of all that there are."""
+        here = await _beside(self._notes.location)
+        for _ in range(TURNS):
+            noted: str = await _beside(self._notes.tokens)
+            if await self._replace(noted, [*await self._there()], here):
+                return
+        raise StoreUnavailable(f"{here.name}: other nodes change the marks of the blob store")
+
+    async def _replace(self, noted: str, before: list[str], here: Location) -> bool:
+        """Put a mark in place of others. False: another program notes tokens, too."""
+        new = secrets.token_hex(16)
+        both = " ".join([*noted.split(), new])
+        if not await _beside(self._notes.change, noted, both):
+            return False
+        await self._call(self._store.put, self._key(new), here.written())
+        for token in before:
+            await self._call(self._store.delete, self._key(token))
+        if not await _beside(self._notes.change, both, new):
+            await self._call(self._store.delete, self._key(new))
+            return False
+        self._mine = new
+        return True
+
+
+async def _beside(function: Callable[..., Any], *words: Any) -> Any:
+    """Ask the database in a thread."""
+    try:
+        return await asyncio.to_thread(function, *words)
+    except (admin.Trouble, OSError) as error:
+        raise StoreUnavailable(str(error)) from error

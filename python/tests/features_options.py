@@ -1,0 +1,76 @@
+"""Which features a round of `kills_features.py` has together.
+
+Each block of twenty seeds has rounds in which every feature meets every other one at least once.
+"""
+
+from __future__ import annotations
+
+import functools
+import itertools
+import random
+from collections.abc import Iterable
+
+OPTIONS = (
+    "child", "for_each", "when", "inclusion", "deadline", "schedule", "label", "concurrency_by",
+    "fair_by", "early", "blobs", "codec", "webhooks", "on_exhausted", "context", "retention",
+    "external", "celery",
+)  # fmt: skip
+SERVED = ("celery",)
+"""Drawn over PostgreSQL alone."""
+APART = {frozenset(("celery", "codec")), frozenset(("celery", "blobs"))}
+"""What a store refuses together."""
+EACH, BLOCK = 6, 20
+"""Features of a round, and rounds of a block."""
+STORES = ("sqlite", "postgresql")
+Pair = frozenset[str]
+
+
+def options_over(store: str) -> list[str]:
+    """The features that a round over this database may have."""
+    return [one for one in OPTIONS if store == "postgresql" or one not in SERVED]
+
+
+def pairs_of(options: Iterable[str]) -> set[Pair]:
+    """The pairs of some features that a store can have together."""
+    return {frozenset(pair) for pair in itertools.combinations(options, 2)} - APART
+
+
+def _row(options: list[str], left: set[Pair], draw: random.Random) -> list[str]:
+    """Features of which each adds as many pairs that are left as possible."""
+    chosen: list[str] = []
+    while len(chosen) < EACH:
+        free = [
+            one
+            for one in options
+            if one not in chosen and not any(frozenset((one, other)) in APART for other in chosen)
+        ]
+        weight = {
+            one: (
+                sum(frozenset((one, other)) in left for other in chosen),
+                sum(one in pair for pair in left),
+                draw.random(),
+            )
+            for one in free
+        }
+        chosen.append(max(free, key=weight.__getitem__))
+    return chosen
+
+
+@functools.cache
+def block(store: str, number: int) -> tuple[tuple[str, ...], ...]:
+    """The rounds of a block, which have all pairs among them."""
+    draw, options = random.Random(f"{store} {number}"), options_over(store)
+    while True:
+        left, rows = pairs_of(options), list[tuple[str, ...]]()
+        while len(rows) < BLOCK:
+            chosen = _row(options, left or pairs_of(options), draw)
+            left -= pairs_of(chosen)
+            rows.append(tuple(one for one in options if one in chosen))
+        if not left:
+            draw.shuffle(rows)
+            return tuple(rows)
+
+
+def options_of(store: str, seed: int) -> tuple[str, ...]:
+    """The features of the round of a seed."""
+    return block(store, seed // BLOCK)[seed % BLOCK]

@@ -1,0 +1,397 @@
+"""The sagas of a round of `kills_features.py`, as two releases of a program declare them.
+
+Each call of a function is noted by a witness outside: that it begins, that it has its effect, and
+that it ends. Whether an attempt fails is drawn from the key, the step and the attempt alone.
+
+The second release differs as the round says:
+
+- `added`: `main` and its child have one step more;
+- `renamed`: both have a version 2 with a step of another name, next to version 1;
+- `typed`: the input and the result of a step have a field more, with a default.
+"""
+
+from __future__ import annotations
+
+import asyncio
+import dataclasses
+import datetime
+import json
+import os
+import pathlib
+import random
+import threading
+import time
+from collections.abc import Callable
+from typing import Any
+
+from witness import Witness
+from world import QUICK, World, chance
+
+import sagas
+
+DEPLOYS = ("added", "renamed", "typed")
+LARGE = 700
+"""Characters of a large result, which is over the threshold of blobs."""
+MARK = "plainly-readable"
+"""Part of each input, so that it is found where no codec encoded it."""
+SHORT, LONG = 0.3, 6.0
+"""Seconds for which sagas wait whose deadline is late, and of those whose deadline is soon."""
+MOST_MOVES = 1
+"""Calls of `move` at once for an account in a program; over all nodes one more."""
+EXTERNAL = [("main", "far", "run"), ("main", "far", "undo")]
+
+
+@dataclasses.dataclass(frozen=True)
+class Settings:
+    """A round, as its programs read it from a file."""
+
+    options: list[str]
+    store: str
+    direct: str
+    folder: str
+    socket: str
+    deploy: str
+    count: int
+    seed: int
+    lease: float
+    hook: str = ""
+    broker: str = ""
+    queue: str = ""
+    wrong: str = ""
+
+    @classmethod
+    def read(cls, path: str | os.PathLike[str]) -> Settings:
+        """What a file says."""
+        return cls(**json.loads(pathlib.Path(path).read_text()))
+
+    def write(self, path: pathlib.Path) -> None:
+        """Write it for a program."""
+        path.write_text(json.dumps(dataclasses.asdict(self)))
+
+    @property
+    def is_served(self) -> bool:
+        """Whether it is over PostgreSQL."""
+        return self.store.startswith("postgresql:")
+
+
+@dataclasses.dataclass
+class Order:
+    """The input of the first release."""
+
+    i: int
+    account: str
+    items: list[str]
+    mark: str
+
+
+@dataclasses.dataclass
+class LaterOrder(Order):
+    """The input of the second one."""
+
+    express: bool = False
+
+
+@dataclasses.dataclass
+class Box:
+    """A result of the first release."""
+
+    of: list[str]
+
+
+@dataclasses.dataclass
+class LaterBox(Box):
+    """The same result of the second one."""
+
+    color: str = "red"
+
+
+class Scramble:
+    """A codec that nobody should use: it only makes texts unreadable."""
+
+    TABLE = bytes(byte ^ 0x5A for byte in range(256))
+
+    def encode(self, data: bytes) -> bytes:
+        """Return what is stored."""
+        return b"k1:" + data.translate(self.TABLE)
+
+    def decode(self, data: bytes) -> bytes:
+        """Return the value."""
+        return data.removeprefix(b"k1:").translate(self.TABLE)
+
+
+def order_of(number: int) -> dict[str, Any]:
+    """The input of a saga."""
+    items = [f"{MARK} {number} {place}" for place in range(number % 4)]
+    return {"i": number, "account": f"a{number % 3}", "items": items, "mark": f"{MARK} {number}"}
+
+
+def of(input: Any, name: str) -> Any:
+    """A field of an input, as JSON has it or as it is typed."""
+    return input[name] if isinstance(input, dict) else getattr(input, name)
+
+
+def result_of(key: str, step: str) -> Any:
+    """The result that a step of a saga gives."""
+    draw = chance(f"{key}/{step}/result")
+    if step == "pack":
+        return {"of": [key, step]}
+    if draw < 0.2:
+        return None
+    return {"of": [key, step], "fill": "x" * (LARGE if draw > 0.6 else 1)}
+
+
+def labels_of(number: int) -> dict[str, str]:
+    """The labels of a saga."""
+    return {"lot": str(number % 3), "round": "features"}
+
+
+class Shop:
+    """The sagas of one release, over a witness that each process has its own line to."""
+
+    def __init__(self, settings: Settings, release: int, queue: Any = None) -> None:
+        self.settings, self.release, self.queue = settings, release, queue
+        self.options = set(settings.options)
+        self._line: tuple[int, Witness] | None = None
+        self._lock = threading.Lock()
+        self.tick = self._tick()
+        self.sagas = [self.tick]
+        versions = {1: 1 if settings.deploy == "renamed" else release}
+        if settings.deploy == "renamed" and release == 2:
+            versions[2] = 2
+        for version, like in versions.items():
+            self.main = self._main(version, like)
+        if queue is not None:
+            self.post = self._post()
+
+    def has(self, option: str) -> bool:
+        """Whether the round has a feature."""
+        return option in self.options
+
+    # -- what the witness is told
+
+    def note(self, **what: Any) -> None:
+        """Tell the witness."""
+        with self._lock:
+            if self._line is None or self._line[0] != os.getpid():
+                self._line = os.getpid(), Witness(self.settings.socket)
+        self._line[1].note(at=time.time(), pid=os.getpid(), **what)
+
+    def _begins(self, task: Any, function: str) -> dict[str, Any]:
+        said = {
+            "key": task.key,
+            "step": task.step,
+            "kind": "undo" if task.is_compensation else "run",
+            "token": task.attempt_id,
+            "idempotency_key": task.idempotency_key,
+            "call": f"{os.getpid()} {time.monotonic_ns()}",
+        }
+        more: dict[str, Any] = {"input": plain(task.input)}
+        if task.declared_step == "send":
+            more["item"] = task.item
+        if self.has("context") and not function.startswith("post") and ".far" not in function:
+            more["context"] = task.context.id
+        if ".move" in function and said["kind"] == "run":
+            more["limited"] = of(task.input, "account")
+        results = {
+            name: plain(value)
+            for name, value in World.handed(None, task)["results"].items()  # type: ignore[arg-type]
+        }
+        if said["kind"] == "undo":
+            more |= {"of": task.original_idempotency_key, "result": plain(task.result)}
+        self.note(what="begin", function=function, results=results, **more, **said)
+        return said
+
+    async def act(self, task: Any, function: str, failing: float, unknown: float) -> Any:
+        """A call: it begins, fails or has its effect, and perhaps does not hear of it."""
+        said = self._begins(task, function)
+        try:
+            await asyncio.sleep(random.uniform(0.0, 0.01))
+            return self._does(task, said, failing, unknown)
+        finally:
+            self.note(what="end", **said)
+
+    def act_in_thread(self, task: Any, function: str, failing: float, unknown: float) -> Any:
+        """The same of a plain function."""
+        said = self._begins(task, function)
+        try:
+            time.sleep(random.uniform(0.0, 0.01))
+            return self._does(task, said, failing, unknown)
+        finally:
+            self.note(what="end", **said)
+
+    def _does(self, task: Any, said: dict[str, Any], failing: float, unknown: float) -> Any:
+        name = f"{task.key}/{task.step}/{said['kind']}/{task.attempt}"
+        if task.declared_step == "ask":
+            self._fails_at_first(task, said["kind"])
+        elif chance(name) < failing:
+            raise sagas.Fail("for good") if chance(name) < failing / 4 else ValueError("fails")
+        self.note(what="effect", **said)
+        if random.random() < unknown:
+            raise ConnectionError("nobody knows")
+        return result_of(task.key, task.step)
+
+    def _fails_at_first(self, task: Any, kind: str) -> None:
+        """Some calls fail before the first that has an effect, and none behind it."""
+        path = pathlib.Path(self.settings.folder, "fails", task.idempotency_key)
+        calls = path.stat().st_size if path.exists() else 0
+        if calls < int(chance(f"{task.key}/{kind}/calls") * 6):
+            path.parent.mkdir(exist_ok=True)
+            with open(path, "ab") as file:
+                file.write(b"x")
+            raise ValueError("fails at first")
+
+    # -- how sagas are declared
+
+    def step(
+        self, saga: sagas.Saga, name: str, *, failing: float = 0.05, unknown: float = 0.05,
+        undo_fails: float = 0.1, **options: Any,
+    ) -> Any:  # fmt: skip
+        """Declare a step and its compensation."""
+        function = f"{saga.name}.{saga.version}.{name}"
+        declare = saga.step(name=name, backoff=QUICK, **{"keep": 9, "undo": 1, **options})
+        declared = declare(self._function(name, function, failing, unknown))
+        undo = self._function(name + "-undo", f"{function}.undo", undo_fails, unknown)
+        declared.compensation(tries=3, backoff=QUICK)(undo)
+        return declared
+
+    def _function(
+        self, name: str, function: str, failing: float, unknown: float
+    ) -> Callable[[Any], Any]:
+        if chance(name) < 0.5:
+
+            async def call(task: Any) -> Any:
+                return await self.act(task, function, failing, unknown)
+
+            return call
+
+        def call_in_thread(task: Any) -> Any:
+            return self.act_in_thread(task, function, failing, unknown)
+
+        return call_in_thread
+
+    def _hotel(self, version: int, like: int) -> sagas.Saga:
+        """The child: two steps, and a child of its own."""
+        hotel, spa = sagas.Saga("hotel", version=version), sagas.Saga("spa", version=version)
+        self.step(spa, "bath", tries=2)
+        first = self.step(hotel, "suite" if version == 2 else "room", tries=2)
+        hotel.child(spa, name="rest", input=lambda task: task.input, needs=[first])
+        last = self.step(hotel, "key", needs=[first], failing=0.1)
+        if like == 2 and version == 1:
+            self.step(hotel, "minibar", needs=[last])
+        self.sagas += [hotel, spa]
+        return hotel
+
+    def _included(self, version: int) -> sagas.Saga:
+        """The saga that is included, with another one for each item."""
+        crate, lid = sagas.Saga("crate", version=version), sagas.Saga("lid", version=version)
+        self.step(lid, "close")
+        fold = self.step(crate, "fold")
+        crate.include(lid, for_each=lambda input: [of(input, "i")] * 2, needs=[fold])
+        return crate
+
+    def _main(self, version: int, like: int) -> sagas.Saga:
+        """The saga with the features of the round."""
+        has, is_later = self.has, like == 2 and self.settings.deploy == "typed"
+        kind, box = (LaterOrder, LaterBox) if is_later else (Order, Box)
+        fair = {"fair_by": lambda input: input["account"]} if has("fair_by") else {}
+        main = sagas.Saga("main", version=version, input=kind, **fair)
+        hold = self.step(main, "hold", tries=2)
+        needs: list[Any] = [self._pack(main, kind, box, hold)]
+        if has("for_each"):
+            needs.append(self.step(main, "send", for_each="items", needs=[hold], tries=2))
+        if has("when"):
+            needs.append(
+                self.step(main, "gift", when=lambda input: of(input, "i") % 3, needs=[hold])
+            )
+        if has("inclusion"):
+            needs.append(main.include(self._included(version), name="crate", needs=[hold]))
+        if has("child"):
+            hotel = self._hotel(version, 2 if like == 2 and self.settings.deploy == "added" else 1)
+            needs.append(
+                main.child(
+                    hotel, name="stay", needs=[hold], undo=2, keep=8,
+                    input=lambda task: {**order_of(of(task.input, "i")), "i": task.key},
+                )  # fmt: skip
+            )
+        if has("concurrency_by"):
+            fleet = {"fleet_concurrency": MOST_MOVES + 1} if self.settings.is_served else {}
+            needs.append(
+                self.step(
+                    main, "move", concurrency=MOST_MOVES, needs=[hold],
+                    concurrency_by=lambda input: of(input, "account"), **fleet,
+                )  # fmt: skip
+            )
+        if has("external"):
+            far = main.step(
+                external=True, name="far", needs=[hold], tries=2, backoff=QUICK, keep=9, undo=1
+            )
+            far.compensation(external=True, tries=3)
+            needs.append(far)
+        if has("early"):
+            needs.append(main.step(external=True, name="paper", needs=[hold], undo=0))
+        if has("on_exhausted"):
+            needs.append(
+                self.step(main, "ask", on_exhausted="ask", tries=2, skip=sagas.NEVER, needs=[hold])
+            )
+        if has("deadline"):
+            wait = main.wait(until=_pause, name="pause", needs=needs, backoff=QUICK, undo=0)
+            needs = [wait(self._function("pause", f"main.{version}.pause", 0.0, 0.0))]
+        name = "deliver" if version == 2 else "ship"
+        last = self.step(main, name, needs=needs, failing=0.4, tries=2)
+        if like == 2 and self.settings.deploy == "added":
+            self.step(main, "extra", needs=[last], failing=0.2)
+        self.sagas.append(main)
+        return main
+
+    def _pack(self, main: sagas.Saga, kind: type, box: type, hold: Any) -> Any:
+        """A step whose input and result have types."""
+        function = f"main.{main.version}.pack"
+
+        async def pack(task: Any) -> Any:
+            assert isinstance(task.input, kind)
+            return box(**await self.act(task, function, 0.05, 0.05))
+
+        async def unpack(task: Any) -> None:
+            assert isinstance(task.result, box)
+            await self.act(task, f"{function}.undo", 0.1, 0.05)
+
+        pack.__annotations__ = {"task": sagas.Task[kind], "return": box}
+        unpack.__annotations__ = {"task": sagas.Task[kind]}
+        declared = main.step(backoff=QUICK, keep=9, undo=1, needs=[hold])(pack)
+        declared.compensation(tries=3, backoff=QUICK)(unpack)
+        return declared
+
+    def _tick(self) -> sagas.Saga:
+        """The saga of the schedule."""
+        tick = sagas.Saga("tick")
+        toll = self.step(tick, "toll", tries=2)
+        self.step(tick, "bell", needs=[toll], failing=0.2)
+        return tick
+
+    def _post(self) -> sagas.Saga:
+        """A saga of which Celery workers do two steps."""
+        post = sagas.Saga("post")
+        words: dict[str, Any] = {"queue": self.queue, "timeout": 4.0}
+        stamp = self.step(post, "stamp", tries=2, **words)
+        bag = self.step(post, "bag", needs=[stamp])
+        self.step(post, "carry", needs=[bag], failing=0.3, **words)
+        self.sagas.append(post)
+        return post
+
+
+def is_short(number: int) -> bool:
+    """Whether a saga has a deadline that is soon."""
+    return number % 3 == 1
+
+
+def _pause(task: Any) -> datetime.timedelta:
+    return datetime.timedelta(seconds=LONG if is_short(of(task.input, "i")) else SHORT)
+
+
+def plain(value: Any) -> Any:
+    """A value as JSON has it, without what a later release adds."""
+    if dataclasses.is_dataclass(value) and not isinstance(value, type):
+        value = dataclasses.asdict(value)
+    if isinstance(value, dict):
+        return {name: plain(one) for name, one in value.items() if name not in ("express", "color")}
+    return value

@@ -1,0 +1,225 @@
+"""What the store of a round of `kills_features.py` holds, and its archives, read without the
+package: each saga with its definition, its values and its part of the log.
+"""
+
+from __future__ import annotations
+
+import base64
+import contextlib
+import json
+import pathlib
+import re
+import sqlite3
+from collections.abc import Iterator
+from dataclasses import dataclass, field
+from typing import Any
+
+import psycopg
+import records
+import tomllib
+from features_shop import Scramble, Settings
+from judge import Event, ends_of
+from records import LogRows
+
+Json = dict[str, Any]
+STEP = re.compile(r'^name = "(.*)"\n(?:# of (.*)\n)?', re.M)
+VERSION = re.compile(r"^# version (\d+)$", re.M)
+CHILDREN = {"stay": "hotel", "rest": "spa"}
+"""Steps that start children, and the sagas of these."""
+SILENT = {"paper"}
+"""Steps without a function."""
+NOT_UNDONE = {"paper", "pause"}
+"""Steps without a compensation."""
+GOOD = ("commit", "undone")
+
+
+def rows_of(url: str, query: str) -> list[tuple[Any, ...]]:
+    """The rows of a query; or a change, and nothing."""
+    if url.startswith("postgresql:"):
+        with psycopg.connect(url, options="-csearch_path=sagas", autocommit=True) as link:
+            cursor = link.execute(query)  # type: ignore[arg-type]
+            return cursor.fetchall() if cursor.description else []
+    with contextlib.closing(sqlite3.connect(url, timeout=30, isolation_level=None)) as db:
+        return db.execute(query).fetchall()
+
+
+@dataclass
+class Instance:
+    """A saga. Its key may have been free again, and have another one, too."""
+
+    log: LogRows
+    number: int
+    key: str
+    saga: str
+    text: str
+    input: Any
+    phase: str | None
+    end: Json | None
+    note: str | None
+    labels: dict[str, str]
+    deadline: float | None
+    values: dict[tuple[str, str, int], tuple[str, Any]]
+    """By step, `run` or `undo`, and attempt: the event, and the value."""
+    is_archived: bool = False
+    events: list[tuple[float | None, Json]] = field(default_factory=list)
+
+    def __post_init__(self) -> None:
+        self.token = f"{self.log.name}-{self.number}"
+        told = tomllib.loads(self.text)["step"]
+        self.steps = [step["name"] for step in told]
+        self.needs = {step["name"]: step.get("needs", []) for step in told}
+        found = STEP.findall(self.text[self.text.index("[[step]]") :])
+        self.declared = {name: re.sub(r"\[\d+\]", "", of) or name for name, of in found}
+        version = VERSION.search(self.text)
+        self.version = int(version[1]) if version else 1
+        self.ends: list[Event] = list(ends_of(self.log, self.steps, self.number))
+        self.good = {(end.step, end.kind): end for end in self.ends if end.word in GOOD}
+
+    @property
+    def states(self) -> dict[str, str]:
+        """The state of each step at its end."""
+        return dict(zip(self.steps, self.end["states"])) if self.end else {}
+
+    @property
+    def is_undo(self) -> bool:
+        """Whether it undoes a child."""
+        return self.saga.endswith("-undo")
+
+    @property
+    def told(self) -> str:
+        """The phase that callers are told, before anybody resolves it."""
+        if self.phase == "stuck":
+            return "stuck"
+        is_planned = self.end and (self.end["answer"] or {}).get("kind") == "plan"
+        return "recovered" if is_planned else "completed"
+
+
+class Values:
+    """Reads stored values."""
+
+    def __init__(self, settings: Settings) -> None:
+        self.settings, self.codec = settings, Scramble()
+        self.lost: list[str] = []
+        self.blobs = dict[str, bytes]()
+        folder = pathlib.Path(settings.folder, "blobs")
+        for path in folder.rglob("*") if folder.exists() else ():
+            if path.is_file():
+                self.blobs[str(path.relative_to(folder))] = path.read_bytes()
+        if "blobs" in settings.options and settings.is_served and settings.seed % 2:
+            there = "SELECT 1 FROM pg_tables WHERE tablename = 'sagas_blobs'"
+            if rows_of(settings.direct, there):
+                self.blobs = {
+                    key: bytes(data)
+                    for key, data in rows_of(
+                        settings.direct, "SELECT key, data FROM public.sagas_blobs"
+                    )
+                }
+
+    def read(self, value: Any) -> Any:
+        """A value as it was before it was stored."""
+        if isinstance(value, dict) and "$blob" in value:
+            data = self.blobs.get(value["$blob"])
+            if data is None:
+                self.lost.append(value["$blob"])
+                return value
+            value = json.loads(data)
+        if isinstance(value, dict) and [*value] == ["$codec"]:
+            value = json.loads(self.codec.decode(base64.b64decode(value["$codec"])))
+        elif isinstance(value, dict) and [*value] == ["$plain"]:
+            value = value["$plain"]
+        return value
+
+
+class FeatureStore:
+    """All sagas of a round, those of its archives, too."""
+
+    def __init__(self, settings: Settings) -> None:
+        self.settings, self.values = settings, Values(settings)
+        self.records = records.read(settings.direct)
+        self.instances = [*self._stored(), *self._archived()]
+        self.by_token = {one.token: one for one in self.instances}
+        self.by_key: dict[str, list[Instance]] = {}
+        for one in self.instances:
+            self.by_key.setdefault(one.key, []).append(one)
+        self.undoes: dict[str, list[Instance]] = {}
+        for one in self.instances:
+            if one.is_undo and isinstance(one.input, dict) and "token" in one.input:
+                self.undoes.setdefault(one.input["token"], []).append(one)
+
+    def of(self, key: str) -> list[Instance]:
+        """The sagas that have, or had, a key."""
+        return self.by_key.get(key, [])
+
+    def rows(self, query: str) -> list[tuple[Any, ...]]:
+        """The rows of a query."""
+        return rows_of(self.settings.direct, query)
+
+    def _stored(self) -> Iterator[Instance]:
+        found, more = self.records, dict[int, tuple[float | None, str | None]]()
+        for id, deadline, note in self.rows("SELECT id, deadline, note FROM sagas"):
+            more[id] = deadline, note
+        labels: dict[int, dict[str, str]] = {}
+        for id, name, value in self.rows("SELECT id, name, value FROM labels"):
+            labels.setdefault(id, {})[name] = value
+        values: dict[int, list[tuple[int, str, int, str, Any]]] = {}
+        for (id, step, kind, number), outcome in found.results.items():
+            values.setdefault(id, []).append((step, kind, number, outcome.outcome, outcome.value))
+        times: dict[int, dict[int, list[tuple[float | None, Json]]]] = {}
+        query = "SELECT shard, committed_at, text FROM event_log ORDER BY shard, first_seq"
+        for shard, at, text in self.rows(query):
+            for event in map(json.loads, text.splitlines()):
+                times.setdefault(shard, {}).setdefault(event["saga"], []).append((at, event))
+        names = {log: self._texts(rows) for log, rows in found.logs.items()}
+        for row in found.sagas.values():
+            log, text = found.logs[row.log], found.logs[row.log].texts[row.place]
+            saga, steps = names[row.log][row.place]
+            deadline, note = more.get(row.id, (None, None))
+            outcomes = {
+                (steps[step], kind, number): (event, self.values.read(value))
+                for step, kind, number, event, value in values.get(row.id, [])
+            }
+            yield Instance(
+                log, row.number, row.key, saga, text, self.values.read(row.input), row.phase,
+                row.end, note, labels.get(row.id, {}), deadline, outcomes,
+                events=times.get(row.log, {}).get(row.number, []),
+            )  # fmt: skip
+
+    @staticmethod
+    def _texts(log: LogRows) -> list[tuple[str, list[str]]]:
+        """The name of the saga of each definition, and its steps."""
+        told = [tomllib.loads(text) for text in log.texts]
+        return [(one["name"], [step["name"] for step in one["step"]]) for one in told]
+
+    def _archived(self) -> Iterator[Instance]:
+        there = {log.name for log in self.records.logs.values()}
+        for folder in sorted(pathlib.Path(self.settings.folder, "archive").glob("[!.]*")):
+            name = json.loads((folder / "about.json").read_text())["name"]
+            if name in there:
+                continue
+            texts = [path.read_text() for path in sorted(folder.glob("definition-*.toml"))]
+            lines = (folder / "log").read_text().partition("\n")[2]
+            log = LogRows(-1, name, True, texts, [(0, lines)])
+            for line in (folder / "sagas.jsonl").read_text().splitlines():
+                yield self._archived_saga(log, json.loads(line))
+
+    def _archived_saga(self, log: LogRows, told: Json) -> Instance:
+        values = {
+            (one["step"], one["kind"], one["attempt"]): (one["outcome"], one["value"])
+            for one in told["results"]
+        }
+        text = log.texts[told["definition"]]
+        steps = [step["name"] for step in tomllib.loads(text)["step"]]
+        phase = "stuck" if told["phase"] == "stuck" else "ended"
+        if told["phase"] == "resolved":
+            is_planned = (told["end"]["answer"] or {}).get("kind") == "plan"
+            phase = "ended" if is_planned else "stuck"
+        is_whole = "blobs" not in self.settings.options
+        read = self.values.read if is_whole else (lambda value: value)
+        return Instance(
+            log, told["number"], told["key"], told["saga"], text, read(told["input"]), phase,
+            told["end"], told["note"], told["labels"], None,
+            {(steps[step], *rest): (event, read(value))
+             for (step, *rest), (event, value) in values.items()},
+            is_archived=True,
+            events=[(None, event) for event in log.events if event["saga"] == told["number"]],
+        )  # fmt: skip

@@ -1,0 +1,241 @@
+"""Wrong variants of the package: each changes one thing in the nodes of a round by `apply`.
+
+`finds` is the name of the fault by which the judge has to find it, in a round of these features.
+"""
+
+from __future__ import annotations
+
+import asyncio
+import dataclasses
+import itertools
+import pathlib
+import types
+from collections.abc import Callable
+from typing import Any
+
+import sagas
+from sagas.api.commands import Commands
+from sagas.core.outcomes import SUCCEEDED, Outcome
+from sagas.definition.context import Context
+from sagas.definition.payloads import Payloads
+from sagas.definition.shelf import Shelf
+from sagas.definition.start_options import StartOptions
+from sagas.definition.task import Task
+from sagas.core.limits import Slots
+from sagas.runtime import blob_sweep
+from sagas.runtime.children import Children
+from sagas.runtime.deadlines import Deadlines
+from sagas.runtime.early_reports import EarlyReports
+from sagas.runtime.scheduler import Scheduler
+from sagas.server import webhooks
+from sagas.storage import archive, blob_layer
+
+
+@dataclasses.dataclass(frozen=True)
+class Variant:
+    """One of them."""
+
+    apply: Callable[[], None]
+    finds: str
+    options: list[str]
+    deploy: str
+    count: int
+    seconds: float
+    """How long it lasts at least."""
+
+
+VARIANTS: dict[str, Variant] = {}
+
+
+def variant(
+    finds: str, *options: str, deploy: str = "", count: int = 10, seconds: float = 0.0
+) -> Callable[[Callable[[], None]], Callable[[], None]]:
+    """Name a function as a variant."""
+
+    def named(apply: Callable[[], None]) -> Callable[[], None]:
+        VARIANTS[apply.__name__] = Variant(apply, finds, list(options), deploy, count, seconds)
+        return apply
+
+    return named
+
+
+@variant("child", "child", count=16)
+def child_undo_skipped() -> None:
+    """A completed child is taken as undone, and no saga undoes it."""
+    right = Children._begun
+
+    async def begun(self: Children, attempt: Any) -> Any:
+        return Outcome(SUCCEEDED, "null") if attempt.undo else await right(self, attempt)
+
+    setattr(Children, "_begun", begun)
+
+
+@variant("early-lost", "early")
+def early_report_dropped() -> None:
+    """A report before the step is acknowledged, and not stored."""
+
+    def put(self: EarlyReports, report: Any) -> asyncio.Future[None]:
+        future: asyncio.Future[None] = self._host.loop.create_future()
+        future.set_result(None)
+        return future
+
+    setattr(EarlyReports, "put", put)
+
+
+@variant("deadline", "deadline", count=6)
+def deadline_ignored() -> None:
+    """Nobody looks at deadlines."""
+    setattr(Deadlines, "look", lambda self: None)
+
+
+@variant("limit", "concurrency_by", count=16)
+def limit_not_held() -> None:
+    """Each attempt begins, whatever the limit of its step."""
+    setattr(Slots, "enter", Slots.come)
+
+
+@variant("webhook-lost", "webhooks", count=8)
+def webhook_not_posted() -> None:
+    """Each third delivery counts as posted, and is not."""
+    right, turns = webhooks.post, itertools.count()
+
+    async def post(*words: Any) -> int:
+        return 204 if next(turns) % 3 == 0 else await right(*words)
+
+    setattr(webhooks, "post", post)
+
+
+@variant("blob-lost", "blobs", count=8)
+def blob_swept() -> None:
+    """A sweep takes each blob for an orphan."""
+    setattr(blob_sweep, "DAY", 0.2)
+    setattr(blob_layer, "AGE", -60.0)
+    setattr(blob_layer, "referred", lambda rows: [])
+
+
+@variant("plain", "codec", count=4)
+def plain_input_kept() -> None:
+    """Inputs are stored as they are."""
+    right = Payloads.encode
+
+    def encode(self: Payloads, text: str) -> str:
+        return text if '"mark":' in text else right(self, text)
+
+    setattr(Payloads, "encode", encode)
+
+
+@variant("aborted-twice", count=11)
+def aborted_twice() -> None:
+    """Whoever aborts a saga hears that it was not aborted before."""
+    right = Commands.abort
+
+    async def abort(self: Commands, *words: Any) -> bool:
+        await right(self, *words)
+        return True
+
+    setattr(Commands, "abort", abort)
+
+
+@variant("lost", count=11)
+def abort_lost() -> None:
+    """An abort is acknowledged, and nothing follows."""
+
+    async def abort(self: sagas.Store, key: str, **words: Any) -> bool:
+        return True
+
+    setattr(sagas.Store, "abort", abort)
+
+
+@variant("handed", count=6)
+def wrong_result_handed() -> None:
+    """A function gets the results of other steps under the names of those that it needs."""
+    right: Any = Task.results
+
+    def results(self: Task[Any]) -> dict[str, Any]:
+        found = right.fget(self)
+        return dict(zip(found, [*found.values()][1:] + [*found.values()][:1]))
+
+    setattr(Task, "results", property(results))
+
+
+@variant("item", "for_each", count=8)
+def item_of_another() -> None:
+    """A function gets an item that is not its own."""
+    right: Any = Task.item
+    setattr(Task, "item", property(lambda self: right.fget(self)[::-1]))
+
+
+@variant("schedule", "schedule", count=4, seconds=4.5)
+def schedule_not_started() -> None:
+    """A schedule goes on, and starts nothing."""
+
+    async def start(self: Scheduler, one: Any, key: str) -> None:
+        return None
+
+    setattr(Scheduler, "_try", start)
+
+
+@variant("labels", "label", count=4)
+def labels_lost() -> None:
+    """A saga starts without its labels."""
+    right: Any = StartOptions.__init__
+
+    def init(self: StartOptions, labels: Any = None, *words: Any, **more: Any) -> None:
+        right(self, {}, *words, **more)
+
+    setattr(StartOptions, "__init__", init)
+
+
+@variant("wrong-compensation", count=24)
+def wrong_compensation() -> None:
+    """A step is undone by the compensation of another one."""
+    right = Shelf.__init__
+
+    def init(self: Shelf, sagas: Any, *words: Any) -> None:
+        for saga in sagas:
+            steps = {step.name: step for step in saga.steps}
+            if "ship" in steps:
+                steps["hold"].undo = steps["ship"].undo
+        right(self, sagas, *words)
+
+    setattr(Shelf, "__init__", init)
+
+
+@variant("no-effect", count=24)
+def compensation_not_called() -> None:
+    """A step counts as undone, and nothing was called."""
+    right = Shelf.__init__
+
+    def init(self: Shelf, sagas: Any, *words: Any) -> None:
+        for step in (step for saga in sagas for step in saga.steps if step.undo.function):
+            step.undo.function = lambda task: None
+        right(self, sagas, *words)
+
+    setattr(Shelf, "__init__", init)
+
+
+@variant("context", "context", count=4)
+def context_of_another() -> None:
+    """Functions get a context that nobody has entered."""
+    setattr(Context, "get", lambda self: types.SimpleNamespace(id="another"))
+
+
+@variant("operator-lost", "on_exhausted", count=16)
+def answer_replaced() -> None:
+    """The result of an operator is acknowledged, and another one is stored."""
+    right = Commands.report
+
+    async def report(
+        self: Commands, key: str, step: str, outcome: Any, *words: Any, **more: Any
+    ) -> None:
+        if outcome.kind is SUCCEEDED:
+            outcome = Outcome(SUCCEEDED, '{"operator":"nobody"}')
+        await right(self, key, step, outcome, *words, **more)
+
+    setattr(Commands, "report", report)
+
+
+@variant("lost", "retention", count=20, seconds=6.0)
+def deleted_without_archive() -> None:
+    """Retention deletes shards that it has not archived."""
+    setattr(archive, "write", lambda link, log, folder: pathlib.Path(folder))

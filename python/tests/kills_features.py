@@ -1,0 +1,480 @@
+"""Faults over the features together: rounds of six features each, struck at random moments, with a
+deploy in between, and a judgement when all is over.
+
+    python3 tests/kills_features.py [--rounds N] [--store sqlite|postgresql] [--sagas N]
+        [--strikes N] [--seed S] [--options a,b,..] [--deploy added|renamed|typed]
+        [--wrong NAME|all]
+
+Forty rounds have each pair of features together. A round is one store, over SQLite with one node
+and over PostgreSQL with three. Callers start sagas, abort some, and report steps early; operators
+answer what waits for a person. Meanwhile nodes
+
+- are killed with -9, and started again;
+- are asked to end, and started again;
+- stand still, also past their leases, and go on;
+- lose their engine processes;
+- over PostgreSQL, lose their database, which is stopped as if its machine had failed.
+
+In the middle each node is started with the next release of its program. `--wrong` has nodes do
+something wrong, which the judge has to find; `all` tries each such variant.
+
+Every process that is signalled here was started here, and is named by its number.
+"""
+
+from __future__ import annotations
+
+import argparse
+import contextlib
+import dataclasses
+import http.server
+import json
+import os
+import pathlib
+import random
+import shutil
+import signal
+import sys
+import tempfile
+import threading
+import time
+from collections import Counter
+from collections.abc import Iterator, Sequence
+from typing import Any
+
+if __name__ == "__main__":
+    sys.path.insert(0, str(pathlib.Path(__file__).resolve().parent.parent / "src"))
+
+import features_wrong
+import fleet
+from brokers import Broker, Program, broker_at
+from celery_kills import worker_words
+from driving import program
+from features_judge import FeatureVerdict, judge, rows_of
+from features_options import options_of
+from features_shop import DEPLOYS, Settings
+from kills import children
+from server import Server, serving
+from witness import Witness, witness_at
+
+HERE = pathlib.Path(__file__).resolve().parent
+LEASE = 1.5
+PATIENCE = 20.0
+"""Seconds without strikes after which the operator reports what nobody else does."""
+KINDS = ("kill", "kill", "term", "stop", "engine")
+SERVED_KINDS = (*KINDS, "kill", "database")
+Json = dict[str, Any]
+
+
+class Receiver:
+    """What webhooks post to. It refuses some posts at first."""
+
+    def __init__(self, notes: pathlib.Path, socket: pathlib.Path, draw: random.Random) -> None:
+        witness = Witness(str(socket))
+
+        class Handler(http.server.BaseHTTPRequestHandler):
+            def do_POST(self) -> None:
+                body = json.loads(self.rfile.read(int(self.headers["content-length"])))
+                is_refused = draw.random() < 0.1
+                if not is_refused:
+                    id, data = self.headers["webhook-id"], body["data"]
+                    witness.note(what="posted", id=id, type=body["type"], key=data["key"])
+                self.send_response(503 if is_refused else 204)
+                self.send_header("content-length", "0")
+                self.end_headers()
+
+            def log_message(self, *words: Any) -> None:
+                ...
+
+        class Server(http.server.ThreadingHTTPServer):
+            def handle_error(self, *words: Any) -> None:
+                """A node that was killed reads no answer."""
+
+        self.server = Server(("127.0.0.1", 0), Handler)
+        threading.Thread(target=self.server.serve_forever, args=(0.05,), daemon=True).start()
+
+    @property
+    def url(self) -> str:
+        """Where it listens."""
+        return f"http://127.0.0.1:{self.server.server_address[1]}/hook"
+
+    def close(self) -> None:
+        """Listen no more."""
+        self.server.shutdown()
+        self.server.server_close()
+
+
+@dataclasses.dataclass
+class Node:
+    """A node, of which one program after the other runs."""
+
+    name: str
+    settings: pathlib.Path
+    release: int = 1
+    program: Program | None = None
+
+    def start(self) -> None:
+        """Start its program."""
+        words = [sys.executable, str(HERE / "features_world.py"), str(self.settings), self.name]
+        path = f"{HERE.parent / 'src'}{os.pathsep}{HERE}"
+        record = self.settings.parent / f"record-{self.name}"
+        environment = os.environ | {
+            "PYTHONPATH": path, "SAGAS_PROGRAM": program(), "PYTHONUNBUFFERED": "1",
+            "SAGAS_RECORD": str(record),
+        }  # fmt: skip
+        log, release = f"log-{self.name}", str(self.release)
+        self.program = Program([*words, release], self.settings.parent, environment, log)
+
+    @property
+    def running(self) -> Program:
+        """Its program."""
+        assert self.program
+        return self.program
+
+    @property
+    def is_open(self) -> bool:
+        """Whether it has its store open."""
+        return self.running.runs and self.running.has_said("^open")
+
+    @property
+    def is_done(self) -> bool:
+        """Whether its callers were told of all."""
+        return self.running.has_said("^done")
+
+    def end(self, seconds: float = 60) -> int:
+        """Ask its program to end, and return its status."""
+        self.running.process.terminate()
+        return self.running.process.wait(seconds)
+
+
+class Round:
+    """One store, its nodes, and what strikes them."""
+
+    def __init__(
+        self, folder: pathlib.Path, seed: int, count: int, strikes: int, server: Server | None,
+        broker: Broker | None = None, options: Sequence[str] | None = None,
+        deploy: str | None = None, wrong: str = "", most: float = 180, nodes: int = 3,
+        seconds: float = 0.0,
+    ) -> None:  # fmt: skip
+        self.folder, self.draw = folder, random.Random(seed)
+        self.server, self.broker = server, broker
+        self.strikes, self.most, self.seconds = strikes, most, seconds
+        self.kills = Counter[str]()
+        store = "postgresql" if server else "sqlite"
+        self.url = server.create() if server else str(folder / "store.db")
+        chosen = list(options_of(store, seed) if options is None else options)
+        deploy = self.draw.choice(DEPLOYS) if deploy is None else deploy
+        self.settings = Settings(
+            chosen, self.url, self.url, str(folder), str(folder / "socket"),
+            deploy, count, seed, LEASE, wrong=wrong,
+        )  # fmt: skip
+        names = ("one", "two", "three")[:nodes] if server else ("one",)
+        self.nodes = [Node(name, folder / "settings.json") for name in names]
+        self.worker: Program | None = None
+        self.is_exact = not server or self.draw.random() < 0.5
+        kinds = SERVED_KINDS if server else KINDS
+        is_limited = server is not None and "concurrency_by" in chosen
+        self.kinds = [
+            kind for kind in kinds
+            if not (is_limited and self.is_exact and kind in ("stop", "database"))
+        ]  # fmt: skip
+        self.began, self.is_paused = time.monotonic(), False
+        self.faults: list[str] = []
+
+    def play(self) -> FeatureVerdict:
+        """Until all is over; then it is judged."""
+        notes = self.folder / "notes"
+        with contextlib.ExitStack() as stack:
+            stack.enter_context(witness_at(self.folder / "socket", notes))
+            self.witness = Witness(self.settings.socket)
+            receiver = Receiver(notes, self.folder / "socket", random.Random(self.settings.seed))
+            stack.callback(receiver.close)
+            self.settings = dataclasses.replace(self.settings, hook=receiver.url)
+            if "celery" in self.settings.options:
+                stack.enter_context(self._celery())
+            self.settings.write(self.folder / "settings.json")
+            try:
+                for node in self.nodes:
+                    node.start()
+                self._run()
+            except TimeoutError as error:
+                self.faults.append(f"not-over: {error}")
+            finally:
+                for node in self.nodes:
+                    if node.program:
+                        node.program.kill()
+        verdict = judge(self.settings, notes, self.kills, self.is_exact)
+        verdict.faults[:0] = self.faults
+        if self.server and "retention" not in self.settings.options and not self.settings.wrong:
+            records = [self.folder / f"record-{node.name}" for node in self.nodes]
+            verdict.faults += fleet.judged(self.url, records)[1]
+        for node in self.nodes:
+            text = (self.folder / f"log-{node.name}").read_text(errors="replace")
+            if "Traceback" in text and not self.settings.wrong:
+                verdict.faults.append("traceback: " + text[text.index("Traceback") :][:3000])
+            if "commit_failed" in text and not self.server:
+                verdict.faults.append("log: " + text[text.index("commit_failed") :][:300])
+        return verdict
+
+    @contextlib.contextmanager
+    def _celery(self) -> Iterator[None]:
+        """A worker of the round's own queue."""
+        assert self.broker
+        queue = f"q{self.draw.randrange(10**9)}"
+        self.settings = dataclasses.replace(
+            self.settings, broker=self.broker.url, queue=queue
+        )  # fmt: skip
+        self.settings.write(self.folder / "settings.json")
+        path = f"{HERE.parent / 'src'}{os.pathsep}{HERE}"
+        environment = os.environ | {
+            "PYTHONPATH": path, "SAGAS_PROGRAM": program(), "PYTHONUNBUFFERED": "1",
+            "SAGAS_FEATURES": str(self.folder / "settings.json"),
+        }  # fmt: skip
+        words = [
+            word.replace("celery_world", "features_celery") for word in worker_words(queue, "w")
+        ]
+        worker = Program([*words, "-P", "threads"], self.folder, environment, "worker.log")
+        try:
+            worker.wait_for(r" ready\.")
+            yield
+        finally:
+            worker.kill()
+
+    # -- until all is over
+
+    @property
+    def struck(self) -> int:
+        """How often something was struck."""
+        return sum(self.kills.values())
+
+    def _check_time(self) -> None:
+        if time.monotonic() - self.began > self.most:
+            raise TimeoutError(f"not over after {self.most:.0f} s: {self._left()}")
+
+    def _keep_up(self) -> None:
+        """Start the nodes again that have ended."""
+        self._check_time()
+        for node in self.nodes:
+            if not node.running.runs:
+                code = node.running.process.returncode
+                if code not in (0, -signal.SIGKILL):
+                    raise TimeoutError(f"node {node.name} ended with status {code}")
+                node.start()
+
+    def _wait(self, seconds: float) -> None:
+        end = time.monotonic() + seconds
+        while time.monotonic() < end:
+            self._check_time()
+            time.sleep(0.02)
+
+    def _until_open(self, node: Node) -> None:
+        while not node.is_open:
+            self._keep_up()
+            time.sleep(0.02)
+
+    def _run(self) -> None:
+        for node in self.nodes:
+            self._until_open(node)
+        while self.struck < self.strikes // 2:
+            self._strike()
+        self._deploy()
+        while self.struck < self.strikes:
+            self._strike()
+        self._wait(self.seconds)
+        quiet = time.monotonic() + (3.0 if self.settings.wrong else PATIENCE)
+        while not (all(node.is_done for node in self.nodes) and self._is_over()):
+            self._keep_up()
+            if time.monotonic() > quiet:
+                (self.folder / "quiet").touch()
+            time.sleep(0.1)
+        for node in self.nodes:
+            if code := node.end():
+                self.faults.append(f"not-over: node {node.name} closed with status {code}")
+
+    def _deploy(self) -> None:
+        """Each node is started with the next release, one after the other."""
+        for node in self.nodes if self.settings.deploy else []:
+            self._wait(self.draw.uniform(0.1, 0.6))
+            if self.draw.random() < 0.5 and node.is_open:
+                node.end()
+            node.running.kill()
+            node.release = 2
+            node.start()
+            self._until_open(node)
+        self.witness.note(what="deployed")
+
+    def _left(self) -> list[Any]:
+        """What is not over yet, as the database has it."""
+        open_sagas = rows_of(self.url, "SELECT key FROM sagas WHERE phase IS NULL LIMIT 5")
+        posts = "SELECT id FROM webhook_deliveries WHERE state = 'pending' LIMIT 5"
+        return [*open_sagas, *rows_of(self.url, posts)]
+
+    def _is_over(self) -> bool:
+        """Whether nothing is left to be done. The schedule ends with that."""
+        if "schedule" in self.settings.options and not self.is_paused:
+            rows_of(self.url, "UPDATE schedules SET paused = 1")
+            self.is_paused = True
+            self._wait(0.5)
+        attention = "SELECT key FROM sagas WHERE note IS NULL AND (phase = 'stuck' OR undo_failed)"
+        if self.server:
+            attention = attention.replace("undo_failed", "(recovered AND undo_failed)")
+        return not self._left() and not rows_of(self.url, attention)
+
+    # -- strikes
+
+    def _strike(self) -> None:
+        self._wait(self.draw.uniform(0.05, 0.7))
+        self._keep_up()
+        node, kind = self.draw.choice(self.nodes), self.draw.choice(self.kinds)
+        if not node.is_open and self.draw.random() < 0.7:
+            self._until_open(node)
+        getattr(self, f"_{kind}")(node)
+
+    def _kill(self, node: Node) -> None:
+        node.running.process.kill()
+        node.running.process.wait(60)
+        self.witness.note(what="killed", victim=node.running.pid)
+        self.kills["a node"] += 1
+        if len(self.nodes) > 1 and self.draw.random() < 0.5:
+            self._wait(1.5 * LEASE)  # the others take over its sagas
+        node.running.kill()
+        node.start()
+
+    def _term(self, node: Node) -> None:
+        if node.is_open:
+            node.end()
+            self.kills["a node asked to end"] += 1
+            node.running.kill()
+            node.start()
+
+    def _stop(self, node: Node) -> None:
+        process, since = node.running.process, time.time()
+        process.send_signal(signal.SIGSTOP)
+        self._wait(self.draw.uniform(0.5, 2.0) * LEASE)
+        process.send_signal(signal.SIGCONT)
+        self.witness.note(what="stood", since=since, until=time.time())
+        self.kills["a node stood still"] += 1
+
+    def _engine(self, node: Node) -> None:
+        for child in children(node.running.pid):
+            with contextlib.suppress(ProcessLookupError):
+                os.kill(child, signal.SIGKILL)
+                self.kills["an engine"] += 1
+                break
+
+    def _database(self, node: Node) -> None:
+        assert self.server
+        since = time.time()
+        self.server.stop("immediate")
+        self._wait(self.draw.uniform(0.0, 0.5))
+        self.server.start()
+        self.witness.note(what="stood", since=since, until=time.time())
+        self.kills["the database"] += 1
+
+
+@dataclasses.dataclass
+class Played:
+    """What became of a round."""
+
+    options: list[str]
+    deploy: str
+    verdict: FeatureVerdict
+    kills: Counter[str]
+    folder: pathlib.Path | None
+    """Where its files are, if something was found."""
+
+    @property
+    def names(self) -> set[str]:
+        """The names of what was found."""
+        return {fault.split(":", 1)[0] for fault in self.verdict.faults}
+
+
+def play(
+    seed: int, count: int, strikes: int, server: Server | None = None, *, keeps: bool = True,
+    **words: Any,
+) -> Played:  # fmt: skip
+    """One round: a store, its strikes, its judgement."""
+    folder = pathlib.Path(tempfile.mkdtemp(prefix="sagas-features-"))
+    one = Round(folder, seed, count, strikes, server, **words)
+    verdict = one.play()
+    is_bad = keeps and bool(verdict.faults)
+    if not is_bad:
+        shutil.rmtree(folder)
+        if server:
+            server.drop(one.url)
+    of = one.settings
+    return Played(of.options, of.deploy, verdict, one.kills, folder if is_bad else None)
+
+
+def try_wrong(name: str, server: Server | None = None) -> Played:
+    """A round of a wrong variant, without strikes."""
+    variant = features_wrong.VARIANTS[name]
+    words = {"options": variant.options, "deploy": variant.deploy, "seconds": variant.seconds}
+    return play(1, variant.count, 0, server, most=60, wrong=name, keeps=False, **words)
+
+
+def main() -> int:
+    """The command."""
+    parser = argparse.ArgumentParser(
+        description=__doc__, formatter_class=argparse.RawDescriptionHelpFormatter
+    )
+    parser.add_argument("--rounds", type=int, default=5)
+    parser.add_argument("--store", choices=("sqlite", "postgresql"), default="sqlite")
+    parser.add_argument("--sagas", type=int, default=40)
+    parser.add_argument("--strikes", type=int, default=10)
+    parser.add_argument("--seed", type=int, default=random.randrange(10**6))
+    parser.add_argument("--options", help="in place of those of the seed, with commas between")
+    parser.add_argument("--deploy", choices=DEPLOYS, help="in place of that of the seed")
+    parser.add_argument("--wrong", help="a wrong variant, or all")
+    words = parser.parse_args()
+    if words.wrong:
+        return wrong(words.wrong)
+    kills, figures = Counter[str](), Counter[str]()
+    bad, began = 0, time.monotonic()
+    options = words.options.split(",") if words.options else None
+    with contextlib.ExitStack() as stack:
+        server = broker = None
+        if words.store == "postgresql":
+            server = stack.enter_context(serving({"fsync": "on"}))
+            folder = pathlib.Path(stack.enter_context(tempfile.TemporaryDirectory()))
+            broker = stack.enter_context(broker_at("redis", folder))
+        for number in range(words.rounds):
+            seed = words.seed + number
+            one = play(
+                seed, words.sagas, words.strikes, server, broker=broker, options=options,
+                deploy=words.deploy,
+            )  # fmt: skip
+            kills += one.kills
+            figures += one.verdict.figures
+            bad += bool(one.verdict.faults)
+            for fault in one.verdict.faults[:8]:
+                print(f"{seed} {one.folder}: {fault}")
+            said = f"{seed}: {','.join(one.options)}; {one.deploy}"
+            strikes = sum(kills.values())
+            print(
+                f"{said}; {number + 1} of {words.rounds} rounds, {strikes} strikes, {bad} bad",
+                flush=True,
+            )
+    print(f"seed {words.seed}, {time.monotonic() - began:.0f} s")
+    for title, counted in (("strikes", kills), ("figures", figures)):
+        print(
+            f"{title}: " + ", ".join(f"{name} {count}" for name, count in sorted(counted.items()))
+        )
+    return 1 if bad else 0
+
+
+def wrong(name: str) -> int:
+    """Try wrong variants; the status is 1 if one is not found by the name of its fault."""
+    missed = 0
+    for one in sorted(features_wrong.VARIANTS) if name == "all" else [name]:
+        played, finds = try_wrong(one), features_wrong.VARIANTS[one].finds
+        is_found = finds in played.names
+        missed += not is_found
+        print(
+            f"{one}: {'found by' if is_found else 'NOT found by'} {finds}; {sorted(played.names)}",
+            flush=True,
+        )
+    return 1 if missed else 0
+
+
+if __name__ == "__main__":
+    sys.exit(main())

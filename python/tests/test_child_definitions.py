@@ -1,0 +1,477 @@
+"""Children are undone by the definitions that they ran with, whatever the program declares today."""
+
+from __future__ import annotations
+
+import asyncio
+import contextlib
+import pathlib
+from typing import Any
+
+import pytest
+from cases import QUICK, Task, run, until
+from test_command import Shell
+
+import sagas
+import sagas.testing
+from sagas.api import worker_task
+from sagas.cli import backlog
+from sagas.definition import definition_text, listed_steps, undo_sagas, undo_text
+from sagas.definition.context import Context
+from sagas.definition.shelf import Shelf
+from sagas.definition.start_options import StartOptions
+from sagas.server import json_views
+
+
+class World:
+    """A parent with a child, declared anew for each program, and what was done."""
+
+    def __init__(self) -> None:
+        self.done = list[str]()
+
+    def child(self, *steps: str, version: int = 1, **costs: int) -> sagas.Saga:
+        """One of steps in this order, each of which needs the one before; `x-`: without a compensation."""
+        saga, before = sagas.Saga("child", version=version), list[Any]()
+        for name in steps:
+            undo = {"undo": 0} if name.endswith("-") else {}
+            step = saga.step(self.do, name=name.rstrip("-"), needs=before, keep=9, **undo)
+            before = [step]
+            if not undo:
+                step.compensation(tries=costs.get(name, 1), backoff=QUICK)(self.undo)
+        return saga
+
+    def do(self, task: Task) -> str:
+        """What each step does."""
+        self.done.append(task.step)
+        return f"done {task.step}"
+
+    def undo(self, task: Task) -> None:
+        """What each compensation does."""
+        assert task.result == f"done {task.step}" and task.key.endswith("/:stay") and task.saga == "child"
+        self.done.append(f"undo {task.step} {' '.join(task.results)}".strip())
+
+    def parent(self, child: sagas.Saga, **options: Any) -> list[sagas.Saga]:
+        """One whose child completes, and which a person lets fail."""
+        parent = sagas.Saga("parent")
+        stay = parent.child(child, name="stay", input=lambda task: None, **options)
+        signed = parent.approval(name="sign", needs=[stay])(lambda task: None)
+        parent.step(name="end", needs=[signed])(lambda task: None)
+        return [parent, child]
+
+    async def started(self, place: str, known: list[sagas.Saga], key: str = "t") -> None:
+        """One is started, by a program that ends once the child has completed."""
+        async with sagas.open(place, known) as store:
+            await store.start(known[0], key)
+            await until(lambda: [one for one in store.active_attempts(key) if one.waits == "approval"])
+
+    async def failed(self, store: sagas.Store, key: str = "t") -> dict[str, str]:
+        """The states of its steps once it has ended."""
+        await store.fail(key, "sign", "no")
+        return (await store.wait(key, 60)).states
+
+
+UNDONE = {"stay": "undone", "sign": "failed", "end": "waiting"}
+ONES_UNDONE = ["undo y x", "undo x"]
+
+
+@pytest.mark.parametrize("steps, lacks", [(("x2", "y"), "x"), (("x", "y-"), "y")])
+def test_a_compensation_that_is_gone(place: str, steps: tuple[str, ...], lacks: str) -> None:
+    """Its step was renamed or removed, or it alone: no program without it opens the file, and over PostgreSQL no node without it has the shard."""
+    world = World()
+    old, new = world.parent(world.child("x", "y")), world.parent(world.child(*steps))
+    why = f"saga 'parent' (version 1) has open sagas that may undo a child of saga 'child' (version 1), but step '{lacks}' has no compensation in this program"
+
+    async def main() -> None:
+        await world.started(place, old)
+        async with contextlib.AsyncExitStack() as stack:
+            if place.startswith("postgresql"):
+                lacking = await stack.enter_async_context(sagas.open(place, new, node="new"))
+                assert len(lacking._inside.store.lease.left) == 1 and not lacking.active_attempts("t")  # type: ignore[attr-defined]
+            else:
+                with pytest.raises(sagas.MissingStep) as error:
+                    await stack.enter_async_context(sagas.open(place, new))
+                assert why in str(error.value)
+            async with sagas.open(place, old, node="old") as store:
+                assert await world.failed(store) == UNDONE
+        async with sagas.open(place, new, node="new") as store:  # nothing is to be undone any more
+            assert await store.count() == 3 and await store.attention() == []
+
+    run(main())
+    assert world.done == ["x", "y", *ONES_UNDONE]
+
+
+@pytest.mark.parametrize("steps", [("x", "y", "z"), ("y", "x"), ("z", "y", "x")])
+def test_other_steps_and_another_order(place: str, steps: tuple[str, ...]) -> None:
+    """What never ran is not undone; the rest in the order in which it ran, with the results that it had."""
+    world = World()
+    old, new = world.parent(world.child("x", "y")), world.parent(world.child(*steps))
+
+    async def main() -> None:
+        await world.started(place, old)
+        async with sagas.open(place, new) as store:
+            assert await world.failed(store) == UNDONE
+            end = await store.wait("t/:stay:undo", 60)
+            assert end.states == {"y": "committed", "x": "committed"}
+
+    run(main())
+    assert world.done == ["x", "y", *ONES_UNDONE]
+
+
+def test_the_program_changes_while_a_child_is_undone(place: str) -> None:
+    """What undoes it goes on by its own definition. It needs what that has."""
+    world, broken = World(), [True]
+
+    def undo(task: Task) -> None:
+        if task.step == "x" and broken[0]:
+            raise ValueError("not yet")
+        world.done.append(f"undo {task.step} {' '.join(task.results)}".strip())
+
+    world.undo = undo  # type: ignore[method-assign]
+    old, new, less = (world.parent(world.child(*steps)) for steps in (("x", "y"), ("z", "y", "x"), ("x-", "y")))
+
+    async def main() -> None:
+        await world.started(place, old)
+        async with sagas.open(place, new) as store:
+            await store.fail("t", "sign", "no")
+            await until(lambda: [one for one in store.active_attempts("t/:stay:undo") if one.waits == "exhausted"])
+        if not place.startswith("postgresql"):
+            with pytest.raises(sagas.MissingStep, match="but step 'x' has no compensation in this program"):
+                await sagas.open(place, less).__aenter__()
+        broken[0] = False
+        async with sagas.open(place, new) as store:
+            await store.retry("t/:stay:undo", "x")
+            assert (await store.wait("t", 60)).states == UNDONE
+
+    run(main())
+    assert world.done == ["x", "y", *ONES_UNDONE]
+
+
+def test_who_may_undo_a_child(tmp_path: pathlib.Path) -> None:
+    """A parent that never undoes it, or by its own function, needs none of its compensations; nor does one whose version the program has twice."""
+    place, new = str(tmp_path / "store.db"), World()
+
+    async def main() -> None:
+        for number, options in enumerate(({"undo": sagas.NEVER}, {}, {"undo": 3})):
+            world, at = World(), f"{place}.{number}"
+            own, now = world.parent(world.child("x"), **options), new.parent(new.child("x2"), **options)
+            if not options:
+                for one in own, now:
+                    one[0].steps[0].compensation(lambda task: world.done.append(task.result["key"]))
+            await world.started(at, own)
+            if number < 2:
+                async with sagas.open(at, now) as store:
+                    states = await new.failed(store)
+                assert states["stay"] == ("committed" if number == 0 else "undone") and world.done[1:] == ["t/:stay"] * number
+            else:
+                with pytest.raises(sagas.MissingStep):
+                    await sagas.open(at, now).__aenter__()
+                second = new.child("x2", version=2)
+                async with sagas.open(at, [*new.parent(second), own[1]]) as store:  # the parent starts version 2 from now on
+                    assert (await new.failed(store))["stay"] == "undone"
+                assert world.done == ["x", "undo x"]
+
+    run(main())
+
+
+def family(world: World, leaf: str) -> list[sagas.Saga]:
+    """A parent whose child has a child of one step."""
+    below = sagas.Saga("below")
+    below.step(lambda task: world.done.append(task.key), name=leaf, keep=9).compensation(lambda task: world.done.append(f"undo {task.key}"))
+    child = sagas.Saga("child")
+    child.child(below, input=lambda task: None)
+    return [*world.parent(child), below]
+
+
+def test_a_child_of_a_child(place: str, capsys: pytest.CaptureFixture[str]) -> None:
+    """It is looked for at the opening, too, and undone by its own definition. Operators see how many there are."""
+    world, shell = World(), Shell(place, capsys)
+    old, new, more = family(world, "x"), family(world, "x2"), family(world, "x")
+    more[2].step(lambda task: None, name="z", keep=1).compensation(lambda task: world.done.append("undo z"))
+
+    async def main() -> None:
+        await world.started(place, old)
+        counts = [row.split() for row in (await asyncio.to_thread(shell, "definitions")).splitlines()]
+        assert counts[0] == ["SAGA", "VERSION", "OPEN", "UNDOABLE", "TOTAL"]
+        assert counts[1:] == [["below", "1", "0", "1", "1"], ["child", "1", "0", "1", "1"], ["parent", "1", "1", "0", "1"]]
+        if not place.startswith("postgresql"):
+            with pytest.raises(sagas.MissingStep, match="open sagas may undo a child of saga 'below' .version 1., but step 'x' has no comp"):
+                await sagas.open(place, new).__aenter__()
+        async with sagas.open(place, more) as store:
+            assert await world.failed(store) == UNDONE
+            assert sum(one.undoable for one in await store.definitions()) == 0
+
+    run(main())
+    assert world.done == ["t/:stay/:below", "undo t/:stay/:below"]
+
+
+def test_the_definitions_of_an_open_store_are_those_of_another(place: str) -> None:
+    """Without what undoes their children, which the other store makes itself."""
+    known = family(World(), "x")
+    store = sagas.open(place, known)
+    assert store.sagas == known and len(Shelf(store.sagas).sagas) == 5
+
+
+def test_a_node_that_cannot_undo_a_child_leaves_it(url: str) -> None:
+    """The child was done by another node after this one has taken the parent: it waits for a program that can, and that node gets it."""
+    world, gate = World(), asyncio.Event()
+    old, new = world.child("x"), world.child("x2")
+
+    def parent(child: sagas.Saga) -> list[sagas.Saga]:
+        saga = sagas.Saga("parent")
+
+        @saga.step(undo=0)
+        async def first(task: Task) -> None:
+            await gate.wait()
+
+        stay = saga.child(child, name="stay", needs=[first], input=lambda task: None)
+        saga.step(name="end", needs=[stay], external=True)
+        return [saga, child]
+
+    async def main() -> None:
+        known, told = parent(new), list[sagas.Event]()
+        async with sagas.open(url, known, node="new", on_event=told.append) as one:
+            started = await one.start(known[0], "t")
+            (listed,) = await one.list()
+            async with sagas.open(url, parent(old), node="old") as two:
+                assert await two._starter.start_child(old, "t/:stay", None, StartOptions(parent=listed.id))
+                await two.wait("t/:stay", 60)
+            gate.set()
+            await until(lambda: [a for a in one.active_attempts("t") if a.step == "end"])
+            await one.fail("t", "end", "no")
+            (need,) = await until(one.attention)
+            assert (need.why, need.step, need.undo) == ("cannot_decode", "stay", True)
+            assert need.detail and "a child of saga 'child' (version 1) is to be undone, but step 'x' has no comp" in need.detail
+            async with sagas.open(url, parent(old), node="old"):
+                assert (await started.wait(60)).states["stay"] == "undone"
+        assert [one.name for one in told if one.name == "step_cannot_decode"]
+
+    run(main())
+    assert world.done == ["x", "undo x"]
+
+
+# -- what a definition says
+
+
+def test_a_compensation_is_in_the_definition(place: str) -> None:
+    """So its removal is seen also where a step has nothing to undo now; a definition of an older release does not say it."""
+    had, has = World().child("x"), World().child("x-")
+    assert "\n# compensated\n" in had.toml() and "# compensated" not in has.toml() and definition_text.declared(had) == had.toml()
+    older = had.toml().replace("# compensated\n", "")
+    assert undo_sagas.lacks(has, older) is None and undo_sagas.lacks(has, had.toml()) == "step 'x' has no compensation in this program"
+    shaped = sagas.Saga("shaped")
+    shaped.step(name="x", for_each="items", undo=0)(lambda task: None)
+    without = shaped.toml({"items": [1, 2]})
+    shaped.steps[0].compensation(lambda task: None)
+    text = shaped.toml({"items": [1, 2]})
+    assert [step.is_compensated for step in listed_steps.of(text)] == [True, True] and text.replace("# compensated\n", "") == without
+    saga, plain = sagas.Saga("plain"), sagas.Saga("plain")
+    for one in saga, plain:
+        one.approval(lambda task: None, name="a", needs=[one.step(name="x", keep=9, undo=0)(lambda task: None)])
+        one.step(name="end", needs=["a"])(lambda task: None)
+    saga.steps[0].compensation(lambda task: None)
+
+    async def main() -> None:
+        async with sagas.open(place, [saga]) as store:
+            await store.start(saga, "t")
+            await until(lambda: [one for one in store.active_attempts("t") if one.waits == "approval"])
+        if not place.startswith("postgresql"):
+            with pytest.raises(sagas.MissingStep, match="saga 'plain' .version 1. has open sagas, but step 'x' has no compensation"):
+                await sagas.open(place, [plain]).__aenter__()
+
+    run(main())
+
+
+def test_definitions_that_undo_children() -> None:
+    """Their text says which child they undo, and what each compensation may read; one of an older release has neither."""
+    world = World()
+    child = world.child("x", "y", "z-", version=3)
+    saga = undo_sagas.undo_saga(child)
+    assert saga and saga.toml() == (
+        '# version 3\n# undoes child\nformat = 2\nname = "child-undo"\n\n[[step]]\nname = "y"\n# sees x\nundo = "never"\nskip = 9\n'
+        '\n[[step]]\nname = "x"\n# sees\nneeds = ["y"]\nundo = "never"\nskip = 9\n'
+    )
+    steps = undo_text.read(saga.toml())
+    assert undo_text.write("child", 3, steps) == saga.toml() and undo_text.child_of(child.toml()) is None
+    older = "".join(line for line in saga.toml().splitlines(keepends=True) if not line.startswith(("# undoes", "# sees")))
+    kind = Shelf(world.parent(child)).kind(older)
+    assert kind.undoes == "child" and kind.lacks() is None and kind.saga and kind.saga.undo_text == older
+    other = sagas.Saga("child-undo", version=3)
+    other.step(lambda task: None, name="x")
+    assert Shelf([other]).kind(saga.toml()).lacks() == "this program did not open the store with that saga"
+    less = Shelf(world.parent(world.child("x", version=3))).kind(saga.toml())
+    assert less.lacks() == "step 'y' has no compensation in this program"
+    assert [(step.name, step.sees, step.tries) for step in undo_text.read(older)] == [("y", (), 1), ("x", (), 1)]
+
+
+def test_a_child_of_which_nothing_can_be_undone(caplog: pytest.LogCaptureFixture) -> None:
+    """A number as `undo` is then not meant."""
+    child = World().child("x")
+    child.step(name="held", needs=["x"])(lambda task: None)
+    (warning,) = World().parent(child, undo=1, keep=9)[0].warnings()
+    assert "undo=1, but nothing of its child saga 'child' can be undone, because 'held' cannot be" in warning
+    assert not World().parent(child, undo=sagas.NEVER)[0].warnings() and not World().parent(World().child("x"), undo=1, keep=9)[0].warnings()
+    assert not World().parent(World().child("x-"), undo=1, keep=9)[0].warnings()
+
+
+# -- done elsewhere
+
+
+def leaf() -> list[sagas.Saga]:
+    """A parent whose child is done by workers, and undone by them."""
+    child = sagas.Saga("leaf")
+    plan = child.step(lambda task: {"rooms": 2}, name="plan", undo=0)
+    child.step(external=True, name="room", needs=[plan], keep=9, undo=0).compensation(external=True)
+    return World().parent(child)
+
+
+def opened(place: str, node: str, **words: Any) -> sagas.Store:
+    """A store that serves workers."""
+    store = sagas.open(place, leaf(), node=node if place.startswith("postgresql") else None, **words)
+    store.leased = True
+    return store
+
+
+class Backwards:
+    """A codec that nobody needs a key for."""
+
+    def encode(self, data: bytes) -> bytes:
+        return data[::-1]
+
+    def decode(self, data: bytes) -> bytes:
+        return data[::-1]
+
+
+def test_workers_undo_a_child(place: str, capsys: pytest.CaptureFixture[str], monkeypatch: pytest.MonkeyPatch) -> None:
+    """The worker of the child's step is handed its compensation, as of the child, also by another node; until one claims it, that is listed."""
+    monkeypatch.setattr(backlog, "UNCLAIMED", -1.0)
+    shell, codec = Shell(place, capsys), Backwards()
+
+    async def main() -> None:
+        async with contextlib.AsyncExitStack() as stack:
+            one = await stack.enter_async_context(opened(place, "one", codec=codec))
+            other = await stack.enter_async_context(opened(place, "other", codec=codec)) if place.startswith("postgresql") else one
+            started = await one.start(one.sagas[0], "t")
+            (task,) = await other.workers.claim([("leaf", "room", "run")], wait=60, lease=60)
+            await other.workers.report(task.attempt_id, task.lease, result="R-7")
+            await until(lambda: [a for a in one.active_attempts("t") if a.waits == "approval"])
+            await one.fail("t", "sign", "no")
+            assert not await other.workers.claim([("leaf-undo", "room", "run")], wait=0, lease=60)
+            ready = await until(other.workers.queues)
+            assert [(q.saga, q.step, q.undo, q.ready) for q in ready] == [("leaf", "room", True, 1)]
+            listed = {row[0]: row for row in map(str.split, (await asyncio.to_thread(shell, "pending")).splitlines())}
+            assert "a worker: none has claimed it for" in " ".join(listed["t/:stay:undo"]) and "child" in listed["t"]
+            (undo,) = await other.workers.claim([("leaf", "room", "undo")], wait=60, lease=60)
+            found = undo.task
+            assert (found.saga, found.key, found.step, found.is_compensation, found.attempt) == ("leaf", "t/:stay", "room", True, 1)
+            assert (found.result, found.results, found.input) == ("R-7", {"plan": {"rooms": 2}}, None)
+            assert found.original_idempotency_key == task.task.idempotency_key
+            assert found.idempotency_key == task.task.idempotency_key.replace("-run", "-undo")
+            told = worker_task.task_of(json_views.task(undo, one.now()), Context())  # as a `Worker` gets it
+            assert worker_task.word_of(told) == "leaf/room/undo" and (told.result, told.key) == (found.result, found.key)
+            assert told.idempotency_key == found.idempotency_key and told.attempt_id != undo.attempt_id
+            await other.workers.report(undo.attempt_id, undo.lease, result=None)
+            assert (await started.wait(60)).states == UNDONE
+            assert (await one.wait("t/:stay:undo", 60)).ok
+
+    run(main())
+
+
+def test_a_task_that_an_older_release_offered(tmp_path: pathlib.Path) -> None:
+    """It was offered under a name that no worker asks for: it is offered again."""
+    place = str(tmp_path / "store.db")
+
+    async def main() -> None:
+        async with opened(place, "") as store:
+            await store.start(store.sagas[0], "t")
+            (task,) = await store.workers.claim([("leaf", "room", "run")], wait=60, lease=60)
+            await store.workers.report(task.attempt_id, task.lease, result="R-7")
+            await until(lambda: [a for a in store.active_attempts("t") if a.waits == "approval"])
+            await store.fail("t", "sign", "no")
+            await until(store.workers.queues)
+            store._inside.store._writer._db.execute("UPDATE external_attempts SET task = 'leaf-undo/room/run' WHERE outcome IS NULL")  # type: ignore[attr-defined]
+        async with opened(place, "") as store:
+            (undo,) = await store.workers.claim([("leaf", "room", "undo")], wait=60, lease=60)
+            await store.workers.report(undo.attempt_id, undo.lease, result=None)
+            assert (await store.wait("t", 60)).states == UNDONE
+
+    run(main())
+
+
+# -- many children, and children that do not complete
+
+
+def test_children_of_items(place: str) -> None:
+    """Each item has a child of its own, which is undone with its own key and input."""
+    world, group, top = World(), sagas.Saga("group"), sagas.Saga("top")
+    child = sagas.Saga("child")
+    child.step(lambda task: task.input, name="x", keep=9).compensation(lambda task: world.done.append(f"{task.key} {task.result}"))
+    group.child(child, name="stay", input=lambda task: task.input)
+    trips = top.include(group, name="trip", for_each="items")
+
+    @top.step(needs=[trips])
+    def end(task: Task) -> None:
+        assert [one["results"] for one in task.result_of(trips[group.steps[0]])] == [{"x": 5}, {"x": 7}]
+        raise sagas.Fail("no")
+
+    async def main() -> None:
+        async with sagas.open(place, [top, group, child]) as store:
+            states = (await (await store.start(top, "t", {"items": [5, 7]})).wait(60)).states
+            assert states == {"trip-0-stay": "undone", "trip-1-stay": "undone", "end": "failed"}
+
+    run(main())
+    assert sorted(world.done) == ["t/:trip-0-stay 5", "t/:trip-1-stay 7"]
+
+
+def test_a_child_with_items(place: str) -> None:
+    """No saga undoes it, so the parent's own function does."""
+    world, child = World(), sagas.Saga("child")
+    child.step(lambda task: task.item, name="x", for_each="items", undo=0)
+    with pytest.raises(sagas.DefinitionError, match="its steps come from its input, so its costs as a child are not known"):
+        sagas.open(place, world.parent(child))
+    known = world.parent(child, keep=9, undo=1)
+    known[0].steps[0].run.function = lambda task: {"items": [5, 7]}
+    known[0].steps[0].compensation(lambda task: world.done.append(task.result["results"]))
+
+    async def main() -> None:
+        await world.started(place, known)
+        async with sagas.open(place, known) as store:
+            assert await world.failed(store) == UNDONE
+
+    run(main())
+    assert world.done == [{"x-0": 5, "x-1": 7}]
+
+
+def test_the_second_child_is_undone(place: str) -> None:
+    """Of children of which only the last one completed that one is undone, by its own definition; one that is stuck is resolved before."""
+    world = World()
+
+    def known(*steps: str) -> list[sagas.Saga]:
+        child, do = world.child(*steps), world.do
+
+        @child.step(name="must", needs=[steps[-1]], skip=sagas.NEVER, undo=0)
+        def must(task: Task) -> None:
+            if task.key == "t/:stay":
+                raise sagas.Fail("not yet")
+
+        child.steps[0].run.function = lambda task: do(task)
+        return world.parent(child, on_exhausted="ask", keep=9, undo=0)
+
+    world.undo = lambda task: world.done.append(f"undo {task.step} of {task.key}")  # type: ignore[method-assign]
+    old, new = known("x"), known("x", "z")
+
+    async def main() -> None:
+        async with sagas.open(place, old) as store:
+            await store.start(old[0], "t")
+            await until(lambda: store.get("t/:stay"))
+            assert (await store.wait("t/:stay", 60)).phase == "stuck" and len(await store.attention()) == 1
+            await store.resolve("t/:stay", "seen to")
+            await until(lambda: [one for one in store.active_attempts("t") if one.waits == "exhausted"])
+            await store.retry("t", "stay")
+            await until(lambda: [one for one in store.active_attempts("t") if one.waits == "approval"])
+        if not place.startswith("postgresql"):
+            with pytest.raises(sagas.MissingStep, match="step 'x' has no compensation"):
+                await sagas.open(place, known("x2")).__aenter__()
+        async with sagas.open(place, new) as store:
+            assert await world.failed(store) == UNDONE
+
+    run(main())
+    assert [one for one in world.done if one.startswith("undo")] == ["undo x of t/:stay/2"]

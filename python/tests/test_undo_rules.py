@@ -1,0 +1,578 @@
+"""Who may act on a saga that undoes a child, what it has of the child, and what a hand may complete."""
+
+from __future__ import annotations
+
+import asyncio
+import dataclasses
+import json
+import pathlib
+from collections.abc import Callable
+from typing import Any
+from urllib.parse import quote
+
+import pytest
+from cases import Task, run, until
+from serving import error_of, served, start, token
+from test_children import Backwards
+from test_command import Shell
+from test_service_webhooks import Receiver, table, written
+from test_service_workers import ONE
+
+import sagas
+import sagas.testing
+from sagas.core import child_results
+from sagas.definition import children
+from sagas.storage import admin, archive
+from sagas.storage.filters import Scope
+
+Json = dict[str, Any]
+
+
+class Family:
+    """A parent whose child is undone step by step: `c`, `b`, `a`, at a gate before each."""
+
+    def __init__(self, fails: bool = False, **words: Any) -> None:
+        self.done, self.keys = list[str](), list[str]()
+        self.child, self.top = sagas.Saga("child"), sagas.Saga("top")
+        self.gate, self.is_broken = asyncio.Event(), fails
+        before: list[sagas.Step[Any]] = []
+        for name in ("a", "b", "c"):
+            step = self.child.step(self._run, name=name, needs=before[-1:], keep=9)
+            step.compensation(on_exhausted="fail")(self._undo)
+            before.append(step)
+        self.kid = self.top.child(self.child, name="kid", input=lambda task: task.input, **words)
+        self.top.step(self._last, name="fin", needs=[self.kid])
+        self.all = [self.top, self.child]
+
+    def _run(self, task: Task) -> Any:
+        return f"{task.step} of {task.key}"
+
+    async def _undo(self, task: Task) -> None:
+        assert task.result == f"{task.step} of {task.key}"
+        self.done.append(task.step)
+        self.keys.append(task.idempotency_key)
+        if task.step != "c":
+            await self.gate.wait()
+        if self.is_broken and task.step == "b":
+            raise sagas.Fail("cannot")
+
+    def _last(self, task: Task) -> None:
+        raise sagas.Fail("no")
+
+    async def exhausted(self, store: sagas.Store, key: str = "t") -> sagas.Attention:
+        """What is asked of a person about the parent."""
+
+        async def asked() -> list[sagas.Attention]:
+            return [one for one in await store.attention() if one.key == key]
+
+        (found,) = await until(asked)
+        assert isinstance(found, sagas.Attention)
+        return found
+
+
+def test_what_undoes_a_child_is_not_aborted(place: str, capsys: pytest.CaptureFixture[str]) -> None:
+    """By its key the answer says why; many by a label leave it out, and say so. The undo goes on to its end."""
+    world, shell = Family(), Shell(place, capsys)
+
+    async def main() -> None:
+        async with sagas.open(place, world.all) as store:
+            found = await store.start(world.top, "t", labels={"customer": "7"})
+            await until(lambda: world.done == ["c", "b"])
+            with pytest.raises(sagas.NotAbortable, match="'t/:kid:undo' undoes a child, so it is not aborted"):
+                await store.abort("t/:kid:undo", by="ann")
+            assert world.child.name in [one.saga for one in await store.list(labels={"customer": "7"})]
+            words = ("abort", "--all", "--label", "customer=7")
+            assert await asyncio.to_thread(shell, *words) == "1 saga: --yes aborts it\n1 saga left out, because it undoes a child\n"
+            assert await asyncio.to_thread(shell.json, *words) == {"count": 1, "undoing": 1}
+            result = await store.abort_all(labels={"customer": "7"}, by="ann")
+            assert (result.done, result.refused, result.waiting, result.undoing) == (["t"], {}, [], ["t/:kid:undo"])
+            assert await asyncio.to_thread(shell, *words, "--yes") == "t/:kid:undo: left out, because it undoes a child\n"
+            asked = {"key": "t/:kid:undo", "asked": "abort", "answer": "left out, because it undoes a child"}
+            assert await asyncio.to_thread(shell.json, *words, "--yes") == [asked]
+            assert await asyncio.to_thread(shell, "abort", "t/:kid:undo", status=1) == ""
+            world.gate.set()
+            end = await found.wait(60)
+            assert end.aborted and end.states == {"kid": "undone", "fin": "failed"}
+            undone = await store.wait("t/:kid:undo", 60)
+            assert undone.ok and not undone.aborted and not await store.abort("t/:kid:undo")
+            with pytest.raises(sagas.NoSuchSaga):
+                await store.abort("t/:other:undo")
+
+    run(main())
+    assert world.done == ["c", "b", "a"]
+
+
+def test_a_client_and_another_node_abort_none(url: str) -> None:
+    """They ask its node, or know it by themselves."""
+    world = Family()
+
+    async def main() -> None:
+        async with sagas.open(url, world.all, node="one") as store, sagas.Client(url) as client:
+            found = await store.start(world.top, "t")
+            await until(lambda: world.done == ["c", "b"])
+            async with sagas.open(url, world.all, node="two") as other:
+                for one in (client, other):
+                    with pytest.raises(sagas.NotAbortable):
+                        await one.abort("t/:kid:undo")
+            assert (await client.abort_all(saga="child-undo")).undoing == ["t/:kid:undo"]
+            world.gate.set()
+            assert (await found.wait(60)).states["kid"] == "undone"
+
+    run(main())
+
+
+@pytest.mark.parametrize("place", ["sqlite", "postgresql"], indirect=True)
+@pytest.mark.parametrize("way", ["retry", "complete", "fail"])
+def test_an_undo_that_failed_waits_for_a_person(place: str, way: str) -> None:
+    """As any compensation, also behind a restart. A retry undoes what is left, in another saga."""
+    world = Family(fails=True)
+    world.gate.set()
+
+    async def main() -> None:
+        async with sagas.open(place, world.all) as store:
+            await store.start(world.top, "t")
+            found = await world.exhausted(store)
+            assert (found.why, found.step, found.undo) == ("exhausted", "kid", True)
+            assert "'t/:kid:undo' has not completed: recovered. b: sagas.Fail: cannot" in str(found.detail)
+        async with sagas.open(place, world.all) as store:
+            run_again = await store.get("t")
+            assert run_again is not None
+            if way == "retry":
+                await store.retry("t", "kid", undo=True)  # it fails once more
+                await until(lambda: world.done == ["c", "b", "b"])
+                assert "'t/:kid:undo/2'" in str((await world.exhausted(store)).detail)
+                world.is_broken = False
+                assert await store.retry_all(saga=world.top, by="ann") == 1
+            elif way == "complete":
+                await store.complete("t", "kid", undo=True)
+            else:
+                await store.fail("t", "kid", "it stays", undo=True)
+            end = await run_again.wait(60)
+            assert end.states["kid"] == ("undo_failed" if way == "fail" else "undone")
+            last = await store.get("t/:kid:undo/3")
+            assert (last is not None) == (way == "retry")
+            assert last is None or (await last.wait(60)).states == dict.fromkeys("cba", "committed")
+
+    run(main())
+    assert world.done == (["c", "b", "b", "b", "a"] if way == "retry" else ["c", "b"])
+    assert len({*world.keys}) == len({*world.done})  # one idempotency key a step, over all sagas
+
+
+def test_nobody_is_asked_if_so_declared(place: str) -> None:
+    """Then the rest of the child stays."""
+    world = Family(fails=True, undo_on_exhausted="fail")
+    world.gate.set()
+
+    async def main() -> None:
+        async with sagas.open(place, world.all) as store:
+            end = await (await store.start(world.top, "t")).wait(60)
+            assert end.states["kid"] == "undo_failed"
+
+    run(main())
+    with pytest.raises(sagas.DefinitionError, match="undo_on_exhausted='retry': must be fail or ask"):
+        sagas.Saga("x").child(world.child, input=lambda task: 1, undo_on_exhausted="retry")  # type: ignore[call-overload]
+
+
+def test_what_is_undone_of_a_grandchild_stays_undone(place: str) -> None:
+    """The saga that undoes it is tried again by itself, or as a part of its parent's."""
+    calls, broken = list[str](), [True]
+    low, mid, top = (sagas.Saga(name) for name in ("low", "mid", "top"))
+
+    def undo(task: Task) -> None:
+        calls.append(f"{task.step} {task.key}")
+        if task.step == "x" and broken:
+            raise sagas.Fail("cannot")
+
+    x = low.step(lambda task: 1, name="x", keep=9)
+    y = low.step(lambda task: 2, name="y", needs=[x], keep=9)
+    for step in (x, y):
+        step.compensation(on_exhausted="fail")(undo)
+    mid.child(low, name="below", input=lambda task: 1)
+    kid = top.child(mid, name="kid", input=lambda task: 1)
+
+    def last(task: Task) -> None:
+        raise sagas.Fail("no")
+
+    top.step(last, name="fin", needs=[kid])
+
+    async def main() -> None:
+        async with sagas.open(place, [top, mid, low]) as store:
+            found = await store.start(top, "t")
+
+            async def asked() -> list[str]:
+                return [one.key for one in await store.attention()]
+
+            await until(asked)
+            assert await asked() == ["t/:kid:undo"]
+            with pytest.raises(sagas.NotAbortable):
+                await store.abort("t/:kid:undo")
+            await store.fail("t/:kid:undo", "below", "not now")
+            await until(lambda: is_list(asked, ["t"]))
+            broken.clear()
+            await store.retry("t", "kid", undo=True)
+            assert (await found.wait(60)).states == {"kid": "undone", "fin": "failed"}
+            keys = {one.key for one in await store.list()}
+            assert {"t/:kid:undo/:below", "t/:kid:undo/2", "t/:kid:undo/2/:below"} <= keys
+
+    run(main())
+    low_key = "t/:kid/:below"
+    assert calls == [f"y {low_key}", f"x {low_key}", f"x {low_key}"]
+
+
+def test_what_others_undid_is_not_asked_again(place: str) -> None:
+    """A compensation that is external is reported once, and not again in the next saga; with a codec, too."""
+    broken, calls = [True], list[str]()
+    child, top = sagas.Saga("child"), sagas.Saga("top")
+
+    def undo(task: Task) -> None:
+        calls.append(task.step)
+        if broken:
+            raise sagas.Fail("cannot")
+
+    a = child.step(lambda task: "x" * 5000, name="a", keep=9)
+    a.compensation(on_exhausted="fail")(undo)
+    child.step(lambda task: None, name="b", needs=[a], keep=9).compensation(external=True)
+    kid = top.child(child, name="kid", input=lambda task: task.input)
+
+    def last(task: Task) -> None:
+        raise sagas.Fail("no")
+
+    top.step(last, name="fin", needs=[kid])
+
+    async def main() -> None:
+        async with sagas.open(place, [top, child], codec=Backwards()) as store:
+            found = await store.start(top, "t", "y" * 5000)
+            await until(lambda: store.get("t/:kid:undo"))
+            await until(lambda: store.active_attempts("t/:kid:undo"))
+            await store.complete("t/:kid:undo", "b")
+            await until(lambda: [one for one in store.active_attempts("t") if one.waits == "exhausted"])
+            broken.clear()
+            await store.retry("t", "kid", undo=True)
+            assert (await found.wait(60)).states["kid"] == "undone"
+            assert (await store.wait("t/:kid:undo/2", 60)).states == {"b": "committed", "a": "committed"}
+
+    run(main())
+    assert calls == ["a", "a"]
+
+
+async def is_list(asked: Callable[[], Any], wanted: list[str]) -> bool:
+    return bool(await asked() == wanted)
+
+
+class Hand:
+    """A parent whose child step waits for a person, since its child fails. Of that, `gone` is undone by then, and `first` stays."""
+
+    def __init__(self) -> None:
+        self.undone = list[str]()
+        self.child, self.top = sagas.Saga("child"), sagas.Saga("top")
+        gone = self.child.step(lambda task: 7, name="gone", keep=9)
+        first = self.child.step(lambda task: 8, name="first", keep=0, undo=3)
+        for step in (gone, first):
+            step.compensation(lambda task: self.undone.append(f"{task.step} {task.key}"))
+        self.child.step(self._second, name="second", needs=[gone, first], keep=9, undo=0)
+        self.kid = self.top.child(self.child, name="kid", input=lambda task: task.input, on_exhausted="ask", keep=9)
+        self.top.approval(name="sign", needs=[self.kid])(lambda task: None)
+        self.all = [self.top, self.child]
+
+    def _second(self, task: Task) -> Any:
+        if task.input == "fails":
+            raise sagas.Fail("no")
+
+    async def asked(self, store: sagas.Store) -> sagas.Run:
+        found = await store.start(self.top, "t", "fails")
+        await until(lambda: [one for one in store.active_attempts("t") if one.waits == "exhausted"])
+        return found
+
+
+def result(key: Any, **more: Any) -> Json:
+    return {"key": key, "phase": "completed", "results": {"first": 1}} | more
+
+
+WRONG: list[tuple[Any, str]] = [
+    (None, "this is not the result of a child"),
+    ("t/:kid", "this is not the result of a child"),
+    ({"key": "t/:kid"}, "this is not the result of a child"),
+    (result("t/:kid", phase="open"), "the phase of a child's result is 'completed'"),
+    (result("t/:kid", results=[1]), "the results of a child are an object by step"),
+    (result("t/:kid", results={"third": 1}), "the results name a step that the child does not have"),
+    (result(7), "the key of a child is a text"),
+    (result("good/:kid"), "the key is not that of a child of this step.*: KEY is that of its child [(]it started 't/:kid'[)]"),
+    (result("t"), "the key is not that of a child of this step"),
+    (result("nonsense"), "the key is not that of a child of this step"),
+]
+
+
+def test_a_child_step_is_completed_with_a_childs_result(place: str, capsys: pytest.CaptureFixture[str]) -> None:
+    """Anything else is refused, with nothing changed, by the store and by the command. Without a child there is nothing to undo."""
+    world, shell = Hand(), Shell(place, capsys)
+
+    async def main() -> None:
+        async with sagas.open(place, world.all) as store:
+            good = await store.start(world.top, "good", "works")
+            found = await world.asked(store)
+            for wrong, why in WRONG:
+                with pytest.raises(sagas.InvalidResult, match=f"saga 't', step 'kid': {why}.*Nothing was stored"):
+                    await store.complete("t", world.kid, wrong, by="ann")
+            with pytest.raises(sagas.InvalidResult):
+                await store.complete_all(result("good/:kid"))
+            words = ("complete", "t", "kid", "--result")
+            for wrong in (None, result("good/:kid")):
+                assert await asyncio.to_thread(shell, *words, json.dumps(wrong), status=1) == ""
+            assert [one.waits for one in store.active_attempts("t")] == ["exhausted"]
+            told = result(None)
+            assert await asyncio.to_thread(shell, *words, json.dumps(told)) == "t: kid succeeded\n"
+            await store.complete("t", world.kid, told)  # the same again
+            with pytest.raises(sagas.ConflictingReport):
+                await store.complete("t", world.kid, result(None, results={}))
+            await store.abort("t")
+            assert (await found.wait(60)).states["kid"] == "undone"
+            assert await store.get("t/:kid:undo") is None
+            await store.complete("good", "sign")
+            assert (await good.wait(60)).ok
+
+    run(main())
+    assert world.undone == ["gone t/:kid"]  # by the child itself
+
+
+def test_what_is_left_of_its_own_child_is_undone(place: str) -> None:
+    """Also behind a restart; what the child has undone is not undone again."""
+    world = Hand()
+
+    async def main() -> None:
+        async with sagas.open(place, world.all) as store:
+            await world.asked(store)
+            await store.retry("t", "kid")
+            await until(lambda: store.get("t/:kid/2"))
+            await until(lambda: [one for one in store.active_attempts("t") if one.waits == "exhausted"])
+            await store.complete("t", "kid", result("t/:kid"))
+        async with sagas.open(place, world.all) as store:
+            await store.abort("t")
+            assert (await store.wait("t", 60)).states["kid"] == "undone"
+            assert (await store.wait("t/:kid:undo", 60)).ok
+
+    run(main())
+    assert world.undone == ["gone t/:kid", "gone t/:kid/2", "first t/:kid"]
+
+
+def test_a_wrong_result_of_before_waits_for_a_person(place: str, monkeypatch: pytest.MonkeyPatch) -> None:
+    """Nobody else's child is undone by it, and nothing hangs."""
+    world = Hand()
+    monkeypatch.setattr(child_results, "check", lambda *words: None)
+
+    async def main() -> None:
+        async with sagas.open(place, world.all) as store:
+            found = await world.asked(store)
+            await store.complete("t", "kid", result("nonsense"))
+            await store.abort("t")
+
+            async def asked() -> list[sagas.Attention]:
+                return await store.attention()
+
+            (one,) = await until(asked)
+            assert (one.key, one.step, one.undo) == ("t", "kid", True) and "no key of a child" in str(one.detail)
+            await store.complete("t", "kid", undo=True)
+            assert (await found.wait(60)).states["kid"] == "undone"
+
+    run(main())
+    assert world.undone == ["gone t/:kid"]
+
+
+def test_open_and_completed_children() -> None:
+    """An open one is neither left nor taken; one that has completed is not forgotten."""
+    rows = [("t/:kid", "recovered"), ("t/:kid/2", "open"), ("t/:kid:undo", "open"), ("t/:kid/x", "open"), ("t/:kid-2", "open")]
+    for key, why in ((None, "its child 't/:kid/2' is open"), ("t/:kid/2", "is open"), ("t/:kid:undo", "is not that of a child of this step")):
+        with pytest.raises(sagas.InvalidResult, match=why):
+            child_results.check("t", "kid", result(key), rows, ["first"])
+    child_results.check("t", "kid", result("t/:kid"), rows, None)
+    with pytest.raises(sagas.InvalidResult, match="has completed, so its key is needed"):
+        child_results.check("t", "kid", result(None), [("t/:kid", "completed")], None)
+    with pytest.raises(sagas.InvalidResult, match="it started none"):
+        child_results.check("t", "kid", result("t/:kid"), [], None)
+
+
+@dataclasses.dataclass
+class Account:
+    number: str
+
+
+def test_what_an_undo_has_of_its_child(place: str) -> None:
+    """Labels, the tenant, and the concurrency of its steps, whose calls are counted with those that undo them."""
+    calls, gate = list[str](), asyncio.Event()
+    child, top = sagas.Saga("child", fair_by=lambda given: given["number"]), sagas.Saga("top")
+
+    def room(task: sagas.Task[Account]) -> None:
+        ...
+
+    step = child.step(room, name="room", keep=9, concurrency=1, concurrency_by=lambda account: account.number)
+
+    @step.compensation
+    async def cancel(task: sagas.Task[Account]) -> None:
+        calls.append(task.key)
+        await gate.wait()
+
+    kid = top.child(child, name="kid", input=lambda task: {"number": task.input})
+
+    def last(task: Task) -> None:
+        raise sagas.Fail("no")
+
+    top.step(last, name="fin", needs=[kid])
+
+    async def main() -> None:
+        async with sagas.open(place, [top, child]) as store:
+            found = [await store.start(top, key, number, labels={"of": number}) for key, number in (("s", "7"), ("t", "7"), ("u", "8"))]
+            await until(lambda: len(calls) == 2)
+            held = "t" if "s/:kid" in calls else "s"
+            await until(lambda: [one for one in store.active_attempts(f"{held}/:kid:undo") if one.waits])
+            (waits,) = await store.waits_for(f"{held}/:kid:undo")
+            assert waits == "room waits for a slot of its concurrency"
+            tenants = {key: one.tenant for key, one in store._inside.sagas.by_key.items() if children.undoes_child(key)}
+            assert tenants == {"s/:kid:undo": '"7"', "t/:kid:undo": '"7"', "u/:kid:undo": '"8"'}
+            assert await store.count(saga="child-undo", labels={"of": "7"}) == 2
+            gate.set()
+            for one in found:
+                assert (await one.wait(60)).states["kid"] == "undone"
+
+    run(main())
+
+
+def test_nobody_starts_what_undoes_a_child(url: str) -> None:
+    """Not even a client that declares a saga of its name."""
+    world = Family()
+
+    async def main() -> None:
+        async with sagas.open(url, world.all, node="one") as store, sagas.Client(url) as client:
+            forged = {"key": "x", "token": "0-0", "input": None, "results": {"a": 1, "b": 1, "c": 1}}
+            (undoing,) = [saga for saga in store._shelf.sagas.values() if saga.undoes is world.child]
+            with pytest.raises(sagas.DefinitionError, match="only parents of such children start it"):
+                await store.start(undoing, "forged", forged)
+            started = await client.start(sagas.Saga("child-undo"), "forged", forged)
+            with pytest.raises(sagas.SagasError, match="'child-undo' undoes 'child' as a child"):
+                await started.wait(60)
+            for key in ("X/:kid", "X/:kid:undo"):
+                with pytest.raises(sagas.InvalidKey):
+                    await client.start(world.child, key)
+
+    run(main())
+    assert world.done == []
+
+
+def test_scopes() -> None:
+    """What undoes a child goes with the child; a saga that only has its name does not."""
+    scope = Scope(frozenset({"leaf"}))
+    for key, sees in (("t/:kid:undo", True), ("t/:kid:undo/2", True), ("t/:kid:undo/:kid", True), ("t:undo", False), ("t:undo/:kid", False)):
+        assert scope.has_saga("leaf-undo", key) == children.undoes_child(key) == sees
+        assert scope.has_saga("leaf", key) and not scope.has_saga("other-undo", key)
+    assert not Scope(frozenset({"leaf"}), frozenset({"s"})).has_saga("leaf-undo", "t/:kid:undo")
+    assert Scope().has_saga("any", None) and not scope.has_saga("leaf-undo", None)
+    assert scope.may_have("leaf-undo") and not scope.has_definition("leaf-undo") and not scope.may_have("other-undo")
+
+
+APP = """
+import sagas
+leaf, plain = sagas.Saga("leaf"), sagas.Saga("plain")
+room = leaf.step(lambda task: 1, name="room", keep=9)
+def closed(task):
+    raise ValueError("closed")
+room.compensation(closed)
+def no(task):
+    raise sagas.Fail("no")
+plain.step(no, name="first")
+top, hand = sagas.Saga("top"), sagas.Saga("hand")
+kid = top.child(leaf, name="kid", input=lambda task: 1)
+top.step(no, name="fin", needs=[kid])
+hand.child(plain, name="kid", input=lambda task: 1, on_exhausted="ask", keep=9)
+store = sagas.open("unused.db", [top, leaf, hand, plain])
+"""
+
+
+def test_over_http(tmp_path: pathlib.Path) -> None:
+    """A token of the child sees what undoes it, and aborts none of it; one of another definition sees nothing. A webhook of the child hears of it."""
+    (tmp_path / "app.py").write_text(APP)
+    receiver, undo = Receiver(), "t/:kid:undo"
+    hooks = written(tmp_path, table(receiver.url, 'definitions = ["leaf"]\ntypes = ["saga.attention"]'))
+    every = token(tmp_path, "every", "operator")
+    leafy = token(tmp_path, "leafy", "operator", "--definition", "leaf")
+    other = token(tmp_path, "other", "operator", "--definition", "plain")
+    words = ("--app", "app:store", "--token-file", str(tmp_path / "tokens.toml"), "--webhooks", hooks, "--local-webhooks")
+    path = f"/v1/sagas/{quote(undo, safe='')}"
+    with served(tmp_path, {"one.toml": ONE}, *words) as service, service.client(every) as client:
+        assert start(client, "top", "t").status_code == start(client, "hand", "h").status_code == 201
+        (told,) = receiver.wait(1)
+        assert told["data"] == {"key": undo, "definition": "leaf-undo", "kind": "exhausted", "step": "room", "undo": False}
+        receiver.server.shutdown()
+        for definition, key, problem in (("leaf-undo", "x", "NoSuchDefinition"), ("leaf", "X/:kid", "InvalidKey"), ("leaf", "X/:kid:undo", "InvalidKey")):
+            assert error_of(start(client, definition, key)) == problem
+        bulk: Json = {"filter": {"definition": "leaf-undo"}, "dry_run": True}
+        with service.client(leafy) as owner, service.client(other) as stranger:
+            assert owner.get(path).json()["definition"] == "leaf-undo" and stranger.get(path).status_code == 404
+            assert owner.get("/v1/sagas/t%2F:kid").status_code == 200
+            assert client.get("/v1/sagas/t").json()["children"][1]["key"] == undo
+            for query, keys in (("", {"t/:kid", undo}), ("?definition=leaf-undo", {undo}), ("?definition=leaf", {"t/:kid"})):
+                assert {one["key"] for one in owner.get(f"/v1/sagas{query}").json()["sagas"]} == keys
+            assert [one["key"] for one in owner.get("/v1/attention?kind=exhausted").json()["entries"]] == [undo]
+            assert error_of(stranger.get("/v1/sagas?definition=leaf-undo")) == "Forbidden"
+            assert stranger.get("/v1/attention?kind=exhausted").json()["entries"] == []
+            assert error_of(start(owner, "leaf-undo", "x")) == error_of(start(owner, "top", "x")) == "Forbidden"
+            for word, body in (("abort", {}), ("what-if", {"abort": True})):
+                assert error_of(owner.post(f"{path}/{word}", json=body)) == "NotAbortable"
+                assert error_of(stranger.post(f"{path}/{word}", json=body)) == "NoSuchSaga"
+            assert owner.post(f"{path}/abort", json={}).json()["detail"].startswith(f"saga '{undo}' undoes a child")
+            told = owner.post("/v1/bulk/abort", json=bulk).json()
+            assert (told["count"], told["keys"], told["undoing"]) == (0, [], 1)
+            told = client.post("/v1/bulk/abort", json={"filter": {}}).json()
+            assert (told["count"], told["keys"], told["undoing"]) == (2, ["t", "h"], 1)
+            assert error_of(stranger.post("/v1/bulk/abort", json=bulk)) == "Forbidden"
+            with service.client() as page:
+                assert page.post("/ui/login", data={"token": every, "next": "/ui"}).status_code == 303
+                assert "Abort…" not in page.get(f"/ui{path.removeprefix('/v1')}").text and "Abort…" in page.get("/ui/sagas/t").text
+                form = page.get("/ui/sagas/h/steps/kid/done").text
+                assert "enter null as the key" in form and "&#34;key&#34;: &#34;h/:kid&#34;" in form
+                assert "enter null as the key" not in page.get("/ui/sagas/t/steps/kid/done?undo=true").text
+            complete, filter = "/v1/sagas/h/steps/kid/complete", {"kind": "exhausted", "definition": "hand", "step": "kid"}
+            assert error_of(stranger.post(complete, json={"result": result(None, results={})})) == "NoSuchSaga"
+            for wrong in (None, result("t/:kid", results={}), result("nonsense", results={})):
+                answer = client.post(complete, json={"result": wrong})
+                assert error_of(answer) == "InvalidResult" and "'h/:kid'" in answer.text and "nonsense" not in answer.text
+            told = client.post("/v1/bulk/complete", json={"filter": filter, "dry_run": False, "count": 1, "result": None}).json()
+            assert told.get("done") == 0, told
+            assert told["refused"][0]["problem"]["status"] == 422
+            assert client.post(complete, json={"result": result("h/:kid", results={})}).status_code == 200
+            assert client.get("/v1/sagas/h/wait").json()["phase"] == "completed"
+            assert owner.post(f"{path}/steps/room/complete", json={"result": None}).status_code == 200  # as any compensation
+            assert client.get("/v1/sagas/t/wait").json()["phase"] == "recovered"
+
+
+def test_archives_hold_parents_and_deadlines(place: str, tmp_path: pathlib.Path) -> None:
+    """Of each saga: null where there is none."""
+    world = Family()
+    world.gate.set()
+
+    async def main() -> None:
+        async with sagas.open(place, world.all) as store:
+            await (await store.start(world.top, "t", deadline=3600)).wait(60)
+
+    run(main())
+    with admin.writing(place) as link:
+        shards = [shard for shard, in link.ask("SELECT shard FROM shards")]
+        folders = [archive.write(link, shard, tmp_path / "archive") for shard in shards]
+    lines = [line for folder in folders if folder for line in (folder / "sagas.jsonl").read_text().splitlines()]
+    told = {row["key"]: row for row in map(json.loads, lines)}
+    assert {key: row["parent"] for key, row in told.items()} == {"t": None, "t/:kid": "t", "t/:kid:undo": "t"}
+    assert told["t"]["deadline"] == told["t/:kid"]["deadline"] > told["t"]["started"] and told["t/:kid:undo"]["deadline"] is None
+
+
+def test_in_a_simulation() -> None:
+    """What a person left in the saga that undoes the child is not asked again; it may be answered."""
+    child, top = sagas.Saga("child"), sagas.Saga("top")
+    step = child.step(lambda task: 1, name="room", keep=9)
+    step.compensation(on_exhausted="fail")(lambda task: None)
+    kid = top.child(child, name="kid", input=lambda task: 1, on_exhausted="ask", keep=9)
+    last = top.step(lambda task: None, name="fin", needs=[kid])
+    for answers, state in (({}, "undo_failed"), ({kid: None}, "undone")):
+        found = sagas.testing.run(top, fail={last: sagas.Fail("no")}, fail_undo={step: 1}, answers=answers)
+        assert found.states["kid"] == state
+    found = sagas.testing.run(top, fail={kid: 1, last: 1}, answers={kid: result(None)})
+    assert found.states["kid"] == "undone" and not found.children
+    world = Hand()
+    found = sagas.testing.run(world.top, "fails", answers={world.kid: result("test/:kid"), "sign": sagas.Fail("no")})
+    assert found.states["kid"] == "undone" and world.undone == ["gone test/:kid", "first test/:kid"]
