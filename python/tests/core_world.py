@@ -34,6 +34,7 @@ from sagas.core.states import ShardState
 from sagas.core.suspensions import SuspensionRow
 from sagas.definition.capacity import SHARD_CAPACITY
 from sagas.definition.compiled import Kind
+from sagas.definition.start_options import StartOptions
 
 Call = tuple[int, int, str, int]
 """The saga's number, the step, `run` or `undo`, the attempt's number."""
@@ -88,7 +89,7 @@ class Store:
         self.chunks: list[str] = []
         self.events = 0
         self.sagas: dict[int, list[Any]] = {}
-        """by id: key, place, input, phase, outcome"""
+        """by id: key, place, input, phase, outcome, deadline"""
         self.attempts: dict[tuple[int, int, str, int], tuple[str, str | None, float]] = {}
         self.suspensions: dict[tuple[int, int, str, int], Any] = {}
         self.newest: tuple[int, int, str, int] | None = None
@@ -109,10 +110,10 @@ class Store:
             self.events += batch.text.count("\n")
             for line in batch.text.splitlines():
                 self.follower.take(json.loads(line))
-        for id, key, _, place, text, *_ in batch.opened:
+        for id, key, _, place, text, _, deadline, _ in batch.opened:
             if id in self.sagas or any(key == row[0] for row in self.sagas.values()):
                 raise Wrong(f"{key} is there")
-            self.sagas[id] = [key, place, text, None, None]
+            self.sagas[id] = [key, place, text, None, None, deadline]
         self.newest = None
         for id, step, kind, number, event, value, at in batch.results:
             recorded = self.attempts.get((id, step, kind, number))
@@ -130,7 +131,7 @@ class Store:
         for phase, end, _, _, _, id in batch.ended:
             if self.sagas[id][3] is not None:
                 raise Wrong(f"saga {id} ends twice")
-            self.sagas[id][3:] = phase, end
+            self.sagas[id][3:5] = phase, end
         if batch.rare:
             for row in batch.rare.held:
                 self.suspensions[row[:4]] = row
@@ -151,7 +152,7 @@ class Store:
             text=self.text,
             events=self.events,
             opened=len(self.sagas),
-            open=[(id, row[0], row[1], row[2], None, None, None) for id, row in sorted(open_ones.items())],
+            open=[(id, *row[:3], row[5], None, None) for id, row in sorted(open_ones.items())],
             results=[(*key, *row) for key, row in self.attempts.items() if key[0] in open_ones],
             held=[row for key, row in self.suspensions.items() if key[0] in open_ones],
             epoch=1,
@@ -289,7 +290,8 @@ class World:
     def _open(self) -> None:
         self.left -= 1
         place = self.random.randrange(len(self.kinds))
-        saga = SagaInstance(f"k{self.left}", "null", self.kinds[place], place)
+        deadline = self.random.choice((None,) * 17 + (0.0, self.now, self.now + 3600))
+        saga = SagaInstance(f"k{self.left}", "null", self.kinds[place], place, StartOptions(deadline=deadline))
         self.known[saga.key] = saga
         self.driver.open(saga)
 
@@ -308,7 +310,8 @@ class World:
     def _turn(self) -> None:
         """Ask what is due; the engine may die before it answers, or between two answers."""
         driver = self.driver
-        lines = driver.requests(self.random.choice((0, 1, 3, 1000)) if driver.reports or driver.opens or driver.aborts else 1000)
+        free = self.random.choice((0, 1, 3, 1000)) if driver.reports or driver.opens or driver.aborts else 1000
+        lines = driver.requests(free, self.now)
         if not lines:
             return
         assert self.engine
@@ -387,11 +390,15 @@ class World:
         driver, rows = self.driver, self.store.load()
         driver.to(ShardState.LOADING)
         driver.loaded(rows)
+        over = {row[0] for row in self.store.sagas.values() if row[3] is not None}
+        for saga in [one for one in driver.sent if one.key in over]:  # as the runtime looks for them
+            del driver.sent[saga]
         asked, new = recovery.unopened(driver, rows, self.known)
         self.engine = self._engine()
-        replies, _ = self.engine.ask(recovery.requests(rows))
+        overdue = recovery.overdue(rows, self.now)
+        replies, text = self.engine.ask(recovery.requests(rows, overdue))
         before = {one for saga in driver.sagas.values() for one in saga.busy.values()} | {*driver.unkept()}
-        found = recovery.recover(rows, replies, self.now, driver, self.known)
+        found = recovery.recover(rows, replies, self.now, driver, self.known, overdue=overdue, log_text=text)
         for saga in found.restored:
             self.known[saga.key] = saga
         for attempt in found.forgotten:
@@ -415,8 +422,11 @@ class World:
     def _done(self, effects: Effects) -> None:
         for attempt in effects.rare.suspended:
             self._do(attempt, self.machine.stored(attempt))
-        for saga in effects.rare.draining:
+        for saga in (*effects.rare.draining, *effects.rare.overdue):
             self._drain(saga)
+        for saga in effects.opened:
+            if saga.is_overdue(effects.batch.at) and not saga.aborted:
+                raise Wrong(f"{saga.key} goes on behind its deadline")
         for abort in effects.rare.aborted:
             if abort.done:
                 self._drain(abort.saga)
@@ -556,7 +566,7 @@ class World:
         if not said.startswith("yes"):
             raise Wrong(f"sagas audit: {said}")
         follower = self.store.follower
-        for id, (key, _, _, phase, end) in self.store.sagas.items():
+        for id, (key, _, _, phase, end, _) in self.store.sagas.items():
             state, told = follower.sagas[id % SHARD_CAPACITY], json.loads(end)
             if (phase, told["states"], told["aborted"]) != (state.phase, state.states, state.aborted):
                 raise Wrong(f"{key}: {phase} {told}, where the log says {state.phase} {state.states}")

@@ -97,7 +97,7 @@ def test_what_needs_a_person(
             try:
                 assert told(looks.ask(lists.attention())) == WANTED
                 assert looks.ask(lists.asked()) == {
-                    "stuck": 1, "undo_failed": 1, "unknown": 1, "exhausted": 0, "cannot_decode": 0, "damaged": 0,
+                    "stuck": 1, "undo_failed": 1, "unused_report": 0, "unknown": 1, "exhausted": 0, "cannot_decode": 0, "damaged": 0,
                     "approval": 0,
                 }
             finally:
@@ -109,7 +109,7 @@ def test_what_needs_a_person(
     capsys.readouterr()
     assert store_command.main([place, "attention", "--json"]) == 0
     shown = json.loads(capsys.readouterr().out)
-    assert [tuple(one.values())[:-1] for one in shown] == WANTED
+    assert [tuple(one.values())[:6] for one in shown] == WANTED
     assert store_command.main([place, "attention"]) == 0
     assert "gone     shop  undo failed      take (undo)" in capsys.readouterr().out
 

@@ -187,6 +187,7 @@ def test_counts_stuck_and_waiting(shell: Shell) -> None:
         "sagas": {"shop": {"open": 1, "completed": 1, "recovered": 0, "stuck": 1, "resolved": 0}, "signed": {"open": 2, "completed": 0, "recovered": 0, "stuck": 0, "resolved": 0}},
         "undo_failed": 0,
         "attention_required": 3,
+        "unused_report": 0,
         "damaged": 0,
     }
     assert "3 wait for a person" in shell("stats")

@@ -8,6 +8,7 @@ import gc
 import os
 import pathlib
 import signal
+import time
 from typing import Any
 
 import pytest
@@ -177,6 +178,124 @@ def test_of_another_node(url: str) -> None:
     assert events.count("saga_overdue") == 1
 
 
+def chain(clock: Clock, late: str = "", dies: str = "") -> tuple[sagas.Saga, list[tuple[str, str | None]]]:
+    """Steps in a row, what they hear of an abort, and a clock that goes past the deadline in one of them."""
+    saga, calls = sagas.Saga("chain"), list[tuple[str, str | None]]()
+
+    def each(task: Task) -> None:
+        calls.append((task.step, task.cancelled.reason))
+        if task.step == late:
+            clock.now += 3600
+        if task.step == dies:
+            os.kill(os.getpid(), signal.SIGKILL)
+
+    before: list[Any] = []
+    for name in "abc":
+        step = saga.step(name=name, needs=before, keep=9, undo=1)(each)
+        step.compensation(lambda task: None)
+        before = [step]
+    return saga, calls
+
+
+def test_nothing_begins_of_a_start_that_is_late(place: str) -> None:
+    """It is started and aborted at once: also with others, with steps that come from the input, and encoded. The same start again is the
+    same saga."""
+    kind, calls = chain(Clock())
+    each = sagas.Saga("each")
+    item = each.step(name="item", for_each=lambda input: input["items"])(lambda task: calls.append(("item", None)))
+    each.step(name="last", needs=[item])(lambda task: None)
+    events = list[tuple[str, str]]()
+
+    class Codec:
+        def encode(self, data: bytes) -> bytes:
+            return data[::-1]
+
+        decode = encode
+
+    async def main() -> None:
+        past = datetime.datetime.now(UTC) - datetime.timedelta(days=30)
+        heard = lambda one: events.append((one.key, one.name))
+        async with sagas.open(place, [kind, each], codec=Codec(), on_event=heard) as store:
+            starts = [store.start(kind, f"late{n}", labels={"n": str(n)}, deadline=past) for n in range(3)]
+            starts += [store.start(kind, "soon", deadline=3600), store.start(kind, "zero", deadline=0)]
+            starts += [store.start(each, "each", {"items": [1, 2]}, deadline=past), store.start(kind, "none")]
+            runs = await asyncio.gather(*starts)
+            assert all(run.new for run in runs)
+            ends = {run.key: await run.wait(60) for run in runs}
+            assert {key for key, end in ends.items() if end.aborted} == {run.key for run in runs} - {"soon", "none"}
+            assert {*ends["each"].states.values()} == {*ends["zero"].states.values()} == {"waiting"}
+            assert sorted(calls) == sorted((step, None) for step in "abc" for _ in range(2))
+            again = await store.start(kind, "late0", deadline=3600)
+            assert not again.new and (await again.wait(60)).aborted and len(calls) == 6
+            assert [one.event for one in await store.log("late1")] == ["open", "abort", "start_plan", "adopt"]
+            with pytest.raises(sagas.KeyConflict):
+                await store.start(kind, "late0", {"another": 1}, deadline=past)
+            assert all(said.startswith("yes") for said in (await store.audit()).values())
+        first = [name for key, name in events if key == "zero"]
+        assert first == ["saga_started", "saga_overdue", "saga_aborted", "plan_adopted", "saga_ended"]
+
+    run(main())
+
+
+def test_nothing_begins_behind_the_deadline_of_a_saga_that_is_taken_up(place: str) -> None:
+    """Its program died in a step, which may have had its effect: it is called again, hears of the abort, and is undone. Nothing else begins:
+    in the next program of a file, and at the node that takes a shard over."""
+    if (child := os.fork()) == 0:
+        kind, _ = chain(Clock(), dies="a")
+
+        async def first() -> None:
+            async with sagas.open(place, [kind], node="one", lease=1) as store:
+                await (await store.start(kind, "k", deadline=60)).wait()
+
+        try:
+            asyncio.run(first())
+        finally:
+            os._exit(1)
+    assert os.waitstatus_to_exitcode(os.waitpid(child, 0)[1]) == -signal.SIGKILL
+    clock, events = Clock(), list[str]()
+    clock.now = time.time() + 61
+    kind, calls = chain(clock)
+
+    async def second() -> None:
+        heard = lambda one: events.append(one.name)
+        async with sagas.open(place, [kind], node="two", lease=1, clock=clock, on_event=heard) as store:
+            end = await until(lambda: store.get("k")) and await store.wait("k", 60)
+            assert end.aborted and end.states == {"a": "undone", "b": "waiting", "c": "waiting"}
+            assert calls == [("a", "aborted")]
+            assert all(said.startswith("yes") for said in (await store.audit()).values())
+
+    run(second())
+    assert events.count("saga_overdue") == events.count("saga_aborted") == 1
+
+
+def test_no_step_begins_behind_a_deadline(place: str) -> None:
+    """It passes while a step runs: the next one does not begin, though nobody has looked at the time since."""
+    clock = Clock()
+    clock.now = time.time()
+    kind, calls = chain(clock, late="b")
+
+    async def main() -> None:
+        async with sagas.open(place, [kind], clock=clock) as store:
+            end = await (await store.start(kind, "k", deadline=60)).wait(60)
+            assert end.aborted and end.states == {"a": "undone", "b": "undone", "c": "waiting"}
+            assert calls == [("a", None), ("b", None)]
+
+    run(main())
+
+
+def test_a_client_that_is_late(url: str) -> None:
+    """Its start is taken by a node, and aborted at once."""
+    kind, calls = chain(Clock())
+
+    async def main() -> None:
+        async with sagas.open(url, [kind]), sagas.Client(url) as client:
+            started = await client.start(kind, "k", deadline=datetime.datetime.now(UTC) - SOON)
+            end = await started.wait(60)
+            assert started.new and end.aborted and calls == []
+
+    run(main())
+
+
 def test_in_a_simulation() -> None:
     """The clock advances to it, and no further than it has to."""
     kind = sagas.Saga("days")
@@ -187,6 +306,11 @@ def test_in_a_simulation() -> None:
     ended = sagas.testing.run(kind, deadline=datetime.timedelta(days=1))
     assert ended.aborted and ended.seconds == 86400 and ended.states == {"later": "waiting"}
     assert sagas.testing.run(kind, deadline=datetime.timedelta(days=4)).ok
+    chained, calls = chain(Clock())
+    past = datetime.datetime(1971, 1, 1, tzinfo=UTC)
+    for deadline in (0, past):
+        ended = sagas.testing.run(chained, deadline=deadline)
+        assert ended.aborted and ended.seconds == 0 and calls == []
 
 
 @pytest.mark.parametrize(

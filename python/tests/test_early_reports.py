@@ -294,3 +294,44 @@ def test_in_a_simulation() -> None:
     assert trial.states["flight"] == "failed" and trial.states["open"] == "undone"
     with pytest.raises(ValueError, match="neither an approval nor external"):
         sagas.testing.run(saga, early={"pack": 1})
+
+
+@pytest.mark.parametrize("way", ["abort", "failure"])
+def test_one_whose_needs_are_committed_is_committed_before_a_recovery(place: str, way: str) -> None:
+    """No slot is free for it, and its saga is aborted, or a step fails: it is undone as any other. So is one that needs it."""
+    saga, calls, gate = sagas.Saga("order"), list[Any](), asyncio.Event()
+
+    @saga.step(keep=9)
+    def reserve(task: Task) -> None: ...
+
+    reserve.compensation(lambda task: calls.append("release"))
+
+    @saga.step(name="check", needs=[reserve], undo=0)
+    async def check(task: Task) -> None:
+        await gate.wait()
+        if way == "failure":
+            raise sagas.Fail("no")
+
+    pay = saga.step(name="pay", external=True, needs=[reserve], keep=9)
+    ship = saga.step(name="ship", external=True, needs=[pay], keep=9)
+    for step in (pay, ship):
+        step.compensation(lambda task: calls.append((task.step, task.result, task.attempt)))
+
+    async def main() -> None:
+        async with sagas.open(place, [saga], concurrency=1) as store:
+            run = await store.start(saga, "k")
+            await until(lambda: [one for one in store.active_attempts("k") if one.step == "check"])
+            await store.complete("k", "ship", "boxed")
+            await store.complete("k", "pay", {"euros": 40})
+            if way == "abort":
+                asyncio.get_running_loop().call_later(0.05, gate.set)
+                assert await run.abort()
+            gate.set()
+            end = await run.wait(60)
+            check_ends = "failed" if way == "failure" else "undone"
+            assert end.states == {"reserve": "undone", "check": check_ends, "pay": "undone", "ship": "undone"}
+            assert calls == [("ship", "boxed", 1), ("pay", {"euros": 40}, 1), "release"]
+            assert await store._access.inside.store.read("SELECT 1 FROM suspensions") == []
+            assert all(said.startswith("yes") for said in (await store.audit()).values())
+
+    run(main())

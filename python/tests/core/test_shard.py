@@ -147,6 +147,25 @@ def test_a_shard_that_is_full_takes_no_more() -> None:
         empty.replies(['{"refused":"log-full"}'], "", NOW)
 
 
+def test_a_saga_whose_deadline_has_passed_is_aborted_as_it_is_opened() -> None:
+    """No task of it is claimed: it is planned, and over in the batch that opens it. Where there is no room, it is opened elsewhere."""
+    shard, soon = driver(), instance("soon")
+    late, later = (SagaInstance(key, '{"n":1}', SHELF.kinds[0], 0, StartOptions(deadline=NOW)) for key in "ab")
+    for saga in (soon, late, later):
+        shard.open(saga)
+    assert shard.requests(1, NOW)[3:] == [
+        '{"do":"abort","saga":1}', '{"do":"abort","saga":2}', '{"do":"next","most":3}', '{"do":"show","saga":1}',
+        '{"do":"show","saga":2}',
+    ]  # fmt: skip
+    plan = {"answer": {"kind": "plan", "cost": 3}, "phase": "ended", "saga": 1, "task": "plan"}
+    claimed = json.dumps({"tasks": [{"attempt": 1, "saga": 0, "step": 0, "task": "run"}, plan]})
+    aborted, no = event("abort", "draining", 1), '{"refused":"no-such-saga"}'
+    end = shown("ended", plan["answer"], ["waiting", "waiting"])
+    effects = kept(shard, come(shard, opened(0), opened(1), '{"refused":"full"}', aborted, no, claimed, end, no))
+    assert effects.rare.overdue == effects.ended == [late] and late.aborted and effects.opened == [soon, late]
+    assert effects.rare.displaced == [later] and not later.aborted and [one.instance for one in effects.dispatch] == [soon]
+
+
 def test_an_engine_that_knows_something_else() -> None:
     """Another number of replies, a report of what is not on its way, an open with another number: the shard is recovered."""
     shard = driver()

@@ -19,7 +19,7 @@ from hypothesis import strategies as st
 import sagas
 from sagas.core import model, shard, states
 
-MOVES, SAGAS = 20_000, 120
+MOVES, SAGAS = 20_000, 135
 ENDS: dict[str, dict[str, Any]] = {
     "asks": {"on_exhausted": "ask"}, "goes on": {"on_exhausted": "retry"}, "many": {"max_attempts": 5},
 }

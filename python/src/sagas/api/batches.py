@@ -15,6 +15,7 @@ from sagas.core.attention import Attention
 from sagas.core.results import DefinitionCount, Summary
 from sagas.definition import arguments
 from sagas.definition.labels import Labels, checked, selecting
+from sagas.definition.payloads import Payloads
 from sagas.definition.saga import Saga
 from sagas.inspection import lists, pages, unmatched
 from sagas.inspection.question import Question
@@ -58,6 +59,9 @@ class Batches:
     """What stores and clients share."""
 
     async def _answer(self, question: Question[T]) -> T:
+        raise NotImplementedError
+
+    def _stored(self) -> Payloads:
         raise NotImplementedError
 
     def _location(self) -> str:
@@ -136,7 +140,8 @@ class Batches:
         """Return what needs a person, the oldest first.
 
         That is: stuck sagas, and those of which a compensation failed permanently, until somebody
-        resolves them; steps and compensations whose attempts are used up (`on_exhausted="ask"`);
+        resolves them; successes that were reported before their steps began, and that their sagas
+        did not use; steps and compensations whose attempts are used up (`on_exhausted="ask"`);
         attempts with an unknown outcome that are not repeated; and attempts whose stored values
         no program could read.
 
@@ -149,7 +154,7 @@ class Batches:
             Closed: The store is closed.
         """
         arguments.count("limit", limit)
-        return await self._answer(lists.attention(limit))
+        return await self._answer(lists.attention(limit, self._stored().decode))
 
     async def abort_all(
         self,

@@ -53,7 +53,7 @@ SELECT step, action, reason, until FROM suspensions WHERE id = ? AND number > 0 
 LEFT_BY = f"SELECT i.version, {queries.OTHERS} FROM pending_starts i WHERE i.id = %(id)s"
 RESOLVE = f"""
 WITH done AS (
-    UPDATE sagas SET note = %(note)s
+    UPDATE sagas AS s SET note = %(note)s
     WHERE key = %(key)s AND {queries.RESOLVABLE} AND note IS NULL RETURNING 1
 ),
 noted AS (INSERT INTO operator_commands(key, command, value, at, answer)
@@ -358,7 +358,19 @@ class Client(Schedules):
         note = serialization.clean(note)
         told = serialization.write({"by": by, "note": note})
         if not await self._ask(RESOLVE, key=key, note=note, told=told):
-            attention.is_to_resolve(await self._row(key), note)
+            row = await self._row(key)
+            unused = await self._ask(queries.named(attention.UNUSED, "id"), id=row.id)
+            attention.is_to_resolve(row, note, bool(unused))
+
+    async def compensate(
+        self, key: str, step: Step[Any] | str, *, by: str | None = None, note: str | None = None
+    ) -> None:
+        """Have a step compensated whose report was not used. See `Store.compensate`.
+
+        A node that has the definition does it.
+        """
+        told = {"step": step if isinstance(step, str) else step.name, "by": by, "note": note}
+        await self._request(await self._row(key), "compensate", serialization.write(told))
 
     async def plan(self, key: str) -> Plan | None:
         """Return a saga's last plan. See `Store.plan`."""

@@ -269,7 +269,8 @@ class Commands:
         """Mark a saga as seen to by a person."""
         inside, row = self._access.inside, await self._lookup.row(key)
         note = serialization.clean(note)
-        if not attention.is_to_resolve(row, note):
+        unused = await inside.store.read(attention.UNUSED, row.id)
+        if not attention.is_to_resolve(row, note, bool(unused)):
             return
         batch, told = Batch(-1, inside.clock()), serialization.write({"by": by, "note": note})
         batch.more.notes.append((note, row.id))

@@ -9,8 +9,9 @@ from sagas.api.commands import Commands
 from sagas.api.questions import Questions
 from sagas.api.saga_lookup import SagaLookup
 from sagas.api.store_access import StoreAccess
+from sagas.api.unused_reports import UnusedReports
 from sagas.core.outcomes import reported
-from sagas.definition import arguments
+from sagas.definition import arguments, serialization
 from sagas.definition.payloads import Payloads
 from sagas.definition.step import Step
 from sagas.runtime import operator_commands
@@ -24,6 +25,7 @@ class Operators(Questions):
         self._name = name
         self._lookup = SagaLookup(access)
         self._commands = Commands(access, self._lookup)
+        self._reports = UnusedReports(access, self._lookup)
 
     def _stored(self) -> Payloads:
         return self._access.inside.shelf.payloads
@@ -64,7 +66,7 @@ class Operators(Questions):
         When it returns, the report is durable. The same report again is not an error, also after
         the saga has ended. If an approval or an external step has not begun, its report is stored:
         the step takes it when it begins, and calls no function. If the saga ends without the
-        step, the report has no effect.
+        step, the report is in `attention` (see `compensate`).
 
         A step that starts a child is completed with a `ChildResult`: `{"key": "t/:stay", "phase":
         "completed", "results": {"room": 7}}`. The key is that of a child which this step started
@@ -120,8 +122,39 @@ class Operators(Questions):
         asked = self._commands.noted(key, "fail", by, note, **words, error=error)
         await self._commands.report(key, name, outcome, undo, asked, early=early)
 
+    async def compensate(
+        self, key: str, step: Step[Any] | str, *, by: str | None = None, note: str | None = None
+    ) -> None:
+        """Have a step compensated that was reported before it began, and not used.
+
+        Such a report is in `attention` as `unused_report`. A saga with the key `KEY/:STEP:undo`
+        calls the compensation with the result that was reported. When this returns, that saga is
+        durable: its compensation is retried until it succeeds, and is not called again after that.
+        The same call again is not an error.
+
+        Args:
+            key: The saga's key.
+            step: The step, or its name.
+            by: Who asks for it. The store keeps the command with `note` and the time.
+            note: Why.
+
+        Raises:
+            NoSuchSaga: No saga has the key.
+            StepNotWaiting: The saga has no unused report of the step, is open, or is resolved; or
+                the step has no compensation that a saga can call.
+            InvalidKey: The key of that saga would be too long.
+            CannotDecode: The codec cannot read what is stored.
+            StoreUnavailable: The database does not answer.
+            Closed: The store is closed.
+        """
+        self._access.here()
+        name = step if isinstance(step, str) else step.name
+        told = serialization.write({"by": by, "note": note, "step": name})
+        asked = key, "compensate", told, self._access.inside.clock()
+        await self._reports.compensate(key, name, asked)
+
     async def resolve(self, key: str, note: str, *, by: str | None = None) -> None:
-        """Mark a saga as seen to: a stuck one, or one with a failed compensation.
+        """Mark a saga as seen to: stuck, with a failed compensation or unused report.
 
         Nothing runs and nothing is undone by it. The store keeps the note with the time. The same
         note again is not an error.

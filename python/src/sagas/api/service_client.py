@@ -117,7 +117,7 @@ class ServiceClient:
             input: What its steps get, as JSON (default: None).
             labels: Texts by name, by which lists find it (default: none).
             deadline: Seconds, a timedelta, or a datetime with a time zone, after which it is
-                aborted (default: as its definition says).
+                aborted (default: as its definition says). One that has passed aborts it at once.
             version: The version of the definition (default: the newest).
             traceparent: The W3C trace context of its start (default: of the current span, if any).
 

@@ -101,6 +101,7 @@ class Store(RetryCalls):
             StoreAccess("PostgreSQL" if factory.is_url(self._name) else self._name), self._name
         )
         self._starter = Starter(self._access, self._lookup, self._shelf, accept_new)
+        self._reports.starter = self._starter
         self._requests: operator_commands.Requests | None = None
         self.workers = Workers(self._access)
         self.deliveries = Deliveries(self._access, self._shelf)
@@ -161,13 +162,17 @@ class Store(RetryCalls):
         except BaseException:
             await coordinator.close(0.0)
             raise
-        self._requests = operator_commands.Requests(coordinator, self._commands)
+        self._requests = operator_commands.Requests(coordinator, self._commands, self._reports)
         coordinator.listeners.append(self._requests.look)
         if self._starter.accepts_new:
             coordinator.listeners.append(coordinator.starts().look)
             scheduler = Scheduler(coordinator, self._start_scheduled, self._advance)
             coordinator.listeners.append(scheduler.look)
             coordinator.spawn(scheduler.run())
+        steps = [step for saga in self._shelf.sagas.values() for step in saga.all_steps]
+        if any(step.early_unused == "compensate" for step in steps):
+            coordinator.sagas.unused = self._reports.look
+            coordinator.spawn(self._reports.run())
         database.watch(coordinator)
         if isinstance(database, BlobDatabase):
             coordinator.spawn(blob_sweep.sweep(database))
@@ -293,7 +298,8 @@ class Store(RetryCalls):
                 none). The labels of the first start of a key count.
             deadline: When the saga is aborted if it has not ended: seconds or a timedelta from now
                 on, or a datetime with a time zone (default: that of `Saga`). That of the first
-                start of a key counts.
+                start of a key counts. One that has passed aborts the saga at once, and calls
+                no function.
             traceparent: The W3C trace context that the saga is started in (default: of the current
                 span, where `opentelemetry-api` is installed). That of the first start of a key
                 counts.

@@ -189,6 +189,7 @@ class SyncStore(Facade[Store]):
     complete_all = blocking(Store.complete_all)
     fail_all = blocking(Store.fail_all)
     fail = blocking(Store.fail)
+    compensate = blocking(Store.compensate)
     resolve = blocking(Store.resolve)
     abort_all = blocking(Store.abort_all)
     resolve_all = blocking(Store.resolve_all)

@@ -69,6 +69,7 @@ LEVELS = {
     "saga_overdue": logging.WARNING,
     "saga_stuck": logging.ERROR,
     "saga_undo_failed": logging.ERROR,
+    "saga_unused_report": logging.WARNING,
     "shards_pruned": logging.INFO,
     "audit_failed": logging.CRITICAL,
     "engine_died": logging.WARNING,

@@ -83,6 +83,11 @@ def what_is_asked(link: admin.Source, key: str, what: str, value: Any) -> int | 
     if not found:
         raise link.absent(key)
     ((id, phase),) = found
+    if what == "compensate":
+        if phase == "open":
+            raise Trouble(f"{key} has not ended, so there is nothing to compensate")
+        check_step(link, key, id, value["step"])
+        return int(id)
     if phase == "stuck":
         raise Trouble(
             f"{key} is stuck, so there is nothing to {what}. After the repair, run `resolve`"
@@ -230,6 +235,18 @@ def retry(path: str, words: argparse.Namespace) -> int:
     """Attempt a step again whose attempts are used up, or whose outcome is unknown."""
     check_steps(words, "retry")
     return answer(path, words, "retry", {}, "is attempted again", "not retried")
+
+
+def compensate(path: str, words: argparse.Namespace) -> int:
+    """Have a step compensated that was reported before it began, and not used.
+
+    `attention` lists such reports. A program that has the saga's definition starts a saga that
+    calls the compensation, now or when it opens the store.
+    """
+    value = {"step": words.step} | ({"note": words.note} if words.note else {})
+    undo = children.key_of(words.key, words.step, undo=True)
+    done = f"{words.step} is compensated, by the saga {undo}"
+    return request(path, words, "compensate", value, done, "not compensated")
 
 
 def check_steps(words: argparse.Namespace, what: str) -> None:

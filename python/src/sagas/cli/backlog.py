@@ -28,6 +28,7 @@ NEEDS = {
     AttentionReason.UNKNOWN: "unknown outcome",
     AttentionReason.EXHAUSTED: "attempts used up",
     AttentionReason.CANNOT_DECODE: "cannot be decoded",
+    AttentionReason.UNUSED_REPORT: "unused report",
     AttentionReason.DAMAGED: "damaged shard",
 }
 """Why a saga needs a person, in words."""
@@ -102,6 +103,7 @@ def stats(path: str, words: argparse.Namespace) -> int:
     persons = sum(asked[why] for why in ("unknown", "exhausted", "cannot_decode", "approval"))
     if words.json:
         counts = {"undo_failed": undo_failed, "attention_required": persons}
+        counts |= {"unused_report": asked["unused_report"]}
         show_json({"sagas": told, **counts, "damaged": asked["damaged"]})
         return GOOD
     rows = [(saga, *of.values()) for saga, of in told.items()]
@@ -112,6 +114,8 @@ def stats(path: str, words: argparse.Namespace) -> int:
             f"{undo_failed} with a permanently failed compensation: {command} list "
             "--phase undo_failed"
         )
+    if unused := asked["unused_report"]:
+        said.append(f"{unused} with a report that was not used: {command} attention")
     if persons:
         wait = "waits" if persons == 1 else "wait"
         said.append(f"{persons} {wait} for a person: {command} pending")
@@ -163,8 +167,8 @@ def stuck(path: str, words: argparse.Namespace) -> int:
 def attention(path: str, words: argparse.Namespace) -> int:
     """List what needs a person.
 
-    That is: stuck sagas, failed compensations, attempts that are used up, unknown outcomes that are
-    not repeated, and stored values that no program could read.
+    That is: stuck sagas, failed compensations, reports that were not used, attempts that are used
+    up, unknown outcomes that are not repeated, and stored values that no program could read.
     """
     with Snapshot(path) as store:
         entries = store.ask(lists.attention(words.limit or lists.ALL))
@@ -172,11 +176,18 @@ def attention(path: str, words: argparse.Namespace) -> int:
         show_json([dataclasses.asdict(one) for one in entries])
         return GOOD
     cells = [
-        (one.key, one.saga, NEEDS[one.why], _meant(one), moment(one.since), short(one.detail))
+        (one.key, one.saga, NEEDS[one.why], _meant(one), moment(one.since), short(_detail(one)))
         for one in entries
     ]
     print(table(["KEY", "SAGA", "WHY", "STEP", "SINCE", "DETAIL"], cells))
     return GOOD
+
+
+def _detail(one: Attention) -> str | None:
+    """What is said of it; of a report that was not used its result, and who reported it."""
+    if one.why is not AttentionReason.UNUSED_REPORT:
+        return one.detail
+    return f"{one.detail} by {one.by}" if one.by else one.detail
 
 
 def _meant(one: Attention) -> str:

@@ -118,7 +118,7 @@ def show_count(
 
 
 def resolve(path: str, words: argparse.Namespace) -> int:
-    """Mark sagas as resolved that are stuck, or have a failed compensation."""
+    """Mark sagas as resolved that are stuck, or have a failed compensation or unused report."""
     check_keys(words, bool(words.key))
     if words.key and words.count:
         raise Trouble("--count needs --all", 2)

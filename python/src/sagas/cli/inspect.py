@@ -105,6 +105,7 @@ def show(path: str, words: argparse.Namespace) -> int:
         ("parent", view.parent.key if view.parent else ""),
         *(("child", f"{one.key} ({one.phase})") for one in view.children),
         ("input", short(view.input, 200)),
+        ("unused", "" if view.note else ", ".join(f"report of {one}" for one in view.unused)),
         ("resolved", resolved_text(view)),
         ("note", one_line(view.note)),
     ]

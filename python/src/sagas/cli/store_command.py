@@ -1,8 +1,8 @@
 """`sagas store STORE ..`: its words and its errors.
 
-What only looks changes nothing. `abort`, `complete`, `fail` and `retry` leave a request in the
-store, which the program that has it open (or the next one that opens it) takes up; `resolve` marks
-stuck sagas as seen to by a person.
+What only looks changes nothing. `abort`, `complete`, `fail`, `retry` and `compensate` leave a
+request in the store, which the program that has it open (or the next one that opens it) takes up;
+`resolve` marks sagas as seen to by a person.
 """
 
 from __future__ import annotations
@@ -15,7 +15,7 @@ from collections.abc import Callable
 from sagas.base.errors import SagasError
 from sagas.base.option_values import not_negative
 from sagas.cli import nodes as nodes_module
-from sagas.cli.actions import abort, complete, fail, retry
+from sagas.cli.actions import abort, compensate, complete, fail, retry
 from sagas.cli.app_option import words_of_app
 from sagas.cli.audits import audit
 from sagas.cli.blobs import own_blobs, words_of_blobs
@@ -46,6 +46,7 @@ EXAMPLES = {
     "complete": "complete order-1 review --result '\"yes\"'",
     "fail": 'fail order-1 review "unknown customer"',
     "retry": "retry order-1 charge",
+    "compensate": "compensate order-1 charge",
     "resolve": 'resolve order-1 --note "sent by courier"',
     "export": "export order-1 > order-1.json",
     "schedules": "schedules pause nightly",
@@ -65,6 +66,7 @@ REFUSED = {
         ("complete", "fail"), "no saga or step has the name, or the report is rejected"
     ),
     "retry": "no saga or step has the name, or the step cannot be attempted again",
+    "compensate": "no saga or step has the name, or no report of the step is unused",
     "resolve": "a saga does not exist, or does not need to be resolved",
     "audit": "a shard has an event that was not allowed, or differs from the rows",
     "record": "a record is not allowed, or something that was acknowledged is missing",
@@ -196,6 +198,10 @@ def add_asks(add: Add) -> None:
     part.add_argument("--error", metavar="TEXT", dest="why", help="with --all: why they failed")
     add_early(part)
     add_steps(add("retry", retry), "retry")
+    part = add("compensate", compensate, key=True)
+    part.add_argument("step", metavar="STEP", help="the step's name")
+    add_note(part)
+    add_timeout(part)
     part = add("resolve", resolve)
     part.add_argument("key", metavar="KEY", nargs="*", help="the sagas' keys")
     part.add_argument(

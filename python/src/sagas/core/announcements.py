@@ -10,6 +10,7 @@ import hashlib
 import json
 from typing import TYPE_CHECKING, Any
 
+from sagas.core import early_reports
 from sagas.core.batch import Delivery
 from sagas.core.states import EnginePhase, Suspension, undo_failures
 
@@ -27,12 +28,19 @@ ASKED = (Suspension.APPROVAL, Suspension.EXHAUSTED, Suspension.CANNOT_DECODE)
 
 
 def of_end(saga: SagaInstance, id: int, phase: str, recovered: bool, at: float) -> list[Delivery]:
-    """What is told of a saga's end: how it ended, and each compensation that failed for good."""
+    """What is told of a saga's end: how it ended, each compensation that failed for good, and each
+    report that was not used and that a person has to see to.
+    """
     kind = RECOVERED if recovered else COMPLETED
     found = _rows(saga, id, STUCK if phase == EnginePhase.STUCK else kind, {}, at, "end")
     for step in undo_failures(saga.end) if recovered and saga.kind.hooks.get(ATTENTION) else ():
         more = {"kind": "undo_failed", "step": saga.kind.names[step], "undo": True}
         found += _rows(saga, id, ATTENTION, more, at, f"undo_failed {step}")
+    for step in early_reports.unused(saga):
+        declared = saga.kind.steps[step]
+        if declared is None or declared.early_unused == "ask":
+            more = {"kind": "unused_report", "step": saga.kind.names[step], "undo": False}
+            found += _rows(saga, id, ATTENTION, more, at, f"unused_report {step}")
     return found
 
 

@@ -22,6 +22,9 @@ class AttentionReason(enum.StrEnum):
     UNDO_FAILED = "undo_failed"
     """It has ended, a compensation failed permanently, and the step's effect is still there: see
     `Store.resolve`."""
+    UNUSED_REPORT = "unused_report"
+    """It has ended, and a success that was reported of a step before it began was not used: what
+    the step did elsewhere is still there (`Store.compensate`, `Store.resolve`)."""
     UNKNOWN = "unknown"
     """An attempt's outcome is unknown, and it is not repeated: see `Store.complete`."""
     EXHAUSTED = "exhausted"
@@ -47,8 +50,10 @@ class Attention:
             damaged.
         undo: Whether the step's compensation is meant.
         detail: What was raised or cannot be read; of a stuck saga, the blocking steps and what
-            the step raised.
+            the step raised; of an unused report its result as JSON, or None if it cannot be
+            decoded.
         since: Wall time, in seconds since 1970; of a damaged shard, of its last commit.
+        by: Of an unused report: who reported it, as far as that is known.
     """
 
     key: str
@@ -58,19 +63,28 @@ class Attention:
     undo: bool
     detail: str | None
     since: float
+    by: str | None = None
 
 
-def is_resolvable(phase: str | None, end: str | None) -> bool:
+UNUSED = """
+SELECT step, detail FROM suspensions WHERE id = ? AND number = 0 AND reason = 'early_result'
+"""
+"""The reports of a saga that were not used, once it has ended."""
+
+
+def is_resolvable(phase: str | None, end: str | None, has_unused: bool) -> bool:
     """Whether a saga is one that a person resolves: stuck, or ended with a compensation that failed
-    for good."""
-    return phase == "stuck" or (phase == "ended" and bool(undo_failures(end or "")))
+    for good, or without a report that was accepted."""
+    is_failed = phase == "ended" and bool(undo_failures(end or ""))
+    return phase == "stuck" or is_failed or (phase is not None and has_unused)
 
 
-def is_to_resolve(row: SagaRow, note: str) -> bool:
-    """Whether a note is to be stored; False where a person wrote the same one before.
+def is_to_resolve(row: SagaRow, note: str, has_unused: bool) -> bool:
+    """Whether a note is to be stored; False where a person wrote the same one before. `has_unused`:
+    whether `UNUSED` has rows of it.
 
     Raises `StepNotWaiting` where another note stands, and of any saga that nobody resolves."""
-    if not is_resolvable(row.phase, row.end):
+    if row.note is None and not is_resolvable(row.phase, row.end, has_unused):
         raise not_resolvable(row.key)
     if row.note is not None and row.note != note:
         raise StepNotWaiting(
@@ -82,6 +96,6 @@ def is_to_resolve(row: SagaRow, note: str) -> bool:
 def not_resolvable(key: str) -> StepNotWaiting:
     """What is said of a saga that is neither stuck nor has a failed compensation."""
     return StepNotWaiting(
-        f"saga {key!r} does not need to be resolved: it is not stuck, and none of its "
-        "compensations failed permanently"
+        f"saga {key!r} does not need to be resolved: it is not stuck, none of its "
+        "compensations failed permanently, and it has no unused report"
     )

@@ -90,6 +90,9 @@ class Rare:
     asked: list[tuple[Asked, str]]
     """requests that have no row yet, with their answers"""
     notes: list[tuple[str, int]]
+    undone: list[tuple[int, int]]
+    """reports that their sagas did not use, and of which nothing is left to be undone, or other
+    sagas undo it: saga, step"""
     begun: list[tuple[int, int | None]]
     """starts of clients (`Start`) that are done with, each with the saga that it is, which is asked
     what was asked of the start; None where its key has another saga"""

@@ -7,7 +7,8 @@ takes them. Where no attempt does, they stay with the saga: the same report agai
 from __future__ import annotations
 
 import dataclasses
-from typing import TYPE_CHECKING
+from collections.abc import Iterable
+from typing import TYPE_CHECKING, NamedTuple
 
 from sagas.base.errors import CannotDecode
 from sagas.core.batch import HeldRow, Wanted
@@ -25,6 +26,7 @@ ATTEMPT = 0
 KINDS = {
     EarlyReason.RESULT: OutcomeKind.SUCCEEDED,
     EarlyReason.ERROR: OutcomeKind.FAILED_PERMANENTLY,
+    EarlyReason.UNDONE: OutcomeKind.SUCCEEDED,
 }
 STORED = "a report of it is stored, and is used when it begins"
 NOT_STARTED = "it has not started. Report it after it starts"
@@ -65,6 +67,14 @@ class EarlyReport:
         return (self.saga.id, *self.word, ATTEMPT, reason.value, 0, now, None, text)
 
 
+class DueReport(NamedTuple):
+    """A success that was reported of a step, whose needs are committed, and that has not begun."""
+
+    saga: SagaInstance
+    word: Word
+    outcome: Outcome
+
+
 @dataclasses.dataclass(eq=False, slots=True)
 class Refusal:
     """A report is about to be refused, because of what was decided of its saga so far.
@@ -97,6 +107,64 @@ def stored(saga: SagaInstance, word: Word) -> Outcome | None:
         return None
     reason, text = saga.rare.early[word]
     return Outcome(KINDS[reason], text)
+
+
+def due(sagas: Iterable[SagaInstance], lot: Iterable[Attempt]) -> list[DueReport]:
+    """Return the reports that are committed before their sagas begin to recover: then they are
+    compensated as any other. What needs such a step is due behind it.
+
+    Args:
+        sagas: The sagas that are about to recover, as far as is known.
+        lot: The attempts that are reported before that.
+    """
+    found: list[DueReport] = []
+    for saga in dict.fromkeys(sagas):
+        if not saga.has_early or saga.aborted or saga.draining or saga.answer is not None:
+            continue
+        done = {*saga.results}
+        done |= {
+            one.step for one in lot if one.instance is saga and is_success(one) and not one.undo
+        }
+        left = [word for word in saga.rare.early if _may_begin(saga, word)]
+        while ready := [word for word in left if done >= {*saga.kind.below[word[0]]}]:
+            for word in ready:
+                reason, text = saga.rare.early[word]
+                if reason is EarlyReason.RESULT:
+                    found.append(DueReport(saga, word, Outcome(SUCCEEDED, text, encoded=True)))
+                    done.add(word[0])
+            left = [word for word in left if word not in ready]
+    return found
+
+
+def is_success(attempt: Attempt) -> bool:
+    """Whether an attempt that is finished has succeeded."""
+    return attempt.outcome is not None and attempt.outcome.kind is SUCCEEDED
+
+
+def _may_begin(saga: SagaInstance, word: Word) -> bool:
+    return word not in saga.busy and word not in saga.rare.final and word[0] not in saga.results
+
+
+def unused(saga: SagaInstance) -> list[int]:
+    """Return the steps of a saga that is over whose success was reported, and not used. An approval
+    has nothing to be undone.
+    """
+    return [step for step in _left(saga) if not _has_no_effect(saga, step)]
+
+
+def without_effect(saga: SagaInstance) -> list[int]:
+    """As `unused`, the steps that have nothing to be undone."""
+    return [step for step in _left(saga) if _has_no_effect(saga, step)]
+
+
+def _left(saga: SagaInstance) -> list[int]:
+    early = saga.rare.early if saga.has_early else {}
+    return sorted(step for (step, _), (reason, _) in early.items() if reason is EarlyReason.RESULT)
+
+
+def _has_no_effect(saga: SagaInstance, step: int) -> bool:
+    declared = saga.kind.steps[step]
+    return declared is not None and declared.undo.implied
 
 
 def taken(attempt: Attempt) -> Outcome | None:

@@ -6,7 +6,7 @@ import dataclasses
 from collections.abc import Sequence
 
 from sagas.core.batch import Batch, Wanted, Withdrawal
-from sagas.core.early_reports import EarlyReport, Refusal
+from sagas.core.early_reports import DueReport, EarlyReport, Refusal
 from sagas.core.model import Attempt, SagaInstance
 
 
@@ -40,6 +40,10 @@ class RareEffects:
         withdrawn: These are offered no more, where the withdrawal is done.
         draining: A step of these sagas failed, so that they drain: what waits of them and was not
             called is given up (`AttemptMachine.drain`).
+        overdue: These sagas are aborted, because their deadlines had passed as they were opened
+            or recovered. Of those that are opened, it is done once they are started.
+        taken: The first attempts of steps that were reported before they began, and are committed
+            before their sagas recover: each with its `event`.
         early: These reports of steps that have not begun are stored, or refused.
         aborted: These were answered, each with `done`.
         planned: These sagas go by a plan that was adopted, their `answer`.
@@ -50,6 +54,8 @@ class RareEffects:
     offered: list[Attempt] = dataclasses.field(default_factory=list)
     withdrawn: list[tuple[Attempt, Withdrawal]] = dataclasses.field(default_factory=list)
     draining: list[SagaInstance] = dataclasses.field(default_factory=list)
+    overdue: list[SagaInstance] = dataclasses.field(default_factory=list)
+    taken: Sequence[Attempt] = ()
     early: list[EarlyReport | Refusal] = dataclasses.field(default_factory=list)
     aborted: list[Abort] = dataclasses.field(default_factory=list)
     planned: list[SagaInstance] = dataclasses.field(default_factory=list)
@@ -105,10 +111,15 @@ class Question:
     Attributes:
         lines: How many replies are to come.
         reports: How these attempts ended.
+        early: To commit these reports, before the sagas recover.
+        goods: Where there are such: so many of `reports` are ahead of them, the others behind
+            the aborts.
         aborts: To abort these sagas.
         opens: To open these sagas.
+        overdue: To abort these of them at once, because their deadlines have passed.
         defines: To know so many further definitions of the shard.
         claims: For so many tasks; 0 if it was not asked for any.
+        odd: Those of `reports` whose sagas do not just go well.
         plans: So many sagas are expected to be planned: each plan is a task, and takes no slot.
         looks: How these sagas stand, by their numbers, behind all else: they are expected to be
             over.
@@ -117,15 +128,18 @@ class Question:
     """
 
     __slots__ = (
-        "lines", "reports", "aborts", "opens", "defines", "claims", "plans", "looks", "shows",
-        "effects",
+        "lines", "reports", "odd", "early", "goods", "aborts", "opens", "overdue", "defines",
+        "claims", "plans", "looks", "shows", "effects",
     )  # fmt: skip
 
     def __init__(self) -> None:
-        self.lines = self.defines = self.claims = self.plans = 0
+        self.lines = self.defines = self.claims = self.plans = self.goods = 0
+        self.early: Sequence[DueReport] = ()
         self.reports: Sequence[Attempt] = ()
+        self.odd: Sequence[Attempt] = ()
         self.aborts: Sequence[Abort] = ()
         self.opens: Sequence[SagaInstance] = ()
+        self.overdue: Sequence[SagaInstance] = ()
         self.looks: Sequence[int] = ()
         self.shows: Sequence[int] = ()
         self.effects: Effects | None = None

@@ -5,6 +5,7 @@ from __future__ import annotations
 from sagas.core.batch import Offer
 from sagas.core.model import Attempt
 from sagas.core.states import Action
+from sagas.definition import report_undos
 
 
 def task_name(saga: str, step: str, action: str) -> str:
@@ -18,6 +19,10 @@ def task_of(attempt: Attempt) -> str:
     A step of a saga that undoes a child is the compensation of the child's step, for the worker of
     that.
     """
+    saga = attempt.instance.kind.saga
+    if saga is not None and saga.undoes is not None and saga.undoes_step is not None:
+        path = report_undos.path_of(saga.undoes, saga.undoes_step)
+        return task_name(saga.undoes.name, path or attempt.name, Action.COMPENSATE)
     undoes = attempt.instance.kind.undoes
     if undoes is not None:
         return task_name(undoes, attempt.name, Action.COMPENSATE)

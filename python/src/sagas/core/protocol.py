@@ -62,6 +62,12 @@ def report_line(saga: int, step: int, task: str, attempt: int, ok: bool) -> str:
     )
 
 
+def take_lines(saga: int, step: int) -> tuple[str, str]:
+    """Takes the task of a step, and reports it as done."""
+    report = f'{{"do":"report","outcome":"ok","saga":{saga},"step":{step}}}'
+    return f'{{"do":"take","saga":{saga},"step":{step}}}', report
+
+
 def abort_line(saga: int) -> str:
     return f'{{"do":"abort","saga":{saga}}}'
 

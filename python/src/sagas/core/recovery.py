@@ -14,7 +14,7 @@ from __future__ import annotations
 import dataclasses
 import json
 import re
-from collections.abc import Mapping, Sequence
+from collections.abc import Iterator, Mapping, Sequence
 from typing import Any
 
 from sagas.core import protocol
@@ -75,14 +75,23 @@ def damage_of(rows: Loaded, driver: ShardDriver) -> str | None:
     return rows.damage
 
 
-def requests(rows: Loaded) -> list[str]:
-    """Return what an engine is asked that was started on a shard's event log."""
-    return [protocol.BUSY, *map(protocol.show_line, _odd(rows))]
+def overdue(rows: Loaded, now: float) -> list[int]:
+    """Return the numbers of the open sagas whose deadlines have passed."""
+    late = (row[0] for row in rows.open if row[4] is not None and row[4] <= now)
+    return [id % SHARD_CAPACITY for id in late]
 
 
-def _odd(rows: Loaded) -> list[int]:
+def requests(rows: Loaded, overdue: Sequence[int] = ()) -> list[str]:
+    """Return what an engine is asked that was started on a shard's event log. `overdue`: the
+    numbers of the sagas that are aborted before anything goes on.
+    """
+    aborts = map(protocol.abort_line, overdue)
+    return [*aborts, protocol.BUSY, *map(protocol.show_line, _odd(rows, overdue))]
+
+
+def _odd(rows: Loaded, overdue: Sequence[int]) -> list[int]:
     """The open sagas of which something failed, or that were aborted."""
-    odd = {int(number) for number in ODD.findall(rows.text)}
+    odd = {int(number) for number in ODD.findall(rows.text)}.union(overdue)
     return [id % SHARD_CAPACITY for id, *_ in rows.open if id % SHARD_CAPACITY in odd]
 
 
@@ -123,17 +132,21 @@ def recover(
     previous: ShardDriver,
     known: Mapping[str, SagaInstance],
     is_shared: bool = False,
+    overdue: Sequence[int] = (),
+    log_text: str = "",
 ) -> Recovery:
     """Make a shard's driver what the store has, and go on with what was begun.
 
     Args:
         rows: The shard's rows.
-        replies: The engine's replies to `requests(rows)`.
+        replies: The engine's replies to `requests(rows, overdue)`.
         now: Wall time in seconds.
         previous: What the program knew of the shard. It is `LOADING`, and `ACTIVE` from now on.
         known: The program's sagas by key.
         is_shared: Whether other nodes have shards in the store: then a key that the program was
             to open elsewhere may be another saga's.
+        overdue: The numbers of the sagas that the engine was asked to abort.
+        log_text: The event log's new lines, which are the aborts.
 
     Returns:
         What is to be done, in this order: `replaced`, `gone`, `restored`, `forgotten` and
@@ -152,14 +165,31 @@ def recover(
         if saga.committed and saga.number not in driver.sagas and known.get(saga.key) is saga
     ]
     _put_rows(driver, rows)
-    for number, reply in zip(_odd(rows), replies[1:], strict=True):
+    left = iter(replies)
+    _put_aborts(found.effects, driver, overdue, left, log_text)
+    busy = json.loads(next(left))["busy"]
+    for number, reply in zip(_odd(rows, overdue), left, strict=True):
         _show(found.effects, driver, number, reply)
     is_ours = rows.epoch <= epoch + 1 and rows.line == line
-    _resume(found, driver, rows, old, json.loads(replies[0])["busy"], is_ours)
+    _resume(found, driver, rows, old, busy, is_ours)
     for abort in aborts:
         _abort_again(found, driver, abort)
-    found.draining = [saga for saga in driver.sagas.values() if saga.draining]
+    late = found.effects.rare.overdue  # they drain once their aborts are durable
+    found.draining = [one for one in driver.sagas.values() if one.draining and one not in late]
     return found
+
+
+def _put_aborts(
+    effects: Effects, driver: ShardDriver, overdue: Sequence[int], replies: Iterator[str],
+    log_text: str,
+) -> None:  # fmt: skip
+    """The sagas whose deadlines had passed are aborted, before an attempt of theirs goes on."""
+    if overdue:
+        effects.batch.text = log_text
+        driver.events += effects.batch.counted()
+        Reading(driver, effects).overdue([driver.sagas[one] for one in overdue], replies)
+        for saga in effects.rare.overdue:
+            saga.rare.drains = True  # the store has its deadline, so what is called hears of it
 
 
 def _under_way(driver: ShardDriver) -> Old:

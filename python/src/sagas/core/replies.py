@@ -11,6 +11,7 @@ from sagas.core.attempts import PARKED
 from sagas.core.batch import Opened, Result
 from sagas.core.collection import has_nothing_to_undo, is_unclear
 from sagas.core.early_reports import stored as stored_report
+from sagas.core.early_reports import without_effect
 from sagas.core.effects import Abort, Effects, Question
 from sagas.core.model import Attempt, SagaInstance
 from sagas.core.offers import first_offer
@@ -60,14 +61,19 @@ class Reading:
         if asked.lines != len(replies):
             raise Disagrees(f"{len(replies)} replies to {asked.lines} requests")
         left = iter(replies)
-        if asked.aborts:
-            self._aborts(asked.aborts, left)
-        if asked.reports:
-            self._reports(asked.reports, left)
+        if asked.early:
+            self._before_recovery(asked, left)
+        else:
+            if asked.aborts:
+                self._aborts(asked.aborts, left)
+            if asked.reports:
+                self._reports(asked.reports, left)
         if asked.defines:
             self._defines(asked, left)
         if asked.opens:
             self._opens(asked.opens, left)
+            if asked.overdue:
+                self.overdue(asked.overdue, left)
         if asked.claims:
             self._next(next(left))
         for number, reply in zip(asked.looks, left) if asked.looks else ():
@@ -148,6 +154,27 @@ class Reading:
             self._phase(saga, phase)
         self._effects.reported = attempts
 
+    def _before_recovery(self, asked: Question, replies: Iterator[str]) -> None:
+        """The successes of a lot, reports of steps that had not begun, the aborts, and the rest of
+        the lot. The engine may not take such a step: then its report stays where it is.
+        """
+        self._reports(asked.reports[: asked.goods], replies)
+        taken, events = list[Attempt](), list[str]()
+        for report in asked.early:
+            task, event = next(replies), next(replies)
+            if protocol.event_and_phase(event) is not None:
+                number = serialization.read(task)["attempt"]
+                attempt = Attempt(report.saga, *report.word, number, fresh=True)
+                attempt.finish(report.outcome, self._batch.at)
+                attempt.has_row = True
+                taken.append(attempt)
+                events.append(event)
+        self._reports(taken, iter(events))
+        self._effects.more.taken = taken
+        self._aborts(asked.aborts, replies)
+        self._reports(asked.reports[asked.goods :], replies)
+        self._effects.reported = asked.reports
+
     def _settle_rows(self, attempt: Attempt) -> None:
         """What else the store has of an attempt that was reported. Of a wait that is retried it
         keeps until when, or that its time is over.
@@ -197,6 +224,16 @@ class Reading:
                     other.is_repeated |= other.saga is abort.saga and other is not abort
             self._batch.answer(abort.command, "true" if abort.done else "false")
         self._effects.more.aborted += aborts
+
+    def overdue(self, sagas: Sequence[SagaInstance], replies: Iterator[str]) -> None:
+        """Read the replies to aborts of sagas whose deadlines have passed. Nobody waits for
+        these.
+        """
+        for saga, reply in zip(sagas, replies):
+            if reply.startswith(protocol.EVENT):
+                saga.odd = saga.aborted = saga.draining = True
+                self._cancel(saga)
+                self._effects.more.overdue.append(saga)
 
     def _cancel(self, saga: SagaInstance) -> None:
         """What workers do of it may not be wanted any more."""
@@ -298,4 +335,6 @@ class Reading:
         if saga.has_due:  # a wait that is retried kept its row for an attempt that never came
             freed = [(id, step, kind, LAST_ATTEMPT) for step, kind in saga.rare.due]
             batch.more.freed += freed
+        if saga.has_early:
+            batch.more.undone += [(id, step) for step in without_effect(saga)]
         self._effects.ended.append(saga)

@@ -150,6 +150,11 @@ class SagaInstance(AcknowledgedSaga):
         """Whether its end is known."""
         return bool(self.phase)
 
+    def is_overdue(self, now: float) -> bool:
+        """Whether its deadline has passed."""
+        deadline = self.options.deadline
+        return deadline is not None and deadline <= now
+
     @property
     def has_due(self) -> bool:
         """Whether the store has the time of a wait that is retried."""

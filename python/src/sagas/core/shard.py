@@ -3,7 +3,7 @@
 A shard is up to 1,000 sagas with one owner and one event log. Its engine process decides what
 happens next, and its event log in the store is the only truth. One turn of a shard is:
 
-    lines = driver.requests(free_slots)         # what is due, [] if nothing is
+    lines = driver.requests(free_slots, now)    # what is due, [] if nothing is
     answer = driver.replies(*ask(lines), now)   # `ask` is the engine: its replies, and log text
     while isinstance(answer, list):             # how sagas ended that did not just go well
         answer = driver.replies(*ask(answer), now)
@@ -26,10 +26,11 @@ import itertools
 from collections import deque
 from collections.abc import Iterable, Sequence
 
-from sagas.core import endings, offers, protocol, suspension_rows
+from sagas.core import early_reports, endings, offers, protocol, suspension_rows
 from sagas.core.batch import Batch, Born, Loaded, Withdrawal
 from sagas.core.effects import Abort, Effects, Question
 from sagas.core.model import Attempt, SagaInstance
+from sagas.core.early_reports import is_success
 from sagas.core.outcomes import SUCCEEDED
 from sagas.core.replies import Reading
 from sagas.core.shard_definitions import ShardDefinitions
@@ -225,11 +226,13 @@ class ShardDriver:
 
     # -- to the engine
 
-    def requests(self, free_slots: int) -> list[str]:
+    def requests(self, free_slots: int, now: float = 0.0) -> list[str]:
         """Ask what is due.
 
         Args:
             free_slots: How many tasks may be claimed.
+            now: Wall time in seconds. Sagas whose deadlines have passed are aborted as they are
+                opened, before a task of theirs is claimed.
 
         Returns:
             Lines for the engine; none if nothing is due. `asked` says what they ask.
@@ -242,11 +245,15 @@ class ShardDriver:
             lines += [protocol.abort_line(abort.saga.number) for abort in asked.aborts]
         if self.reports:
             asked.reports = self._ask_reports(asked, lines)
+        if asked.aborts or asked.odd:
+            self._ask_early(asked, lines)
         if self.opens:
             defines = self.identity.definitions.define_lines()
             asked.defines = len(defines)
             lines += defines
             asked.opens = self._ask_opens(lines)
+            if any(saga.is_overdue(now) for saga in asked.opens):
+                self._ask_aborts(asked, lines, now)
         if lines:
             self.hungry = True
         if self.hungry and free_slots > 0:
@@ -280,8 +287,31 @@ class ShardDriver:
                 saga.odd = True
                 odd.append(attempt)
         if odd:
+            asked.odd = odd
             asked.plans, asked.looks = endings.expected(odd)
         return lot
+
+    def _ask_early(self, asked: Question, lines: list[str]) -> None:
+        """Before a saga recovers, commit what was reported of its steps that have not begun, where
+        the engine allows it: behind the successes of the lot, and ahead of all else.
+        """
+        sagas = [abort.saga for abort in asked.aborts]
+        sagas += [one.instance for one in asked.odd if not is_success(one)]
+        asked.early = early_reports.due(sagas, asked.reports)
+        if not asked.early:
+            return
+        first = len(asked.aborts)
+        told = [*zip(asked.reports, lines[first:])]
+        told.sort(key=lambda one: not is_success(one[0]))
+        if told:
+            asked.reports = self.reporting[-1] = [attempt for attempt, _ in told]
+        asked.goods = sum(map(is_success, asked.reports))
+        reports = [line for _, line in told]
+        taken = [protocol.take_lines(one.saga.number, one.word[0]) for one in asked.early]
+        lines[:] = [
+            *reports[: asked.goods], *itertools.chain(*taken), *lines[:first],
+            *reports[asked.goods :],
+        ]  # fmt: skip
 
     def _ask_opens(self, lines: list[str]) -> Sequence[SagaInstance]:
         """As many as a question may have."""
@@ -293,6 +323,17 @@ class ShardDriver:
             lines.append(protocol.open_line(saga.place, self.opened + len(lot)))
             lot.append(saga)
         return lot
+
+    def _ask_aborts(self, asked: Question, lines: list[str], now: float) -> None:
+        """Abort those that are about to be opened, and whose deadlines have passed. They are
+        planned at once, and are expected to be over.
+        """
+        late = [(self.opened + at, saga) for at, saga in enumerate(asked.opens)]
+        late = [(number, saga) for number, saga in late if saga.is_overdue(now)]
+        lines += [protocol.abort_line(number) for number, _ in late]
+        asked.overdue = [saga for _, saga in late]
+        asked.plans += len(late)
+        asked.looks = [*asked.looks, *(number for number, _ in late)]
 
     # -- from the engine
 

@@ -73,6 +73,8 @@ class EarlyReason(enum.StrEnum):
 
     RESULT = "early_result"
     ERROR = "early_error"
+    UNDONE = "early_undone"
+    """It succeeded, its saga ended without it, and another saga undoes it, if anything is to be."""
 
 
 class OutcomeKind(enum.StrEnum):

@@ -45,6 +45,7 @@ class ChildSteps:
         name: Its name.
         steps: Its steps.
         undoes: The definition whose completed sagas it undoes, or None.
+        undoes_step: The only step that it undoes, of a saga that did not use a report of it.
         undo_text: Its definition as a text, if it undoes others.
         has_children: Whether a step starts another saga.
         is_shaped: Whether its steps come from its input.
@@ -53,6 +54,7 @@ class ChildSteps:
     name: str
     steps: list[Step[Any]]
     undoes: Saga | None = None
+    undoes_step: Step[Any] | None = None
     undo_text: str = ""
     has_children: bool = False
     is_shaped: bool

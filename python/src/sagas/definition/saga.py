@@ -29,6 +29,7 @@ from sagas.definition.step import (
     Backoff,
     Bounds,
     CostOf,
+    EarlyUnused,
     Manner,
     OnExhausted,
     R,
@@ -121,6 +122,7 @@ class Saga(WaitSteps, Inclusions):
         tries: int = 1, backoff: Backoff = Backoff(), concurrency: int | None = None,
         on_exhausted: OnExhausted = "fail", max_attempts: int | None = None,
         for_each: None = None, when: Callable[[Any], Any] | None = None,
+        early_unused: EarlyUnused = "ask",
     ) -> Step[Any]:  # fmt: skip
         ...
 
@@ -133,7 +135,7 @@ class Saga(WaitSteps, Inclusions):
         run: CostOf = 0, undo: CostOf | None = None, skip: CostOf = 0, keep: CostOf = 0,
         tries: int = 1, backoff: Backoff = Backoff(), concurrency: int | None = None,
         on_exhausted: OnExhausted = "fail", max_attempts: int | None = None,
-        when: Callable[[Any], Any] | None = None,
+        when: Callable[[Any], Any] | None = None, early_unused: EarlyUnused = "ask",
     ) -> FanOut[Any, Any]:  # fmt: skip
         ...
 
@@ -220,7 +222,7 @@ class Saga(WaitSteps, Inclusions):
         fleet_concurrency: int | None = None, rate_limit: tuple[int, Seconds] | None = None,
         on_exhausted: OnExhausted = "fail", max_attempts: int | None = None,
         cancel_on_abort: bool = False, concurrency_by: Callable[[Any], Any] | None = None,
-        when: Callable[[Any], Any] | None = None,
+        when: Callable[[Any], Any] | None = None, early_unused: EarlyUnused = "ask",
         for_each: ForEach | None = None,
     ) -> Any:  # fmt: skip
         """Declare a function as a step, by `@saga.step` or `@saga.step(...)`.
@@ -270,6 +272,10 @@ class Saga(WaitSteps, Inclusions):
                 item. For a type checker a name means a list.
             when: A function of the input: the step is there if it returns true (default: always).
                 What needs a step that is not there needs what that one needs.
+            early_unused: What follows if a success of an external step is reported before it
+                begins, and the saga ends without it: `ask` (a person sees to it, by
+                `Store.compensate` or `Store.resolve`), or `compensate` (its compensation is called
+                at once) (default: `ask`).
             cancel_on_abort: Whether an abort raises `asyncio.CancelledError` in the async function
                 (default: False). Unhandled, the outcome is unknown, and the attempt repeats.
 
@@ -295,7 +301,8 @@ class Saga(WaitSteps, Inclusions):
             step = self._add(
                 function, name, "step", needs, costs, manner, concurrency, for_each, when
             )
-            step.concurrency_by = concurrency_by
+            step.concurrency_by, step.early_unused = concurrency_by, early_unused
+            validation.check_early_unused(step)
             if fleet_concurrency is not None or rate_limit is not None:
                 rate, is_keyed = _rate(rate_limit), concurrency_by is not None
                 step.bounds = Bounds(fleet_concurrency, rate, is_keyed)

@@ -8,15 +8,24 @@ from collections.abc import Callable, Iterable, Iterator, Sequence
 from typing import Any, NamedTuple
 
 from sagas.base.errors import DefinitionError, MissingStep, SagasError
-from sagas.definition import definition_text, shape_text, undo_sagas, undo_text, validation
+from sagas.definition import (
+    definition_text,
+    report_undos,
+    shape_text,
+    undo_sagas,
+    undo_text,
+    validation,
+)
 from sagas.definition.capacity import MOST_DEFINITIONS, SHARD_CAPACITY
 from sagas.definition.compiled import Hooks, Kind, name_of, version_of
 from sagas.definition.context import Context
 from sagas.definition.payloads import PLAIN as PLAIN_PAYLOADS
+from sagas.definition.listed_steps import of as listed_steps
 from sagas.definition.payloads import Payloads
 from sagas.definition.saga import Saga
 from sagas.definition.shape import Shape
 from sagas.definition.shaped_kinds import ShapedKinds
+from sagas.definition.step import Step
 
 
 def shelf_of(sagas: Iterable[Saga]) -> tuple[str, list[str]]:
@@ -92,6 +101,7 @@ class Shelf:
         self.sagas = undo_sagas.with_undo_sagas(self.sagas)
         self.shelf, self.texts = shelf_of(self.sagas.values())
         self._kinds: dict[str, Kind] = {}
+        self._report_undos: dict[tuple[str, int, str], Saga] = {}
         self._shaped = ShapedKinds(self)
         self.kinds = [self.kind(saga.toml()) for saga in self._fixed()]
         self._check_queues()
@@ -104,6 +114,36 @@ class Shelf:
         }
         self._sets = dict(self._divided())
         self._calling: dict[Saga, bool] = {}  # whether functions say which steps they have
+
+    def report_undo(self, saga: Saga, step: Step[Any]) -> Saga:
+        """Return the saga that calls the compensation of a step that was reported, and not used;
+        `report_undos.fault` allows it.
+        """
+        name = (undo_text.name_of(saga.name), saga.version, report_undos.step_name(saga, step))
+        if name not in self._report_undos:
+            made = self._report_undos[name] = report_undos.saga_of(saga, step)
+            kind = Kind(made.toml(), made, self.context, self.payloads)
+            kind = self._kinds.setdefault(kind.text, kind)
+            kind.hooks = self._hooks_of(kind)
+            self._fitted[made] = Fitted(kind, None, None)
+            self._sets[kind] = DefinitionSet(digest_of_texts([kind.text]), [kind])
+        return self._report_undos[name]
+
+    def _undoing(self, text: str) -> Saga | None:
+        """The saga that calls one compensation, by its text as some program stored it."""
+        name, version = name_of(text), version_of(text)
+        if undo_text.child_of(text) is not None or not name.endswith(undo_text.ENDING):
+            return None
+        if len(steps := listed_steps(text)) != 1:
+            return None
+        for saga in self.sagas.values():
+            if (undo_text.name_of(saga.name), saga.version) != (name, version):
+                continue
+            for step in saga.all_steps:
+                is_it = report_undos.step_name(saga, step) == steps[0].name
+                if is_it and report_undos.is_reported(step) and report_undos.fault(step) is None:
+                    return self.report_undo(saga, step)
+        return None
 
     def _fixed(self) -> list[Saga]:
         """The sagas whose steps do not come from their input, sorted by name."""
@@ -133,7 +173,10 @@ class Shelf:
         if shape_text.is_shaped(text):
             return self._shaped.kind(text)
         if text not in self._kinds:
-            kind = self._kinds[text] = Kind(text, self._saga(text), self.context, self.payloads)
+            saga = self._undoing(text) or self._saga(text)
+            if text in self._kinds:
+                return self._kinds[text]
+            kind = self._kinds[text] = Kind(text, saga, self.context, self.payloads)
             kind.hooks = self._hooks_of(kind)
         return self._kinds[text]
 

@@ -50,6 +50,8 @@ Unknowns = tuple[type[BaseException], ...]
 UNKNOWN: Unknowns = (TimeoutError, ConnectionError)
 """What a function raises by default where nobody knows whether it had its effect."""
 
+EarlyUnused = Literal["ask", "compensate"]
+"""What follows where a step is reported before it begins, and its saga ends without it."""
 OnExhausted = Literal["fail", "ask", "retry"]
 """What follows the last attempt of a step, or of a compensation."""
 
@@ -193,6 +195,7 @@ class Step(Selection[R]):
         until: As given to `Saga.wait`.
         approval_timeout: The `timeout` of `Saga.approval`.
         child: The definition of `Saga.child`, or None.
+        early_unused: As given to `Saga.step`.
         is_collected: Whether a step needs it by `collect`.
         for_each: As given to `Saga.step`.
         when: As given to `Saga.step`.
@@ -218,6 +221,7 @@ class Step(Selection[R]):
         self.until: Until | None = None
         self.approval_timeout: datetime.timedelta | None = None
         self.child: Saga | None = None
+        self.early_unused: EarlyUnused = "ask"
         self.is_collected, self.for_each, self.when = False, for_each, when
         self._costs, self._needs = costs, needs
 

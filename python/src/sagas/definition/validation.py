@@ -86,6 +86,15 @@ def check_step(step: Step[Any]) -> None:
     check_manner(step, step.run, "function", step.where)
 
 
+def check_early_unused(step: Step[Any]) -> None:
+    """Raise `DefinitionError` where a step cannot have this `early_unused`."""
+    if step.early_unused not in ("ask", "compensate"):
+        raise of_step(step, f"early_unused={step.early_unused!r}: must be ask or compensate")
+    if step.early_unused == "compensate" and not step.run.external:
+        rule = "has no effect, because only external steps are reported before they begin"
+        raise of_step(step, f"early_unused='compensate' {rule}. Remove it")
+
+
 def check_part_name(part: Part) -> None:
     """The name of a step, or of an inclusion."""
     if not isinstance(part.name, str) or not NAME.match(part.name):
@@ -334,6 +343,9 @@ def check_compensation(step: Step[Any]) -> None:
     if undo is not None and undo is not NEVER and not step.has_compensation:
         remedy = f"Declare @{step.name}.compensation, or set undo=0 if there is nothing to undo"
         raise of_step(step, f"undo={undo!r}, but it has no compensation. {remedy}")
+    if step.early_unused == "compensate" and (not step.has_compensation or step.undo.queue):
+        rule = "needs a compensation that no queue calls"
+        raise of_step(step, f"early_unused='compensate' {rule}. Declare @{step.name}.compensation")
 
 
 def check_cycles(parts: Sequence[Part]) -> None:

@@ -9,7 +9,9 @@ from collections.abc import Iterable
 from typing import Any, Optional
 
 from sagas.core.attention import AttentionReason
+from sagas.definition.payloads import unescaped
 from sagas.inspection import names as names_module
+from sagas.inspection import unused_reports
 from sagas.inspection.lists import chain_of
 from sagas.inspection.names import OF_SHARD, Names
 from sagas.inspection.question import Query, Question
@@ -39,6 +41,11 @@ SELECT s.at AS started, s.id, h.step, s.key, s.saga, d.definition, h.action, NUL
   h.since, h.until
 FROM suspensions h JOIN sagas s ON s.id = h.id AND s.phase IS NULL {OF_SHARD}
 WHERE h.reason = """
+UNUSED = f"""
+SELECT s.at AS started, s.id, h.step, s.key, s.saga, d.definition, h.action, NULL, h.detail,
+  h.since, NULL
+FROM suspensions h JOIN sagas s ON s.id = h.id {OF_SHARD} WHERE {unused_reports.LEFT}
+"""
 IN_DAMAGED = f"""
 SELECT s.at AS started, s.id, -1 AS place, s.key, s.saga, coalesce(d.definition, ''), '' AS action,
   NULL, l.audit, {DAMAGED_SINCE}, NULL
@@ -47,6 +54,7 @@ SELECT s.at AS started, s.id, -1 AS place, s.key, s.saga, coalesce(d.definition,
 BY_KIND = {
     "stuck": (STUCK, "-1"),
     "undo_failed": (UNDO_FAILED, "r.step"),
+    "unused_report": (UNUSED, "h.step"),
     "unknown": (f"{HELD} 'unknown' AND h.until IS NULL", "h.step"),
     "exhausted": (f"{HELD} 'exhausted'", "h.step"),
     "cannot_decode": (f"{HELD} 'cannot_decode'", "h.step"),
@@ -63,7 +71,8 @@ MOST_GROUPED = 20_000
 class Entry:
     """Something that needs a person. `step` is None of a saga that is stuck: `blocking` has the
     steps because of which it is; and of one whose shard is damaged. `detail`: what was raised, or
-    what cannot be read."""
+    what cannot be read; of a report that was not used its result, as it is stored. `by`: who
+    reported that."""
 
     kind: str
     started: float
@@ -77,12 +86,15 @@ class Entry:
     detail: str | None
     since: float
     until: float | None
+    by: str | None = None
 
     @property
     def cause(self) -> str:
         """What is meant, and its detail without numbers: the same for all of one cause."""
         of = " and ".join(self.blocking) or self.step or ""
         of = f"undoing {of}" if self.undo else of
+        if self.kind == AttentionReason.UNUSED_REPORT:  # each has another result
+            return of
         detail = NUMBERS.sub("…", self.detail) if self.detail else ""
         return ": ".join(part for part in (of, detail) if part)
 
@@ -126,6 +138,10 @@ def entries(
     if step is not None:
         some = [row for row in some if row[2] >= 0 and names.is_of(step, row[5], row[2])]
     found = [_entry(kind, names, *row) for row in some]
+    if kind == AttentionReason.UNUSED_REPORT:
+        by = yield from unused_reports.reporters(one.key for one in found)
+        told = ((one, by.get((one.key, one.step or ""))) for one in found)
+        found = [dataclasses.replace(one, by=who) for one, who in told]
     if step is None:
         return found
     return [one for one in found if undo in (None, one.undo)][:most]
@@ -145,6 +161,8 @@ def _entry(
     blocking = chain_of(steps, outcome) if kind == AttentionReason.STUCK else []
     if detail is not None and kind in (AttentionReason.STUCK, AttentionReason.UNDO_FAILED):
         detail = str((json.loads(detail) or {}).get("error", ""))
+    if detail is not None and kind == AttentionReason.UNUSED_REPORT:
+        detail = unescaped(detail)
     step = None if place < 0 else steps[place]
     undo = action == "undo"
     return Entry(kind, started, id, place, key, saga, step, undo, blocking, detail, *times)

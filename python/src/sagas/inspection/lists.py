@@ -2,10 +2,12 @@
 
 from __future__ import annotations
 
+import dataclasses
 import json
 from collections.abc import Callable, Mapping
 from typing import Any
 
+from sagas.base.errors import CannotDecode
 from sagas.core import states
 from sagas.core.attention import Attention, AttentionReason
 from sagas.core.batch import SagaRow
@@ -16,7 +18,9 @@ from sagas.definition import tokens
 from sagas.definition.capacity import SHARD_CAPACITY
 from sagas.definition.compiled import Kind, version_of
 from sagas.definition.labels import TOKEN
+from sagas.definition.payloads import unescaped
 from sagas.inspection import names as names_module
+from sagas.inspection import unused_reports
 from sagas.inspection.names import OF_SHARD, Names
 from sagas.inspection.question import Query, Question, Row
 from sagas.inspection.views import Waits
@@ -185,8 +189,8 @@ def undoing(of: Filter) -> Question[int]:
 
 def asked(scope: Scope = EVERYTHING) -> Question[dict[str, int]]:
     """How many things wait for a person: stuck sagas, sagas of which a compensation failed
-    permanently, approvals, attempts that are exhausted, whose outcome is unknown, or whose stored
-    values cannot be read, and open sagas whose shard is damaged."""
+    permanently, reports that were not used, approvals, attempts that are exhausted, whose outcome
+    is unknown, or whose stored values cannot be read, and open sagas whose shard is damaged."""
     (where, words), within = scope.where(), ""
     if scope != EVERYTHING:
         within = f" AND id IN (SELECT id FROM sagas s WHERE {where})"
@@ -198,7 +202,9 @@ def asked(scope: Scope = EVERYTHING) -> Question[dict[str, int]]:
     stuck = yield from count(Filter("stuck", scope=scope))
     undo_failed = yield from count(Filter("undo_failed", scope=scope))
     damaged = yield Query(f"SELECT count(*) {DAMAGED} AND {where}", (*words,))
-    return {"stuck": stuck, "undo_failed": undo_failed, **told, "damaged": int(damaged[0][0])}
+    unused = yield from unused_reports.count(scope)
+    ends = {"stuck": stuck, "undo_failed": undo_failed, "unused_report": unused}
+    return {**ends, **told, "damaged": int(damaged[0][0])}
 
 
 def waits(
@@ -338,8 +344,10 @@ SELECT s.key, s.saga, coalesce(d.definition, ''), 'damaged', NULL, '', l.audit, 
 """
 
 
-def attention(most: int = MOST) -> Question[list[Attention]]:
-    """What needs a person, the oldest first."""
+def attention(
+    most: int = MOST, decode: Callable[[str], str] = unescaped
+) -> Question[list[Attention]]:
+    """What needs a person, the oldest first. `decode`: reads a stored result."""
     stuck_sagas = f"""
         SELECT s.key, s.saga, d.definition, 'stuck', NULL, NULL, s.outcome,
           s.ended
@@ -366,7 +374,23 @@ def attention(most: int = MOST) -> Question[list[Attention]]:
     rows = rows + (yield undone_query(most))
     rows = rows + (yield Query(attempts, (most,)))
     rows = rows + (yield Query(IN_DAMAGED, (most,)))
-    return (yield from _entries(rows, most, errors))
+    unused = yield Query(unused_reports.ROWS, (most,))
+    reporters = yield from unused_reports.reporters(row[0] for row in unused)
+    found = yield from _entries(rows + unused, most, errors)
+    return [_reported(one, reporters, decode) for one in found]
+
+
+def _reported(
+    one: Attention, reporters: unused_reports.Reporters, decode: Callable[[str], str]
+) -> Attention:
+    """Of a report that was not used who reported what."""
+    if one.why is not AttentionReason.UNUSED_REPORT or one.step is None:
+        return one
+    try:
+        detail = decode(one.detail or "null")
+    except CannotDecode:
+        detail = None
+    return dataclasses.replace(one, detail=detail, by=reporters.get((one.key, one.step)))
 
 
 def undone(most: int = MOST, scope: Scope = EVERYTHING) -> Question[list[Attention]]:

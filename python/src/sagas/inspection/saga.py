@@ -48,7 +48,9 @@ ELSEWHERE = """
 SELECT step, action, number, offered_at, since, worker, lease FROM external_attempts WHERE id = ?
 """
 EARLY = "SELECT step, reason FROM suspensions WHERE id = ? AND number = 0"
-SAID = {EarlyReason.RESULT: "complete", EarlyReason.ERROR: "fail"}
+SAID = {
+    EarlyReason.RESULT: "complete", EarlyReason.ERROR: "fail", EarlyReason.UNDONE: "complete",
+}  # fmt: skip
 NOTES = (
     "SELECT key, command, at, value, answer FROM operator_commands WHERE key = ? ORDER BY at, id"
 )
@@ -169,8 +171,9 @@ def _view(
     progress = {row[:3]: Progress(*row[3:]) for row in (yield Query(PROGRESS, (row.id,)))}
     spans = yield Query(SPANS, (row.id,))
     elsewhere = yield Query(ELSEWHERE, (row.id,))
-    found = (yield Query(EARLY, (row.id,))) if row.phase is None else []
-    early = {step: SAID[EarlyReason(why)] for step, why in found}
+    found = yield Query(EARLY, (row.id,))
+    early = {step: SAID[EarlyReason(why)] for step, why in found if row.phase is None}
+    left = sorted(step for step, why in found if row.phase and why == EarlyReason.RESULT)
     states = zip(kept.names, history.states)
     parent, children = yield from families.of(row.id, row.key)
     return SagaView(
@@ -204,6 +207,7 @@ def _view(
         parent=parent,
         children=children,
         shape=kept.shape,
+        unused=[kept.names[step] for step in left],
     )
 
 

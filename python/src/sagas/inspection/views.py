@@ -114,7 +114,8 @@ class SagaView:
     `parent`: the saga that started it; `children`: those that it started. `running`: steps, and
     whether their compensations, of which somebody knows that they are called now; of others that
     have begun the store alone does not tell. `noted`: for `inspection.timeline`. `shape`: what is
-    kept of its shape, as it is stored, where its steps come from its input.
+    kept of its shape, as it is stored, where its steps come from its input. `unused`: the steps of
+    which a success was reported, and without which it has ended.
     """
 
     summary: Summary
@@ -137,6 +138,7 @@ class SagaView:
     parent: Relative | None = None
     children: list[Relative] = dataclasses.field(default_factory=list)
     shape: str | None = None
+    unused: list[str] = dataclasses.field(default_factory=list)
 
     @property
     def id(self) -> int:

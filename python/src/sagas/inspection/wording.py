@@ -77,6 +77,7 @@ ACTS = {
     "complete": "reported that a step succeeded",
     "fail": "reported that a step failed",
     "retry": "retried a step",
+    "compensate": "had a step compensated",
     "resolve": "marked it as resolved",
 }
 

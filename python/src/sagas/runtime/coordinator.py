@@ -101,6 +101,7 @@ class Coordinator:
         )  # fmt: skip
         self.deadlines = Deadlines(self.sagas, self.shards.abort, teller, clock)
         self.sagas.driven = self.deadlines.add
+        self.shards.abort_overdue = self.deadlines.look
         self.waits = Waits(self)
         self.listeners.append(self.executor.children.look)
         self._lifespan = Lifespan(context, shelf.context)

@@ -47,6 +47,8 @@ class Deadlines:
 
     def look(self) -> None:
         """Abort those whose time has come. Where another node has one, that does it."""
+        if not self._heap:
+            return
         now = self._clock()
         while self._heap and self._heap[0][0] <= now:
             saga = heapq.heappop(self._heap)[2]

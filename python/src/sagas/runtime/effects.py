@@ -7,6 +7,7 @@ from typing import Protocol
 
 from sagas.base.errors import SagasError
 from sagas.base.events import Teller
+from sagas.core import early_reports
 from sagas.core.effects import NOTHING_RARE, Abort, Effects, RareEffects
 from sagas.core.model import Attempt, SagaInstance
 from sagas.core.recovery import Recovery
@@ -88,6 +89,8 @@ class EffectHandler:
             self._kept(rare)
         if effects.opened:
             self._opened(effects.opened)
+        for saga in rare.overdue:
+            self._overdue(saga)
         for saga in rare.planned:
             self._executor.planned(saga)
         if effects.ended:
@@ -106,6 +109,8 @@ class EffectHandler:
 
     def _kept(self, rare: RareEffects) -> None:
         """Rows, offers, reports and answers are in the store."""
+        if rare.taken:
+            self._executor.reported(rare.taken)
         for attempt in rare.suspended:
             self._executor.stored(attempt)
         for attempt in rare.offered:
@@ -171,6 +176,12 @@ class EffectHandler:
             self._teller.tell("saga_aborted", key=saga.key, saga=saga.kind.name)
         self._sagas.answer_abort(abort)
 
+    def _overdue(self, saga: SagaInstance) -> None:
+        """A saga is aborted, because its deadline had passed."""
+        self._teller.tell("saga_overdue", key=saga.key, saga=saga.kind.name)
+        self._executor.drain(saga)
+        self._teller.tell("saga_aborted", key=saga.key, saga=saga.kind.name)
+
     def _opened(self, sagas: Sequence[SagaInstance]) -> None:
         tells = self._teller.wants("saga_started")
         for saga in sagas:
@@ -186,6 +197,8 @@ class EffectHandler:
                 self._tell_end(saga)
             if saga.odd and saga.phase == "ended" and (steps := undo_failures(saga.end)):
                 self._tell_undo_failed(saga, steps)
+            if unused := early_reports.unused(saga):
+                self._tell_unused(saga, unused)
 
     def _tell_end(self, saga: SagaInstance) -> None:
         """How a saga ended: its phase; of a stuck one because of which steps."""
@@ -196,6 +209,13 @@ class EffectHandler:
             recovered = (saga.answer or {}).get("kind") == "plan"
             detail = saga_phase(saga.phase, recovered, None).value
         self._teller.tell(f"saga_{saga.phase}", key=saga.key, saga=saga.kind.name, detail=detail)
+
+    def _tell_unused(self, saga: SagaInstance, steps: Sequence[int]) -> None:
+        """A saga ended without reports that were accepted: what steps did elsewhere is there."""
+        names = " and ".join(saga.kind.names[step] for step in steps)
+        detail = f"{names}: a success was reported before the step began, and was not used"
+        self._teller.tell("saga_unused_report", key=saga.key, saga=saga.kind.name, detail=detail)
+        self._sagas.unused()
 
     def _tell_undo_failed(self, saga: SagaInstance, steps: Sequence[int]) -> None:
         """A saga ended, and what steps of it did stands against its plan."""

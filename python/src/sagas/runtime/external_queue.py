@@ -20,7 +20,7 @@ from sagas.core.suspensions import Lease
 from sagas.definition.blobs import BlobUnavailable
 from sagas.definition.compiled import Kind
 from sagas.definition.control import Progress
-from sagas.definition import compensation_task, shape_validation, undo_text
+from sagas.definition import compensation_task, report_undos, shape_validation, undo_text
 from sagas.definition.shape_values import ShapeValues
 from sagas.definition.task import Task
 from sagas.definition.task_data import Told
@@ -322,7 +322,9 @@ class ExternalQueue(ExternalReports):
             index=task.index if task.has_item else None, undo=task.is_compensation,
             attempt=task.attempt,
         )  # fmt: skip
-        if kind.undoes is not None:
+        if kind.saga is not None and kind.saga.undoes_step is not None:
+            task = report_undos.compensation(task, kind.saga)
+        elif kind.undoes is not None:
             sees = undo_text.sees_of(kind.text).get(task.step, ())
             task = compensation_task.of(task, kind.undoes, sees)
         lease = self._signer.issue(claim.attempt, claim.lease, holder)

@@ -21,6 +21,7 @@ class Instances:
         starts: Who waits until a saga is in the store.
         ends: Who waits until a saga's end is in the store.
         driven: Is told each saga that is in the store, and driven here.
+        unused: Is called where a saga has ended without a report that was accepted.
         answered: If set, is called before a caller is notified of the outcome of an abort.
     """
 
@@ -29,6 +30,7 @@ class Instances:
         self.starts: Waiters[SagaInstance] = Waiters(loop)
         self.ends: Waiters[SagaInstance] = Waiters(loop)
         self.driven: Callable[[SagaInstance], None] = lambda saga: None
+        self.unused: Callable[[], None] = lambda: None
         self.answered: Callable[[Abort], object] | None = None
         self._loop = loop
         self._aborts: dict[Abort, asyncio.Future[bool]] = {}

@@ -43,6 +43,13 @@ class Carrier(Protocol):
         """As `Store.retry`."""
 
 
+class Compensations(Protocol):
+    """What has reports undone that were not used."""
+
+    async def compensate(self, key: str, step: str, request: Wanted, of: int | None = None) -> None:
+        """As `Store.compensate`."""
+
+
 def report_of(
     step: str, kind: str, outcome: Outcome, early: bool, payloads: Payloads
 ) -> tuple[str, dict[str, Any]]:
@@ -62,8 +69,8 @@ def words_of(step: str, kind: str, early: bool) -> dict[str, Any]:
 class Requests:
     """Does what rows without an answer ask, and answers in the commit that holds its events."""
 
-    def __init__(self, owner: Coordinator, carrier: Carrier) -> None:
-        self._owner, self._carrier = owner, carrier
+    def __init__(self, owner: Coordinator, carrier: Carrier, reports: Compensations) -> None:
+        self._owner, self._carrier, self._reports = owner, carrier, reports
         self._loop = asyncio.get_running_loop()
         self._doing: dict[int, asyncio.Task[None]] = {}
         self._looking: asyncio.Task[None] | None = None
@@ -133,5 +140,8 @@ class Requests:
             return True
         if what == "retry":
             await self._carrier.retry(key, told["step"], told.get("kind") == "undo", id, of)
+            return True
+        if what == "compensate":
+            await self._reports.compensate(key, told["step"], id, of)
             return True
         raise ValueError(what)

@@ -27,7 +27,7 @@ from sagas.base.wording import number
 from sagas.definition.capacity import SHARD_CAPACITY
 from sagas.storage import admin, archive, blob_layer
 from sagas.storage.admin import Source
-from sagas.storage.sqlite.schema import UNDO_FAILED
+from sagas.storage.queries import RESOLVABLE
 
 if TYPE_CHECKING:
     from sagas.runtime.coordinator import Coordinator
@@ -43,7 +43,7 @@ WITHIN = f"s.id >= l.shard * {SHARD_CAPACITY} AND s.id < (l.shard + 1) * {SHARD_
 OVER = f"""
 l.closed = 1 AND l.shard > ? AND NOT EXISTS (
   SELECT 1 FROM sagas s WHERE {WITHIN} AND (s.phase IS NULL OR s.ended >= ?
-    OR (s.note IS NULL AND (s.phase = 'stuck' OR ({UNDO_FAILED})))))
+    OR (s.note IS NULL AND {RESOLVABLE})))
 """
 NEXT = f"""
 SELECT l.shard, l.name, (SELECT count(*) FROM sagas s WHERE {WITHIN}) FROM shards l

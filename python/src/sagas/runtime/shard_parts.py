@@ -28,6 +28,8 @@ class Shards(Protocol):
 
     is_closing: bool
     """Whether nothing begins any more."""
+    abort_overdue: Callable[[], None]
+    """Aborts the sagas whose deadlines have passed, before an engine is asked for tasks."""
 
     def fill(self, asker: ShardRunner) -> None:
         """Put sagas into shards that are to be put there, before an engine is asked. `asker` is

@@ -54,6 +54,7 @@ class ShardRunner:
         self._woke = self._pause = 0.0
         self._is_scheduled = self._is_coming = False
         self._rows: Loaded | None = None  # that it is recovered from
+        self._overdue: list[int] = []  # the sagas that are aborted as it is recovered
 
     # -- what it is told
 
@@ -99,6 +100,7 @@ class ShardRunner:
             self._loop.call_soon(self.give_up_engine)
             if not self.driver.unwritten:
                 return
+        self._shards.abort_overdue()
         self._shards.fill(self)
         if self.driver.state is not ACTIVE or engine.asked:  # another shard took its engine
             return
@@ -125,7 +127,7 @@ class ShardRunner:
 
     def _requests(self) -> list[str]:
         is_closing, driver = self._shards.is_closing, self.driver
-        lines = driver.requests(0 if is_closing else self._slots.free())
+        lines = driver.requests(0 if is_closing else self._slots.free(), self._clock())
         if (asked := driver.asked) and asked.claims:
             self._slots.reserve(asked.claims)
         elif driver.hungry and not is_closing:
@@ -135,7 +137,7 @@ class ShardRunner:
     def answered(self, replies: list[str], log_text: str) -> None:
         """Its engine has answered."""
         if self._rows is not None:
-            self._recover(self._rows, replies)
+            self._recover(self._rows, replies, log_text)
             return
         try:
             found = self.driver.replies(replies, log_text, self._clock())
@@ -374,15 +376,17 @@ class ShardRunner:
                 self._shards.reopen(driver, None, fault := named(error))
                 self._trouble(fault)
             return
-        self._rows = rows
-        self.engine.ask(recovery.requests(rows))
+        self._rows, self._overdue = rows, recovery.overdue(rows, self._clock())
+        self.engine.ask(recovery.requests(rows, self._overdue))
 
-    def _recover(self, rows: Loaded, replies: list[str]) -> None:
+    def _recover(self, rows: Loaded, replies: list[str], log_text: str) -> None:
         """Make its driver what the store has, and go on with what was begun."""
         self._rows, driver, store = None, self.driver, self._parts.store
         known = self._parts.sagas.by_key
         try:
-            found = recovery.recover(rows, replies, self._clock(), driver, known, store.shared)
+            found = recovery.recover(
+                rows, replies, self._clock(), driver, known, store.shared, self._overdue, log_text
+            )
             self._effects.found(found)
         except Exception as error:
             self._trouble(not_understood(error))

@@ -48,6 +48,7 @@ class Shards:
         closed: Why nothing begins any more.
         is_closing: Whether nothing begins any more.
         starts: Whether starts of clients that are this node's may not be under way.
+        abort_overdue: Aborts the sagas whose deadlines have passed.
     """
 
     def __init__(
@@ -74,6 +75,7 @@ class Shards:
         self.auditor = Auditor(store, program, commits, clock, teller)
         self.closed: SagasError | None = None
         self.is_closing = False
+        self.abort_overdue: Callable[[], None] = lambda: None
         self.starts = Doubt(self._loop, look)
         self._idle = idle
         self._placement = Placement(store, definitions, sagas, self._loop, self)

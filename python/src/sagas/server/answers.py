@@ -24,7 +24,10 @@ PHASES = "open", "completed", "recovered", "stuck", "resolved"
 STATES = (
     "waiting", "begun", "running", "committed", "failed", "undoing", "undone", "undo_failed",
 )  # fmt: skip
-KINDS = "stuck", "undo_failed", "unknown", "exhausted", "cannot_decode", "damaged", "approval"
+KINDS = (
+    "stuck", "undo_failed", "unused_report", "unknown", "exhausted", "cannot_decode", "damaged",
+    "approval",
+)  # fmt: skip
 """What needs a person."""
 NAME = Text(most=32, pattern=DEFINITION.pattern)
 COUNT = Number(least=0, whole=True)
@@ -205,6 +208,14 @@ WHAT_IF = Record(
 ABORTED = Record(
     "Aborted", {"key": Field(Text()), "aborted": Field(Flag(), "false: it is over, or was aborted")}
 )
+COMPENSATED = Record(
+    "Compensated",
+    {
+        "key": Field(Text()),
+        "step": Field(NAME),
+        "undo": Field(Text(), "the key of the saga that calls the compensation"),
+    },
+)
 RESOLVED = Record("Resolved", {"key": Field(Text()), "resolved": Field(Flag())})
 DECIDED = Record(
     "Decided", {"key": Field(Text()), "step": Field(NAME), "kept": Field(Flag(), "it is stored")}
@@ -326,10 +337,13 @@ ASKED = Record(
         "definition": Field(NAME),
         "step": Field(Nullable(NAME), "null: the whole saga"),
         "undo": Field(Flag(), "its compensation is meant"),
-        "detail": Field(MAYBE, "what was raised, or what cannot be read"),
+        "detail": Field(
+            MAYBE, "what was raised, or what cannot be read; of an unused report its result as JSON"
+        ),
+        "by": Field(MAYBE, "who reported it, of an unused report"),
         "waits_for": Field(Text(), "what it waits for, for people"),
         "calls": Field(
-            Several(Choice(("resolve", "retry", "complete", "fail", "abort"))),
+            Several(Choice(("compensate", "resolve", "retry", "complete", "fail", "abort"))),
             "the calls that apply",
         ),
         **time("since", "since when"),

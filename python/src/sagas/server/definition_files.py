@@ -16,6 +16,7 @@ The second says of steps what a definition has no words for:
     on_exhausted = "ask"     # after the last attempt: fail (the default), ask or retry
     undo_on_exhausted = "ask"  # the same of its compensation, by default ask
     max_attempts = 20        # of the step, where 9 are too few
+    early_unused = "compensate"  # an early report that is not used: ask (the default), compensate
 """
 
 from __future__ import annotations
@@ -48,6 +49,7 @@ KEYS = {
         "on_exhausted",
         "undo_on_exhausted",
         "max_attempts",
+        "early_unused",
     },
     "approval": {"kind", "timeout"},
     "wait": {"kind", "until"},
@@ -266,7 +268,7 @@ def _work(saga: Saga, step: Json, manner: Json) -> None:
         undo=_cost_of(step, "undo"), skip=_cost_of(step, "skip"),
         keep=_cost_of(step, "keep"), tries=step.get("tries", 1), backoff=backoff,
         concurrency=manner.get("concurrency"), on_exhausted=manner.get("on_exhausted", "fail"),
-        max_attempts=manner.get("max_attempts"),
+        max_attempts=manner.get("max_attempts"), early_unused=manner.get("early_unused", "ask"),
     )  # fmt: skip
     if made._costs["undo"] is not NEVER:
         exhausted = manner.get("undo_on_exhausted", "ask")

@@ -213,6 +213,7 @@ def queue(one: Queue) -> dict[str, Any]:
 CALLS = {
     "stuck": ["resolve"],
     "undo_failed": ["resolve"],
+    "unused_report": ["compensate", "resolve"],
     "unknown": ["retry", "complete", "fail", "abort"],
     "exhausted": ["retry", "complete", "fail", "abort"],
     "cannot_decode": ["complete", "fail", "abort"],
@@ -223,6 +224,7 @@ CALLS = {
 WAITS_FOR = {
     "stuck": "somebody who sets right by hand what no plan could, and resolves it",
     "undo_failed": "somebody who undoes the step by hand, and resolves the saga",
+    "unused_report": "somebody who has the step compensated, or resolves the saga",
     "unknown": "somebody who finds out whether the step had its effect, and reports it",
     "exhausted": "somebody who has it attempted again, or reports it",
     "cannot_decode": "a program that can read what is stored, or somebody's report",
@@ -241,6 +243,7 @@ def entry(one: Entry) -> dict[str, Any]:
         "step": one.step,
         "undo": one.undo,
         "detail": ": ".join(part for part in (because, one.detail) if part) or None,
+        "by": one.by,
         "waits_for": WAITS_FOR[one.kind],
         "calls": CALLS[one.kind],
         **times(since=one.since, until=one.until),

@@ -54,7 +54,7 @@ ATTEMPT_TIMES = Record(
 DEED = Record(
     "PersonsCommand",
     {
-        "command": Field(Text(), "`abort`, `complete`, `fail`, `retry` or `resolve`"),
+        "command": Field(Text(), "`abort`, `complete`, `fail`, `retry`, `compensate` or `resolve`"),
         **time("at", "when"),
         "step": Field(Nullable(NAME)),
         "undo": Field(Flag(), "the compensation of the step is meant"),

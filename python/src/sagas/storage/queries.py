@@ -121,7 +121,7 @@ PHASES = {
     "open": f"phase IS NULL{IN_OPEN_LOGS}", "completed": f"phase = 'ended' AND NOT {PLANNED}",
     "recovered": f"{PLANNED} AND note IS NULL", "undo_failed": f"{UNDO_FAILED} AND note IS NULL",
     "stuck": "phase = 'stuck' AND note IS NULL",
-    "resolved": f"(phase = 'stuck' OR ({UNDO_FAILED})) AND note IS NOT NULL",
+    "resolved": f"(phase = 'stuck' OR ({PLANNED})) AND note IS NOT NULL",
 }  # fmt: skip
 """What a list may be asked for. `completed`: all went well; `recovered`: ended by a plan, since a
 step
@@ -141,9 +141,12 @@ DAMAGED_SINCE = f"coalesce(({LAST_COMMIT}), s.at)"
 SORTED_AT = "+(s.at)"
 """The start of a saga `s` where no index leads to few. SQLite does better to sort than to go by the
 index of the starts, which it would choose; PostgreSQL knows how many they are."""
-RESOLVABLE = f"(phase = 'stuck' OR ({UNDO_FAILED}))"
-"""The sagas that a person resolves, also those that somebody has resolved."""
-RESOLVE = f"UPDATE sagas SET note = ? WHERE key = ? AND {RESOLVABLE} AND note IS NULL"
+UNUSED = """(phase IS NOT NULL AND EXISTS (SELECT 1 FROM suspensions x
+WHERE x.id = s.id AND x.number = 0 AND x.reason = 'early_result'))"""
+"""Whether a saga `s` has ended without a report that was accepted of one of its steps."""
+RESOLVABLE = f"(phase = 'stuck' OR ({UNDO_FAILED}) OR {UNUSED})"
+"""The sagas `s` that a person resolves, also those that somebody has resolved."""
+RESOLVE = f"UPDATE sagas AS s SET note = ? WHERE key = ? AND {RESOLVABLE} AND note IS NULL"
 """The first note stays."""
 LABELS = """CAST((SELECT json_group_object(b.name, b.value) FROM labels b WHERE b.id = s.id)
 AS TEXT)"""

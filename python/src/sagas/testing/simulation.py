@@ -189,7 +189,7 @@ class Simulation:
     def _turn(self, engine: Engine) -> None:
         """Ask the engine until nothing is due."""
         driver = self._driver
-        while lines := driver.requests(self._free()):
+        while lines := driver.requests(self._free(), self._clock()):
             found = driver.replies(engine.ask(lines), "", self._clock())
             while isinstance(found, list):
                 found = driver.replies(engine.ask(found), "", self._clock())

@@ -67,9 +67,9 @@ def pages(
 async def listed(call: Call) -> Response:
     """List what needs a person.
 
-    Stuck sagas, compensations that failed permanently, attempts with an unknown outcome, attempts
-    that are exhausted, stored values that cannot be read, sagas of damaged shards, and approvals:
-    one kind after the other."""
+    Stuck sagas, compensations that failed permanently, reports that were not used, attempts with an
+    unknown outcome, attempts that are exhausted, stored values that cannot be read, sagas of
+    damaged shards, and approvals: one kind after the other."""
     query = call.query
     kind, after = place_of(query["after"])
     kinds = [query["kind"]] if query["kind"] else list(KINDS)

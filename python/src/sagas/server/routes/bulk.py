@@ -38,7 +38,7 @@ STEPS = Record(
     {
         **filters.SAGAS,
         **filters.LABELS,
-        "kind": Field(Choice(tuple(KINDS[2:])), "of attempts that wait"),
+        "kind": Field(Choice(tuple(KINDS[3:])), "of attempts that wait"),
         "step": Field(Text(most=32), "of this step; of one with items: of all its items"),
         "undo": UNDO,
     },
@@ -48,7 +48,7 @@ HEALED = Record(
     {
         **filters.SAGAS,
         **filters.LABELS,
-        "kind": Field(Choice(tuple(KINDS[:2])), "what they need a person for"),
+        "kind": Field(Choice(tuple(KINDS[:3])), "what they need a person for"),
     },
 )
 MODE: Mapping[str, Field] = {
@@ -153,6 +153,8 @@ def deed_of(service: Service, verb: str, words: dict[str, Any], result: Any, err
                 raise StepNotWaiting(f"saga {key!r} has ended, or was aborted before")
         elif verb == "resolve":
             await store.resolve(key, str(words["note"]), by=words["by"])
+        elif verb == "compensate":
+            await store.compensate(key, step, **words)
         elif verb == "retry":
             await store.retry(key, step, undo=undo, **words)
         elif verb == "done":

@@ -9,6 +9,7 @@ from sagas.server.routes.bulk import Target
 TITLES = {
     "stuck": "Stuck",
     "undo_failed": "Undo failed",
+    "unused_report": "Unused",
     "unknown": "Unknown",
     "exhausted": "Exhausted",
     "cannot_decode": "Unreadable",
@@ -18,6 +19,8 @@ TITLES = {
 SAID = {
     "stuck": "No plan is feasible. Repair by hand what is needed, then resolve them.",
     "undo_failed": "A compensation failed permanently, and the effect of its step is still there.",
+    "unused_report": "A success was reported before the step began, and its saga ended without it. "
+    "What was done elsewhere is still there.",
     "unknown": "The outcome of the step is unknown. Check the external system, then report it.",
     "exhausted": "The attempts of the step are used up. Fix the cause, then retry it.",
     "cannot_decode": "No program can read a stored value. Open the store with a program that can.",
@@ -28,6 +31,7 @@ REPORTS = {"done": "They are done…", "failed": "They had no effect…", "abort
 VERBS: dict[str, dict[str, str]] = {
     "stuck": {"resolve": "Resolve…"},
     "undo_failed": {"resolve": "Resolve…"},
+    "unused_report": {"compensate": "Compensate…", "resolve": "Resolve…"},
     "unknown": REPORTS,
     "exhausted": {"retry": "Retry…", **REPORTS},
     "cannot_decode": REPORTS,
@@ -60,6 +64,12 @@ class Question:
 QUESTIONS = {
     "resolve": Question(
         "Mark {} as resolved?", ("Mark as resolved",) * 2, "No step runs because of this."
+    ),
+    "compensate": Question(
+        "Compensate {}?",
+        ("Compensate it", "Compensate them"),
+        "Another saga calls the compensation of each, with the result that was reported. This "
+        "cannot be undone.",
     ),
     "retry": Question(
         "Retry {}?",

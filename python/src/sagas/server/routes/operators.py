@@ -4,16 +4,21 @@ from __future__ import annotations
 
 from starlette.responses import Response
 
+from sagas.definition.children import key_of
 from sagas.server import answers, json_views
 from sagas.server.auth import May
 from sagas.server.metrics import TYPE
 from sagas.server.operations import Answer, Call, Routes
 from sagas.server.problems import Problem
 from sagas.server.responses import Json
-from sagas.server.shapes import Field, Record, Text
+from sagas.server.shapes import Field, Nullable, Record, Text
 
 routes = Routes("operators")
 NOTE = Field(Text(most=2000, least=1, strip=True), "what was done; stored with who and when")
+WHY = Record(
+    "CompensateRequest",
+    {"note": Field(Nullable(Text(most=2000)), "why; stored with who and when", default=None)},
+)
 RESOLVE = Record("ResolveRequest", {"note": NOTE}, example={"note": "bought one by hand"})
 
 
@@ -63,11 +68,28 @@ async def metrics(call: Call) -> Response:
 async def resolve(call: Call) -> Response:
     """Mark a saga as resolved.
 
-    One that is stuck, or of which a compensation failed permanently."""
+    One that is stuck, of which a compensation failed permanently, or with an unused report."""
     await call.service.check_sees(call.who, call.key)
     await call.service.store.resolve(call.key, call.body["note"], by=call.who.name)
     call.service.figures.forget()
     return Json({"key": call.key, "resolved": True})
+
+
+@routes.post(
+    "/v1/sagas/{key}/steps/{step}/compensate", "compensateStep", may=May.OPERATE, body=WHY,
+    answers={200: Answer("It is compensated, by another saga.", answers.COMPENSATED)},
+    problems=("NoSuchSaga", "StepNotWaiting"),
+)  # fmt: skip
+async def compensate(call: Call) -> Response:
+    """Have a step compensated that was reported before it began, and not used.
+
+    Another saga calls the compensation with the result that was reported, until it succeeds."""
+    service, step = call.service, call.path["step"]
+    await service.check_sees(call.who, call.key)
+    words = {"by": call.who.name, "note": call.body["note"]}
+    await service.in_time(service.store.compensate(call.key, step, **words))
+    service.figures.forget()
+    return Json({"key": call.key, "step": step, "undo": key_of(call.key, step, undo=True)})
 
 
 @routes.get(

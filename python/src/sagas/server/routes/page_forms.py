@@ -51,6 +51,13 @@ RESOLVE = {
         "not, and takes the saga off the inbox."
     ),
 }  # fmt: skip
+COMPENSATE: dict[str, Any] = {
+    "verb": "Compensate it", "note_title": "A note",
+    "text": (
+        "Another saga calls the compensation, with the result that was reported before the step "
+        "began. This cannot be undone."
+    ),
+}  # fmt: skip
 
 REMOVE: dict[str, Any] = {
     "verb": "Remove it", "danger": True,
@@ -193,6 +200,31 @@ async def resolve(call: Call) -> Response:
     except SagasError as error:
         return asked(request, key, RESOLVE, 409, fault=str(problems.of(error)), note=note)
     return back(request, key)
+
+
+@routes.get("/ui/sagas/{key}/steps/{step}/compensate")
+async def compensate_page(call: Call) -> Response:
+    return closed(call.request) or asked(call.request, call.key, compensate_words(call))
+
+
+@routes.post("/ui/sagas/{key}/steps/{step}/compensate")
+async def compensate(call: Call) -> Response:
+    request, key, words = call.request, call.key, compensate_words(call)
+    session, form = await sent(request)
+    note = form.get("note", "").strip()[:2000] or None
+    try:
+        service = service_of(request)
+        await service.check_sees(session.who, key)
+        step = call.path["step"]
+        await service.in_time(service.store.compensate(key, step, by=session.who.name, note=note))
+    except SagasError as error:
+        return asked(request, key, words, 409, fault=str(problems.of(error)), note=note)
+    return back(request, key)
+
+
+def compensate_words(call: Call) -> dict[str, Any]:
+    """The question before a step is compensated."""
+    return COMPENSATE | {"title": f"Compensate {call.path['step']}?"}
 
 
 @routes.get("/ui/sagas/{key}/steps/{step}/{outcome}", parts={"outcome": OUTCOME}, query=UNDO)

@@ -95,6 +95,7 @@ def told_of(
         "picture": svg() if drawn else "",
         "timeline": timeline_picture.drawn(attempts, view.started, now, titles),
         "attempts": folded(attempt_rows(attempts, titles, now), lambda row: (row.urgency,)),
+        "unused": unused_of(view),
         "undo_failed": [step for step in view.steps if step.state == "undo_failed"],
         "icons": picture.ICONS,
         "done": sum(step.state in ("committed", "undo_failed") for step in view.steps),
@@ -104,6 +105,13 @@ def told_of(
         "abort": effect(view, abort=True),
         "effects": effects(view, [(one.step, one.undo) for one in asks[:MOST_EFFECTS]]),
     }
+
+
+def unused_of(view: SagaView) -> list[str]:
+    """The steps of a saga that has ended whose success was reported, and not used."""
+    if view.phase not in ("recovered", "stuck"):
+        return []
+    return list(view.unused)
 
 
 def effect(view: SagaView, *, abort: bool = False, **step: str) -> str | None:

@@ -82,7 +82,9 @@ START = Record(
         "labels": Field(LABELS, "texts by name, by which lists find it", default=None),
         "version": Field(VERSION, "by default the newest", default=None),
         "deadline": Field(
-            DEADLINE, "seconds until it is aborted; by default as its definition says", default=None
+            DEADLINE,
+            "seconds until it is aborted; by default as its definition says. 0 aborts it at once",
+            default=None,
         ),
     },
     example={"definition": "trip", "key": "order-1", "input": {"to": "Rome"}},

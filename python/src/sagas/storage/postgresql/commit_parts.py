@@ -20,6 +20,11 @@ ROWS = {
     ),
     "opened_with": "id bigint, key text, saga text, definition_index integer, input text, "
     "at double precision, deadline double precision, traceparent text",
+    "opened_over": (
+        "id bigint, key text, saga text, definition_index integer, input text, "
+        "at double precision, deadline double precision, traceparent text, phase text, "
+        "outcome text, recovered boolean, undo_failed boolean, ended double precision"
+    ),
     "results": (
         "id bigint, step integer, action text, number integer, event text, value text, at double "
         "precision"
@@ -59,12 +64,16 @@ ROWS = {
     "asked": "shard bigint, key text, command text, value text, at double precision, answer text",
     "begun": "shard bigint, id bigint, saga bigint",
     "notes": "note text, id bigint",
+    "undone": "id bigint, step integer",
     "closed": "shard bigint, closed smallint, audit text",
     "set_aside": "shard bigint, audit text",
 }
 """The columns of the rows of each part. Most sagas are opened without a deadline and a trace
 context, and end without a plan: such rows are written without them, since psycopg handles each
 word of a statement by itself. Its gain alone is not measured.
+
+`opened_over`: sagas that also end in the commit. A part that updates a row does not see what
+another part inserts.
 """
 COLUMNS = {
     part: [
@@ -88,6 +97,10 @@ PARTS = {
     "opened_with": (
         "INSERT INTO sagas(id, key, saga, definition_index, input, at, deadline, traceparent) "
         f"SELECT v.* FROM {{rows}} {OF_LOG}"
+    ),
+    "opened_over": (
+        "INSERT INTO sagas(id, key, saga, definition_index, input, at, deadline, traceparent, "
+        f"phase, outcome, recovered, undo_failed, ended) SELECT v.* FROM {{rows}} {OF_LOG}"
     ),
     "results": f"INSERT INTO attempts SELECT v.* FROM {{rows}} {OF_LOG} "
     "ON CONFLICT (id, step, action, number) DO UPDATE SET event = excluded.event WHERE "
@@ -148,6 +161,8 @@ PARTS = {
     "RETURNING key, commands, v.saga",
     "notes": "UPDATE sagas SET note = v.note FROM {rows} WHERE sagas.id = v.id "
     "AND sagas.note IS NULL",
+    "undone": "UPDATE suspensions h SET reason = 'early_undone' FROM {rows} WHERE h.id = v.id "
+    "AND h.step = v.step AND h.action = 'run' AND h.number = 0 AND h.reason = 'early_result'",
     "closed": (
         "UPDATE shards SET closed = v.closed, audit = v.audit FROM {rows} JOIN mine USING (shard) "
         "WHERE shards.shard = v.shard"

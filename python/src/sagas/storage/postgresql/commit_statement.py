@@ -18,6 +18,7 @@ from collections.abc import Callable, Iterable, Mapping, Sequence
 from typing import Any
 
 from sagas.core.batch import Batch, Ended, HeldRow, Opened, Rare, Tail
+from sagas.core.states import EarlyReason
 from sagas.definition import tokens
 from sagas.definition.capacity import SHARD_CAPACITY
 from sagas.definition.serialization import clean
@@ -127,6 +128,12 @@ def _attempts(rare: Rare, part: str) -> Sequence[Sequence[Any]]:
     return rows
 
 
+def _undone(row: HeldRow) -> HeldRow:
+    """The row of a report of which nothing is left to be undone."""
+    is_report = row[3] == 0 and row[4] == EarlyReason.RESULT
+    return (*row[:4], EarlyReason.UNDONE.value, *row[5:]) if is_report else row
+
+
 def _saga_of(log: int, attempt: str) -> int:
     """The id of the saga of an attempt."""
     name = tokens.parse(attempt)
@@ -167,6 +174,7 @@ PLAIN: dict[str, Callable[[int, Rare], Iterable[Any]]] = {
     "asked": lambda log, rare: [(log, *row, answer) for row, answer in rare.asked],
     "begun": lambda log, rare: [(log, *one) for one in rare.begun],
     "notes": lambda log, rare: [(clean(note), id) for note, id in rare.notes],
+    "undone": lambda log, rare: rare.undone,
     "closed": lambda log, rare: [(log, *rare.closed)] if rare.closed else [],
     "set_aside": lambda log, rare: [(log, *rare.set_aside)] if rare.set_aside else [],
 }
@@ -214,7 +222,8 @@ class Commit:
     @property
     def ended(self) -> list[int]:
         """The sagas that end in it."""
-        return [row[-1] for row in self.rows("ended") or self.rows("ended_with")]
+        ended = [row[-1] for row in self.rows("ended") or self.rows("ended_with")]
+        return ended + [row[0] for row in self.rows("opened_over")]
 
     def rows(self, part: str) -> Sequence[Sequence[Any]]:
         """The rows of a part."""
@@ -224,12 +233,10 @@ class Commit:
         rows = self.parts
         if batch.text:
             rows["lines"] = [(batch.log, self._lines(batch), batch.at, batch.text, batch.epoch)]
-        if batch.opened:
-            self._put_opened(batch.opened)
+        if batch.opened or batch.ended:
+            self._put_sagas(batch.opened, batch.ended)
         if batch.results:
             rows["results"] = batch.results
-        if batch.ended:
-            self._put_ended(batch.ended)
         if batch.guessed:
             rows["guessed"] = [(batch.log, key) for key in batch.guessed]
         if batch.rare:
@@ -252,11 +259,21 @@ class Commit:
             "guessed": [(batch.log, key) for batch in batches for key in batch.guessed],
         }
         self.parts.update((part, found) for part, found in rows.items() if found)
-        self._put_opened([row for batch in batches for row in batch.opened])
-        self._put_ended([row for batch in batches for row in batch.ended])
+        opened = [row for batch in batches for row in batch.opened]
+        self._put_sagas(opened, [row for batch in batches for row in batch.ended])
         self.rare += [(batch.log, batch.rare) for batch in batches if batch.rare]
         if self.rare or any(batch.born for batch in batches):
             self._others()
+
+    def _put_sagas(self, opened: Sequence[Opened], ended: Sequence[Ended]) -> None:
+        ends = {row[-1]: row for row in ended} if opened else {}
+        if over := [(*row, *ends[row[0]][:-1]) for row in opened if row[0] in ends]:
+            self.parts["opened_over"] = over
+            ids = {row[0] for row in over}
+            opened = [row for row in opened if row[0] not in ids]
+            ended = [row for row in ended if row[-1] not in ids]
+        self._put_opened(opened)
+        self._put_ended(ended)
 
     def _put_opened(self, rows: Sequence[Opened]) -> None:
         for row in rows:
@@ -298,6 +315,10 @@ class Commit:
                 held[at] = {
                     number: row for number, row in held.get(at, {}).items() if number > attempt
                 }
+        some = [rare.undone for _, rare in self.rare if "undone" in rare.parts]
+        undone = {(*one, "run") for of in some for one in of}
+        for at in undone & held.keys():  # that part does not see rows of this one
+            held[at] = {number: _undone(row) for number, row in held[at].items()}
         rows = [row for of in held.values() for row in of.values()]
         if rows:
             self.parts["held"] = rows

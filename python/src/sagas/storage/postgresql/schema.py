@@ -101,7 +101,8 @@ CREATE TABLE sagas.attempts(
 -- until when it may be given, or null), child (count: how many children did not complete),
 -- cannot_decode (detail: why), or of attempt 0,
 -- which never begins, early_result and early_error: how somebody reported the step before it began
--- (detail: as the value of an attempt).
+-- (detail: as the value of an attempt); early_undone: as early_result, of a saga that has ended
+-- without it, and another saga undoes it, if anything is to be undone.
 CREATE TABLE sagas.suspensions(
   id bigint NOT NULL, step integer NOT NULL, action text NOT NULL, number integer NOT NULL,
   reason text NOT NULL,

@@ -54,6 +54,10 @@ HELD = "INSERT OR REPLACE INTO suspensions VALUES(?, ?, ?, ?, ?, ?, ?, ?, ?)"
 ANSWERS = "UPDATE operator_commands SET answer = ? WHERE id = ?"
 ASKED = "INSERT INTO operator_commands(key, command, value, at, answer) VALUES(?, ?, ?, ?, ?)"
 NOTES = "UPDATE sagas SET note = ? WHERE id = ? AND note IS NULL"
+UNDONE = """
+UPDATE suspensions SET reason = 'early_undone'
+WHERE id = ? AND step = ? AND action = 'run' AND number = 0 AND reason = 'early_result'
+"""
 CLOSED = "UPDATE shards SET closed = ?, audit = ? WHERE shard = ?"
 SET_ASIDE = "UPDATE shards SET audit = ? WHERE shard = ? AND closed = 0"
 RowsOf = Callable[[int, Rare], Sequence[Sequence[Any]]]
@@ -76,6 +80,7 @@ PARTS: dict[str, tuple[str, RowsOf]] = {
     "answers": (ANSWERS, lambda log, of: of.answers),
     "asked": (ASKED, lambda log, of: [(*row, answer) for row, answer in of.asked]),
     "notes": (NOTES, lambda log, of: [(clean(note), id) for note, id in of.notes]),
+    "undone": (UNDONE, lambda log, of: of.undone),
     "closed": (CLOSED, lambda log, of: [(*of.closed, log)] if of.closed else ()),
     "set_aside": (SET_ASIDE, lambda log, of: [(*of.set_aside, log)] if of.set_aside else ()),
 }

@@ -1,0 +1,320 @@
+"""Successes that were reported before their steps began, and that their sagas did not use: none is lost."""
+
+from __future__ import annotations
+
+import asyncio
+import json
+import os
+import signal
+from typing import Any
+
+import pytest
+from cases import QUICK, Task, run, until
+from test_command import Shell
+
+import sagas
+from sagas.core.attention import AttentionReason
+from sagas.storage.folder_blobs import FolderBlobStore
+
+RESULT = {"euros": 40}
+
+
+def order(calls: list[Any], gate: asyncio.Event | None = None, faults: int = 0, **words: Any) -> sagas.Saga:
+    """A payment that is reported while the step that it needs runs."""
+    saga, left = sagas.Saga("order"), [faults]
+
+    @saga.step(keep=9)
+    async def reserve(task: Task) -> int:
+        if gate is not None:
+            await gate.wait()
+        return 7
+
+    reserve.compensation(lambda task: calls.append("release"))
+    pay = saga.step(name="pay", external=True, needs=[reserve], keep=9, **words)
+
+    @pay.compensation(tries=3, backoff=QUICK)
+    def refund(task: Task) -> None:
+        if left[0]:
+            left[0] -= 1
+            raise ValueError("not now")
+        calls.append(("refund", task.key, task.step, task.result, task.input, task.is_compensation, task.original_idempotency_key))
+
+    saga.step(name="other", external=True, needs=[reserve], undo=0)
+    saga.approval(name="sign", needs=[reserve])(lambda task: None)
+    return saga
+
+
+async def aborted(store: Any, saga: sagas.Saga, gate: asyncio.Event, key: str = "k") -> Any:
+    """A saga that has ended without a report that was accepted."""
+    gate.clear()
+    begun = await store.start(saga, key, {"n": 1})
+    await until(lambda: [one for one in store.active_attempts(key) if one.step == "reserve"])
+    await store.complete(key, "pay", RESULT, by="ada")
+    await store.fail(key, "other", "no")
+    await store.complete(key, "sign", True)
+    assert await store.abort(key)
+    with pytest.raises(sagas.StepNotWaiting):
+        await store.compensate(key, "pay")  # it has not ended
+    gate.set()
+    end = await begun.wait(60)
+    assert end.states["pay"] == "waiting"
+    return end
+
+
+def test_an_operator_has_it_compensated(place: str, capsys: pytest.CaptureFixture[str]) -> None:
+    """It is in attention, with its result and who reported it; its compensation is called with it, once, though the call is repeated. The
+    same report again is one report still, and another one conflicts. A failure or an approval that was not used needs nobody."""
+    calls, gate, shell, events = list[Any](), asyncio.Event(), Shell(place, capsys), list[str]()
+    saga = order(calls, gate, faults=2)
+
+    async def main() -> None:
+        heard = lambda one: events.append(one.name)
+        async with sagas.open(place, [saga], on_event=heard) as store:
+            await aborted(store, saga, gate)
+            (one,) = await store.attention()
+            assert (one.key, one.why, one.step, one.undo, one.by) == ("k", AttentionReason.UNUSED_REPORT, "pay", False, "ada")
+            assert json.loads(one.detail or "") == RESULT and events.count("saga_unused_report") == 1
+            told = await asyncio.to_thread(shell, "attention")
+            assert "unused report" in told and '{"euros":40} by ada' in told
+            assert (await asyncio.to_thread(shell.json, "stats"))["unused_report"] == 1
+            assert "unused   report of pay" in await asyncio.to_thread(shell, "show", "k")
+            for step, why in (("other", "no unused"), ("reserve", "no unused"), ("sign", "no unused"), ("payy", "did you mean 'pay'")):
+                with pytest.raises(sagas.StepNotWaiting, match=why):
+                    await store.compensate("k", step)
+            await asyncio.gather(*(store.compensate("k", "pay", by="bob", note="so") for _ in range(3)))
+            assert (await store.wait("k/:pay:undo", 60)).ok
+            await store.compensate("k", sagas_step := saga.steps[1])
+            assert sagas_step.name == "pay" and await store.attention() == []
+            assert calls[0] == "release" and len(calls) == 2
+            key = calls[1][-1]
+            assert calls[1] == ("refund", "k", "pay", RESULT, {"n": 1}, True, key) and key.endswith("-pay-run")
+            await store.complete("k", "pay", RESULT)
+            with pytest.raises(sagas.ConflictingReport):
+                await store.complete("k", "pay", {"euros": 41})
+            with pytest.raises(sagas.StepNotWaiting, match="need to be resolved"):
+                await store.resolve("k", "by hand")
+            assert all(said.startswith("yes") for said in (await store.audit()).values())
+        notes = [one for one in await asyncio.to_thread(shell.json, "log", "k") if one["event"] == "note"]
+        assert any("compensate" in str(one) and "bob" in str(one) for one in notes)
+
+    run(main())
+    assert "child    k/:pay:undo (completed)" in shell("show", "k")
+
+
+def test_an_operator_resolves_it(place: str, capsys: pytest.CaptureFixture[str]) -> None:
+    """By the store and by the command; no compensation is called from then on. Retention keeps the saga until then."""
+    calls, gate, shell = list[Any](), asyncio.Event(), Shell(place, capsys)
+    saga = order(calls, gate)
+
+    async def main() -> None:
+        async with sagas.open(place, [saga]) as store:
+            for key in ("k", "l", "m"):
+                await aborted(store, saga, gate, key)
+            assert len(await store.list(phase="recovered")) == 3
+            await store.resolve("k", "paid back", by="bob")
+            await store.resolve("k", "paid back")
+            with pytest.raises(sagas.StepNotWaiting, match="resolved already"):
+                await store.compensate("k", "pay")
+            assert "l: resolved" in await asyncio.to_thread(shell, "resolve", "l", "--note", "too")
+            assert [one.key for one in await store.attention()] == ["m"]
+            assert (await store.resolve_all("all")).done == ["m"]
+            assert {one.key for one in await store.list(phase="resolved")} == {"k", "l", "m"}
+            assert await store.attention() == [] and calls == ["release"] * 3
+
+    run(main())
+
+
+def test_unasked_also_over_a_kill(place: str) -> None:
+    """`early_unused="compensate"`: the program dies when the saga has ended, and the next one, or another node, has it called. Once."""
+    if (child := os.fork()) == 0:
+        try:
+            gate = asyncio.Event()
+            saga = order([], gate, early_unused="compensate")
+
+            def heard(one: Any) -> None:
+                if one.name == "saga_unused_report":
+                    os.kill(os.getpid(), signal.SIGKILL)
+
+            async def first() -> None:
+                async with sagas.open(place, [saga], node="one", lease=1, on_event=heard) as store:
+                    await aborted(store, saga, gate)
+
+            asyncio.run(first())
+        finally:
+            os._exit(1)
+    assert os.waitstatus_to_exitcode(os.waitpid(child, 0)[1]) == -signal.SIGKILL
+    calls = list[Any]()
+    saga = order(calls, early_unused="compensate")
+
+    async def second() -> None:
+        for _ in range(2):
+            async with sagas.open(place, [saga], node="two", lease=1) as store:
+                await until(lambda: store.get("k/:pay:undo"))
+                assert (await store.wait("k/:pay:undo", 60)).ok
+                await until_none(store)
+                assert [call[:4] for call in calls] == [("refund", "k", "pay", RESULT)]
+
+    run(second())
+
+
+async def until_none(store: Any) -> None:
+    """Nothing needs a person."""
+
+    async def is_empty() -> bool:
+        return not await store.attention()
+
+    await until(is_empty)
+
+
+def test_over_a_kill_between_the_start_and_the_acknowledgement(place: str) -> None:
+    """The saga that compensates is started, and its program dies before it says so: the report is in attention still, and to have it
+    compensated again calls nothing again."""
+    calls, gate = list[Any](), asyncio.Event()
+    saga = order(calls, gate)
+    if (child := os.fork()) == 0:
+        try:
+
+            async def first() -> None:
+                async with sagas.open(place, [saga], node="one", lease=1) as store:
+                    await aborted(store, saga, gate)
+                    inside = store._access.inside
+
+                    async def kept(batch: Any) -> None:
+                        os.kill(os.getpid(), signal.SIGKILL)
+
+                    inside.kept = kept
+                    await store.compensate("k", "pay")
+
+            asyncio.run(first())
+        finally:
+            os._exit(1)
+    assert os.waitstatus_to_exitcode(os.waitpid(child, 0)[1]) == -signal.SIGKILL
+
+    async def second() -> None:
+        async with sagas.open(place, [saga], node="two", lease=1) as store:
+            await until(lambda: store.get("k/:pay:undo"))
+            assert (await store.wait("k/:pay:undo", 60)).ok
+            done = [*calls]
+            assert [one.step for one in await store.attention()] == ["pay"]
+            await store.compensate("k", "pay")
+            assert await store.attention() == [] and calls == done and len(calls) <= 1
+
+    run(second())
+
+
+def test_with_items_a_codec_and_blobs(place: str, tmp_path: Any) -> None:
+    """A step of an item, of which the result is large and encoded: the compensation gets both. A program without the codec shows no result."""
+    calls, gate, large = list[Any](), asyncio.Event(), "x" * 5000
+
+    class Codec:
+        def encode(self, data: bytes) -> bytes:
+            return data[::-1]
+
+        decode = encode
+
+    saga = sagas.Saga("each")
+
+    @saga.step(keep=9)
+    async def first(task: Task) -> str:
+        await gate.wait()
+        return "done"
+
+    first.compensation(lambda task: None)
+    pay = saga.step(name="pay", for_each="items", external=True, needs=[first], keep=9)
+    pay.compensation(lambda task: calls.append((task.step, task.item, task.index, task.result, task.result_of(first))))
+
+    async def main() -> None:
+        words: dict[str, Any] = {"codec": Codec(), "blobs": FolderBlobStore(tmp_path / "blobs"), "blob_threshold": 1024}
+        async with sagas.open(place, [saga], **words) as store:
+            begun = await store.start(saga, "k", {"items": ["a", "b"]})
+            await until(lambda: store.active_attempts("k"))
+            await store.complete("k", "pay-1", large)
+            await store.abort("k")
+            gate.set()
+            await begun.wait(60)
+            (one,) = await store.attention()
+            assert (one.step, one.by, json.loads(one.detail or "")) == ("pay-1", None, large)
+            ((stored,),) = await store._access.inside.store.read("SELECT detail FROM suspensions WHERE number = 0")
+            assert large not in stored
+            await store.compensate("k", "pay-1")
+            assert (await store.wait("k/:pay-1:undo", 60)).ok
+            assert calls == [("pay-1", "b", 1, large, "done")]
+
+    run(main())
+
+
+def test_what_a_compensation_that_fails_comes_to(place: str) -> None:
+    """It waits for a person, as any other; and nothing is said to be compensated that has none."""
+    gate = asyncio.Event()
+    saga = sagas.Saga("plain")
+
+    @saga.step
+    async def hold(task: Task) -> None:
+        await gate.wait()
+
+    pay = saga.step(name="pay", external=True, needs=[hold], keep=9)
+    pay.compensation(lambda task: 1 / 0)
+    saga.step(name="ship", external=True, needs=[hold])
+
+    async def main() -> None:
+        async with sagas.open(place, [saga]) as store:
+            begun = await store.start(saga, "k")
+            await until(lambda: store.active_attempts("k"))
+            await store.complete("k", "pay", 1)
+            await store.complete("k", "ship", 2)
+            await store.abort("k")
+            gate.set()
+            await begun.wait(60)
+            with pytest.raises(sagas.StepNotWaiting, match="no compensation. Undo it by hand"):
+                await store.compensate("k", "ship")
+            await store.compensate("k", "pay")
+            await until(lambda: [one for one in store.active_attempts("k/:pay:undo") if one.waits == "exhausted"])
+
+            async def asks() -> bool:
+                found = {(one.key, one.step, one.why.value) for one in await store.attention()}
+                return found == {("k", "ship", "unused_report"), ("k/:pay:undo", "pay", "exhausted")}
+
+            await until(asks)
+            await store.complete("k/:pay:undo", "pay")
+            await store.resolve("k", "shipped back")
+
+    run(main())
+
+
+def test_from_elsewhere(url: str, capsys: pytest.CaptureFixture[str]) -> None:
+    """A client and the command ask for it, and a node that has the definition does it; a node without it leaves that to the others."""
+    calls, gate, shell = list[Any](), asyncio.Event(), Shell(url, capsys)
+    saga = order(calls, gate)
+
+    async def main() -> None:
+        async with sagas.open(url, [saga], node="one") as store:
+            for key in ("k", "l"):
+                await aborted(store, saga, gate, key)
+        said = await asyncio.to_thread(shell, "compensate", "l", "pay", "--timeout", "0")
+        assert "requested" in said
+        async with sagas.open(url, [saga], node="two") as store, sagas.Client(url) as client:
+            assert {one.key for one in await client.attention()} >= {"k"}
+            await client.compensate("k", "pay", by="cleo")
+            await client.compensate("k", "pay", by="cleo")
+            await until(lambda: store.get("l/:pay:undo"))
+            for key in ("k", "l"):
+                assert (await store.wait(f"{key}/:pay:undo", 60)).ok
+            await until_none(store)
+            with pytest.raises(sagas.StepNotWaiting):
+                await client.compensate("k", "other")
+        assert sorted(call[1] for call in calls if call != "release") == ["k", "l"]
+
+    run(main())
+
+
+def test_what_is_no_option() -> None:
+    """Each error says which step, and what to do."""
+    saga = sagas.Saga("s")
+    with pytest.raises(sagas.DefinitionError, match="early_unused='no': must be ask or compensate"):
+        saga.step(name="a", external=True, early_unused="no")  # type: ignore[call-overload]
+    with pytest.raises(sagas.DefinitionError, match="only external steps"):
+        saga.step(name="b", early_unused="compensate")(lambda task: None)
+    other = sagas.Saga("t")
+    other.step(name="a", external=True, early_unused="compensate")
+    with pytest.raises(sagas.DefinitionError, match="needs a compensation"):
+        other.toml()
