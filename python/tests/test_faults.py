@@ -1219,6 +1219,28 @@ def test_closing_writes_what_waits_for_a_commit(
     assert [event for event in told if event.name == "commit_failed"] == []
 
 
+def test_an_abort_of_a_saga_that_ends_is_answered(
+    place: str, monkeypatch: pytest.MonkeyPatch
+) -> None:
+    """Also if its shard is closed meanwhile."""
+    monkeypatch.setattr("sagas.definition.shelf.SHARD_CAPACITY", 1)
+    jobs: list[asyncio.Task[bool]] = []
+
+    async def main() -> None:
+        async def work(task: Task) -> None:
+            jobs.append(asyncio.create_task(store.abort(task.key)))
+            for _ in range(int(task.key) % 6):
+                await asyncio.sleep(0)
+
+        saga = simple(work)
+        async with sagas.open(place, [saga], concurrency=1) as store:
+            ends = [await ended(store, saga, str(number)) for number in range(12)]
+            aborted = await asyncio.gather(*jobs)
+        assert aborted == [end.aborted for end in ends]
+
+    run(main())
+
+
 def test_closing_while_starts_wait(place: str, monkeypatch: pytest.MonkeyPatch) -> None:
     """Sagas that wait for a log, and logs that wait for a child, keep nobody: who was not told of a start gets Closed."""
     monkeypatch.setattr("sagas.definition.shelf.SHARD_CAPACITY", 4)

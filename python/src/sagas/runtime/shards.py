@@ -385,6 +385,9 @@ class Shards:
         takes_more = is_current and not driver.is_full and driver.opened < self._definitions.room
         if self.closed or driver.born or takes_more:
             return
+        for abort in (*driver.aborts, *driver.aborting):  # all its sagas were over before
+            abort.done = False
+            self._sagas.answer_abort(abort)
         self._stop(runner)
         self._closing[driver.number] = self._spawn(self._close(driver))
 
