@@ -95,8 +95,15 @@ class FeatureJudge(stores.Judge):
             said = stores.records.integrity(pathlib.Path(self.settings.direct))
             if said != "ok":
                 self.verdict.fault("broken-file", said)
+        for key in self.found.undefined:
+            self.verdict.fault("lost", f"the definition of {key}")
         for log in self.records.logs.values():
-            self._log(log)
+            if all(
+                row.place < len(log.texts)
+                for row in self.records.sagas.values()
+                if row.log == log.log
+            ):
+                self._log(log)
         self._archives()
         self._acknowledged()
         self._called()
