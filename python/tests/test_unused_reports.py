@@ -203,7 +203,7 @@ def test_over_a_kill_between_the_start_and_the_acknowledgement(place: str) -> No
 
 
 def test_with_items_a_codec_and_blobs(place: str, tmp_path: Any) -> None:
-    """A step of an item, of which the result is large and encoded: the compensation gets both. A program without the codec shows no result."""
+    """A step of an item, of which the result and the input are large and encoded: the compensation gets both. A program without the codec shows no result."""
     calls, gate, large = list[Any](), asyncio.Event(), "x" * 5000
 
     class Codec:
@@ -226,7 +226,7 @@ def test_with_items_a_codec_and_blobs(place: str, tmp_path: Any) -> None:
     async def main() -> None:
         words: dict[str, Any] = {"codec": Codec(), "blobs": FolderBlobStore(tmp_path / "blobs"), "blob_threshold": 1024}
         async with sagas.open(place, [saga], **words) as store:
-            begun = await store.start(saga, "k", {"items": ["a", "b"]})
+            begun = await store.start(saga, "k", {"items": ["a", large]})
             await until(lambda: store.active_attempts("k"))
             await store.complete("k", "pay-1", large)
             await store.abort("k")
@@ -238,7 +238,7 @@ def test_with_items_a_codec_and_blobs(place: str, tmp_path: Any) -> None:
             assert large not in stored
             await store.compensate("k", "pay-1")
             assert (await store.wait("k/:pay-1:undo", 60)).ok
-            assert calls == [("pay-1", "b", 1, large, "done")]
+            assert calls == [("pay-1", large, 1, large, "done")]
 
     run(main())
 

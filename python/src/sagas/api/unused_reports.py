@@ -23,7 +23,7 @@ from sagas.definition.start_options import StartOptions
 from sagas.definition.task import Task
 from sagas.definition.task_data import Told
 from sagas.definition.validation import meant
-from sagas.runtime import given_values
+from sagas.runtime import given_values, stored_values
 
 PAUSE = 30.0
 """Seconds until reports are looked for that another node left, and that nobody told of."""
@@ -102,9 +102,10 @@ class UnusedReports:
     ) -> dict[str, Any]:
         """The input of the saga that undoes a report. It is the same whoever makes it."""
         decode, name = kind.payloads.decode, kind.names[step]
-        ((shard,),) = await self._access.inside.store.read(NAME, row.id // SHARD_CAPACITY)
+        store = self._access.inside.store
+        ((shard,),) = await store.read(NAME, row.id // SHARD_CAPACITY)
         token = tokens.saga_token(shard, row.id % SHARD_CAPACITY)
-        given = decode(row.input)
+        given = decode(await stored_values.input_of(store, row.id, row.input))
         values = ShapeValues() if known.shape is None else ShapeValues.read(decode(known.shape))
         place = kind.place(name, values, given)
         done = {at: value for at, _, _, event, value, _ in known.results if event == "commit"}

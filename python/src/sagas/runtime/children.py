@@ -31,6 +31,7 @@ from sagas.definition.compiled import Kind
 from sagas.definition.labels import TOKEN
 from sagas.definition.saga import Saga
 from sagas.definition.start_options import StartOptions, deadline_at
+from sagas.runtime import stored_values
 from sagas.runtime.executor_host import Host
 from sagas.runtime.stored_values import ValueReader
 from sagas.runtime.waiters import Waiters
@@ -48,7 +49,7 @@ NAME = "SELECT name FROM shards WHERE shard = ?"
 
 class ChildEnd(NamedTuple):
     """How a child ended, with what the store has of it: its id, its definition and, as they are
-    stored, its input and the results of its steps.
+    stored, its input, which may be a reference to a blob, and the results of its steps.
     """
 
     end: SagaResult
@@ -235,13 +236,14 @@ class Children:
         kind = self._host.shelf.undo_kind(ended.kind)
         if kind is None:
             return None, None
+        text = await stored_values.input_of(self._host.store, ended.id, ended.text)
         ((name,),) = await self._host.store.read(NAME, ended.id // SHARD_CAPACITY)
         token = tokens.saga_token(name, ended.id % SHARD_CAPACITY)
         earlier = await self._earlier(attempt)
         before = [(await self._carried.end(one)).end.states for one in earlier]
         done = children.left_by(ended.end.states, before)
         return kind, children.undo_input(
-            undone, token, ended.kind, ended.text, ended.results, done, earlier
+            undone, token, ended.kind, text, ended.results, done, earlier
         )
 
     async def _child_to_undo(self, attempt: Attempt) -> str | None:
