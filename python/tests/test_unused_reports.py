@@ -307,6 +307,33 @@ def test_from_elsewhere(url: str, capsys: pytest.CaptureFixture[str]) -> None:
     run(main())
 
 
+def test_of_a_node_without_the_definition(url: str) -> None:
+    """Asked of such a node, or while only it has the shard, the nodes that have the definition do it."""
+    calls, gate, other = list[Any](), asyncio.Event(), sagas.Saga("other")
+    saga = order(calls, gate)
+    other.step(name="only")(lambda task: None)
+
+    async def main() -> None:
+        async with sagas.open(url, [saga], node="one") as store:
+            for key in ("k", "l"):
+                await aborted(store, saga, gate, key)
+        async with sagas.open(url, [other], node="two") as store, sagas.Client(url) as client:
+            asked = [asyncio.ensure_future(of.compensate(key, "pay", by="cleo")) for of, key in ((store, "k"), (client, "l"))]
+            await until(lambda: requests(store, 2))
+            async with sagas.open(url, [saga], node="three") as third:
+                await asyncio.gather(*asked)
+                for key in ("k", "l"):
+                    assert (await third.wait(f"{key}/:pay:undo", 60)).ok
+            await until_none(store)
+        assert sorted(call[1] for call in calls if call != "release") == ["k", "l"]
+
+    async def requests(store: Any, count: int) -> bool:
+        ((found,),) = await store._access.inside.store.read("SELECT count(*) FROM operator_commands WHERE answer IS NULL AND command = 'compensate'")
+        return bool(found == count)
+
+    run(main())
+
+
 def test_what_is_no_option() -> None:
     """Each error says which step, and what to do."""
     saga = sagas.Saga("s")
