@@ -83,9 +83,9 @@ def copy(undone: list[Any] | None = None) -> sagas.Saga:
     return saga
 
 
-def at(place: str, blobs: Any, saga: sagas.Saga, **words: Any) -> sagas.Store:
+def at(place: str, blobs: Any, *saga: sagas.Saga, **words: Any) -> sagas.Store:
     words = {"node": "one", "blob_threshold": THRESHOLD, **words}
-    return sagas.open(place, [saga], blobs=blobs, **words)
+    return sagas.open(place, saga, blobs=blobs, **words)
 
 
 async def texts(store: sagas.Store) -> list[str]:
@@ -279,6 +279,34 @@ def test_large_items_are_outside(place: str, tmp_path: pathlib.Path, codec: Any)
     async def parked(store: sagas.Store) -> list[sagas.Attention]:
         found = [one for one in await store.attention() if one.step != "sign"]
         return found if len(found) == 3 else []
+
+    run(main())
+
+
+@pytest.mark.parametrize("codec", [None, Reverse()], ids=["plain", "codec"])
+def test_a_child_with_large_values_is_undone(place: str, tmp_path: pathlib.Path, codec: Any) -> None:
+    """Its compensations get its input and its results, in the program and at a worker."""
+    undone, leaf, trip = list[Any](), sagas.Saga("leaf"), sagas.Saga("trip")
+    room = leaf.step(name="room", keep=9)(lambda task: task.input + "1")
+    room.compensation(lambda task: undone.append((task.input, task.result)))
+    car = leaf.step(name="car", needs=[room], keep=9)(lambda task: task.input + "2")
+    car.compensation(external=True)
+    trip.child(leaf, name="stay", input=lambda task: LARGE)
+
+    @trip.step(needs=trip.steps)
+    def tour(task: Task) -> None:
+        raise sagas.Fail("sold out")
+
+    async def main() -> None:
+        store = at(place, sagas.FolderBlobStore(tmp_path / "blobs"), trip, leaf, codec=codec)
+        store.leased = True
+        async with store:
+            begun = await store.start(trip, "k")
+            (leased,) = await store.workers.claim([("leaf", "car", "undo")], wait=60)
+            assert (leased.task.input, leased.task.result) == (LARGE, LARGE + "2")
+            assert await store.workers.report(leased.attempt_id, leased.lease)
+            assert (await begun.wait(60)).states["stay"] == "undone"
+            assert undone == [(LARGE, LARGE + "1")]
 
     run(main())
 

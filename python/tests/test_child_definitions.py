@@ -5,6 +5,7 @@ from __future__ import annotations
 import asyncio
 import contextlib
 import pathlib
+import sqlite3
 from typing import Any
 
 import pytest
@@ -392,6 +393,53 @@ def test_a_task_that_an_older_release_offered(tmp_path: pathlib.Path) -> None:
             (undo,) = await store.workers.claim([("leaf", "room", "undo")], wait=60, lease=60)
             await store.workers.report(undo.attempt_id, undo.lease, result=None)
             assert (await store.wait("t", 60)).states == UNDONE
+
+    run(main())
+
+
+@pytest.mark.parametrize("is_aborted", [False, True])
+def test_children_of_an_earlier_release(tmp_path: pathlib.Path, is_aborted: bool) -> None:
+    """A child that is under way, with its own child, and a saga that undoes one: they keep their keys, and no other is started."""
+    place, calls = str(tmp_path / "store.db"), list[str]()
+    leaf, middle, top = sagas.Saga("leaf"), sagas.Saga("middle"), sagas.Saga("top")
+    room = leaf.step(name="room", keep=9)(lambda task: calls.append("room"))
+    room.compensation(on_exhausted="ask", external=True)
+    sign = leaf.approval(name="sign", needs=[room])(lambda task: None)
+    middle.child(leaf, name="stay", input=lambda task: None)
+    end = middle.approval(name="end", needs=middle.steps)(lambda task: None)
+    top.child(middle, name="trip", input=lambda task: None)
+    known = [top, middle, leaf]
+
+    async def main() -> None:
+        async with sagas.open(place, known) as store:
+            await store.start(top, "t")
+            await store.start(middle, "u")
+            for key in ("u/:stay", "t/:trip/:stay"):
+                await until(lambda: store.active_attempts(key))
+                await until(lambda: [one for one in store.active_attempts(key) if one.waits == "approval"])
+            await store.complete("u/:stay", sign.name)
+            await until(lambda: [one for one in store.active_attempts("u") if one.waits == "approval"])
+            await store.fail("u", end.name, "no")
+            await until(lambda: store.active_attempts("u/:stay:undo"))
+        with contextlib.closing(sqlite3.connect(place)) as link, link:
+            link.execute("UPDATE sagas SET key = replace(key, '/:', '/')")
+            link.execute("UPDATE attempts SET value = replace(value, '/:', '/')")
+        store = sagas.open(place, known)
+        store.leased = True
+        async with store:
+            if is_aborted:
+                await store.abort("t")
+            else:
+                await store.complete("t/trip/stay", sign.name)
+                await until(lambda: [one for one in store.active_attempts("t/trip") if one.waits == "approval"])
+                await store.complete("t/trip", end.name)
+            for _ in range(2 if is_aborted else 1):
+                (undo,) = await store.workers.claim([("leaf", "room", "undo")], wait=60)
+                await store.workers.report(undo.attempt_id, undo.lease)
+            assert (await store.wait("t", 60)).ok is not is_aborted
+            assert (await store.wait("u", 60)).states["stay"] == "undone"
+            keys = {one.key for one in await store.list()}
+            assert keys == {"t", "t/trip", "t/trip/stay", "u", "u/stay", "u/stay:undo"} and calls == ["room"] * 2
 
     run(main())
 

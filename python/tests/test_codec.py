@@ -284,7 +284,7 @@ def test_nodes_and_clients_agree(url: str, caplog: pytest.LogCaptureFixture) -> 
     async def main() -> None:
         async with sagas.open(url, kinds, node="plain", lease=2.0) as store:
             for opened in (sagas.open(url, kinds, codec=KNOWN), sagas.Client(url, codec=KNOWN)):
-                with pytest.raises(sagas.StoreLocked, match="node plain .* without a codec"):
+                with pytest.raises(sagas.StoreLocked, match="node plain .* without a codec, or is of an earlier release"):
                     async with opened:
                         pass
             await store.start(outside, "o")

@@ -203,7 +203,7 @@ def test_over_a_kill_between_the_start_and_the_acknowledgement(place: str) -> No
 
 
 def test_with_items_a_codec_and_blobs(place: str, tmp_path: Any) -> None:
-    """A step of an item, of which the result is large and encoded: the compensation gets both. A program without the codec shows no result."""
+    """A step of an item, of which the result and the input are large and encoded: the compensation gets both. A program without the codec shows no result."""
     calls, gate, large = list[Any](), asyncio.Event(), "x" * 5000
 
     class Codec:
@@ -226,7 +226,7 @@ def test_with_items_a_codec_and_blobs(place: str, tmp_path: Any) -> None:
     async def main() -> None:
         words: dict[str, Any] = {"codec": Codec(), "blobs": FolderBlobStore(tmp_path / "blobs"), "blob_threshold": 1024}
         async with sagas.open(place, [saga], **words) as store:
-            begun = await store.start(saga, "k", {"items": ["a", "b"]})
+            begun = await store.start(saga, "k", {"items": ["a", large]})
             await until(lambda: store.active_attempts("k"))
             await store.complete("k", "pay-1", large)
             await store.abort("k")
@@ -238,7 +238,7 @@ def test_with_items_a_codec_and_blobs(place: str, tmp_path: Any) -> None:
             assert large not in stored
             await store.compensate("k", "pay-1")
             assert (await store.wait("k/:pay-1:undo", 60)).ok
-            assert calls == [("pay-1", "b", 1, large, "done")]
+            assert calls == [("pay-1", large, 1, large, "done")]
 
     run(main())
 
@@ -303,6 +303,33 @@ def test_from_elsewhere(url: str, capsys: pytest.CaptureFixture[str]) -> None:
             with pytest.raises(sagas.StepNotWaiting):
                 await client.compensate("k", "other")
         assert sorted(call[1] for call in calls if call != "release") == ["k", "l"]
+
+    run(main())
+
+
+def test_of_a_node_without_the_definition(url: str) -> None:
+    """Asked of such a node, or while only it has the shard, the nodes that have the definition do it."""
+    calls, gate, other = list[Any](), asyncio.Event(), sagas.Saga("other")
+    saga = order(calls, gate)
+    other.step(name="only")(lambda task: None)
+
+    async def main() -> None:
+        async with sagas.open(url, [saga], node="one") as store:
+            for key in ("k", "l"):
+                await aborted(store, saga, gate, key)
+        async with sagas.open(url, [other], node="two") as store, sagas.Client(url) as client:
+            asked = [asyncio.ensure_future(of.compensate(key, "pay", by="cleo")) for of, key in ((store, "k"), (client, "l"))]
+            await until(lambda: requests(store, 2))
+            async with sagas.open(url, [saga], node="three") as third:
+                await asyncio.gather(*asked)
+                for key in ("k", "l"):
+                    assert (await third.wait(f"{key}/:pay:undo", 60)).ok
+            await until_none(store)
+        assert sorted(call[1] for call in calls if call != "release") == ["k", "l"]
+
+    async def requests(store: Any, count: int) -> bool:
+        ((found,),) = await store._access.inside.store.read("SELECT count(*) FROM operator_commands WHERE answer IS NULL AND command = 'compensate'")
+        return bool(found == count)
 
     run(main())
 

@@ -23,7 +23,8 @@ from sagas.definition.start_options import StartOptions
 from sagas.definition.task import Task
 from sagas.definition.task_data import Told
 from sagas.definition.validation import meant
-from sagas.runtime import given_values
+from sagas.runtime import given_values, stored_values
+from sagas.storage import operator_requests
 
 PAUSE = 30.0
 """Seconds until reports are looked for that another node left, and that nobody told of."""
@@ -70,9 +71,16 @@ class UnusedReports:
         if row.note is not None:
             raise StepNotWaiting(f"{where}: the saga is resolved already")
         declared = kind.steps[number]
-        if kind.saga is None or declared is None or (fault := report_undos.fault(declared)):
-            why = fault if kind.saga and declared else "this program does not have the definition"
-            raise StepNotWaiting(f"{where}: {why}. Undo it by hand, and resolve the saga")
+        if kind.saga is None or declared is None:
+            if inside.store.shared:
+                await self._hand_over(row, step, request)
+                return
+            raise StepNotWaiting(
+                f"{where}: this program does not have the definition. Ask one that has it, or undo "
+                "the step by hand, and resolve the saga"
+            )
+        if fault := report_undos.fault(declared):
+            raise StepNotWaiting(f"{where}: {fault}. Undo it by hand, and resolve the saga")
         saga = inside.shelf.report_undo(kind.saga, declared)
         given = await self._input(row, known, kind, number, text or "null")
         labels = {str(name): str(value) for name, value in await inside.store.read(LABELS, row.id)}
@@ -82,6 +90,17 @@ class UnusedReports:
         batch.more.undone.append((row.id, number))
         batch.answer(request, "true")
         await inside.kept(batch)
+
+    async def _hand_over(self, row: SagaRow, step: str, request: Wanted) -> None:
+        """Ask the nodes that have the definition. What was asked here by a row is theirs to
+        answer.
+        """
+        if isinstance(request, int):
+            raise Moved(f"saga {row.key!r}")
+        inside = self._access.inside
+        value = serialization.write({"step": step}) if request is None else request[2]
+        answer = await inside.store.ask(row, "compensate", value, inside.shelf.payloads)
+        operator_requests.told(answer)
 
     async def _ended(self, key: str, of: int | None) -> SagaRow:
         """The saga with this key. Raises `StepNotWaiting` where it has not ended."""
@@ -102,9 +121,10 @@ class UnusedReports:
     ) -> dict[str, Any]:
         """The input of the saga that undoes a report. It is the same whoever makes it."""
         decode, name = kind.payloads.decode, kind.names[step]
-        ((shard,),) = await self._access.inside.store.read(NAME, row.id // SHARD_CAPACITY)
+        store = self._access.inside.store
+        ((shard,),) = await store.read(NAME, row.id // SHARD_CAPACITY)
         token = tokens.saga_token(shard, row.id % SHARD_CAPACITY)
-        given = decode(row.input)
+        given = decode(await stored_values.input_of(store, row.id, row.input))
         values = ShapeValues() if known.shape is None else ShapeValues.read(decode(known.shape))
         place = kind.place(name, values, given)
         done = {at: value for at, _, _, event, value, _ in known.results if event == "commit"}

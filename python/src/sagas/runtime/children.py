@@ -31,6 +31,7 @@ from sagas.definition.compiled import Kind
 from sagas.definition.labels import TOKEN
 from sagas.definition.saga import Saga
 from sagas.definition.start_options import StartOptions, deadline_at
+from sagas.runtime import stored_values
 from sagas.runtime.executor_host import Host
 from sagas.runtime.stored_values import ValueReader
 from sagas.runtime.waiters import Waiters
@@ -39,16 +40,16 @@ AGAIN = 1.0
 """Seconds until what the store could not do is tried again."""
 LOOK = 5.0
 """Seconds until a stuck child is looked at by itself: another node may have resolved it."""
-PARENT = """
-SELECT s.id, c.parent FROM sagas s LEFT JOIN children c ON c.id = s.id WHERE s.key = ?
-"""
+PARENTS = "SELECT s.id, c.parent, s.key FROM sagas s LEFT JOIN children c ON c.id = s.id"
+PARENT = f"{PARENTS} WHERE s.key = ?"
+CHILD = f"{PARENTS} WHERE s.key IN (?, ?)"
 LABELS = f"SELECT name, value FROM labels WHERE id = ? AND name <> '{TOKEN}'"
 NAME = "SELECT name FROM shards WHERE shard = ?"
 
 
 class ChildEnd(NamedTuple):
     """How a child ended, with what the store has of it: its id, its definition and, as they are
-    stored, its input and the results of its steps.
+    stored, its input, which may be a reference to a blob, and the results of its steps.
     """
 
     end: SagaResult
@@ -98,7 +99,7 @@ class Children:
         self._jobs: dict[Attempt, asyncio.Task[None]] = {}
         self._aborts: dict[Attempt, asyncio.Task[None]] = {}
         self._drops: dict[Attempt, asyncio.Task[None]] = {}
-        self._there: set[Attempt] = set()  # their children are in the store
+        self._there: dict[Attempt, str] = {}  # the keys of children that are in the store
         self._news, self._is_open = asyncio.Event(), asyncio.Event()
 
     def open(self) -> None:
@@ -117,7 +118,7 @@ class Children:
 
     def gone(self, attempt: Attempt) -> None:
         """It is reported, or not this program's any more."""
-        self._there.discard(attempt)
+        self._there.pop(attempt, None)
         for jobs in (self._jobs, self._aborts, self._drops):
             job = jobs.pop(attempt, None)
             if job is not None and job is not asyncio.current_task():
@@ -163,7 +164,7 @@ class Children:
             return outcomes.failure(f"{type(error).__name__}: {error}", final=True)
         if isinstance(found, Outcome):
             return found
-        self._there.add(attempt)
+        self._there[attempt] = found
         self._abort_if_due(attempt)
         while True:
             self._news.clear()
@@ -192,7 +193,7 @@ class Children:
             SagasError: The child cannot be started.
         """
         key = children.key_of(attempt)
-        while not await self._is_there(attempt, key):
+        while (there := await self._key_there(attempt, key)) is None:
             await self._values.fill(attempt)
             try:
                 saga, given = await self._new(attempt)
@@ -205,19 +206,23 @@ class Children:
             if saga is None:
                 return Outcome(SUCCEEDED, "null")  # there is no compensation to be called
             if await self._carried.start(saga, key, given, await self._options(attempt, saga)):
-                break
-        return key
+                return key
+        return there
 
-    async def _is_there(self, attempt: Attempt, key: str) -> bool:
-        """Whether its child is in the store. Raises `KeyConflict`."""
-        for id, parent in await self._host.store.read(PARENT, key):
+    async def _key_there(self, attempt: Attempt, key: str) -> str | None:
+        """The key of its child, if that is in the store: this one, or that of an earlier release.
+        Raises `KeyConflict`.
+        """
+        earlier = f"{attempt.key}/{key[len(attempt.key) + len(BELOW) :]}"
+        for id, parent, there in await self._host.store.read(CHILD, key, earlier):
             if parent == attempt.instance.id:
-                return True
-            raise KeyConflict(
-                f"key {key!r} belongs to saga {id}, which is not the child of saga "
-                f"{attempt.key!r}. Use other keys for sagas that are not children"
-            )
-        return False
+                return str(there)
+            if there == key:
+                raise KeyConflict(
+                    f"key {key!r} belongs to saga {id}, which is not the child of saga "
+                    f"{attempt.key!r}. Use other keys for sagas that are not children"
+                )
+        return None
 
     async def _new(self, attempt: Attempt) -> tuple[Saga | Kind | None, Any]:
         """What its child is of, and is started with; nothing where there is nothing to be undone.
@@ -235,13 +240,14 @@ class Children:
         kind = self._host.shelf.undo_kind(ended.kind)
         if kind is None:
             return None, None
+        text = await stored_values.input_of(self._host.store, ended.id, ended.text)
         ((name,),) = await self._host.store.read(NAME, ended.id // SHARD_CAPACITY)
         token = tokens.saga_token(name, ended.id % SHARD_CAPACITY)
         earlier = await self._earlier(attempt)
         before = [(await self._carried.end(one)).end.states for one in earlier]
         done = children.left_by(ended.end.states, before)
         return kind, children.undo_input(
-            undone, token, ended.kind, ended.text, ended.results, done, earlier
+            undone, token, ended.kind, text, ended.results, done, earlier
         )
 
     async def _child_to_undo(self, attempt: Attempt) -> str | None:
@@ -257,7 +263,7 @@ class Children:
         if isinstance(key, str):
             is_own = child_keys.is_of_step(key, attempt.key, attempt.name) or BELOW not in key
             rows = await self._host.store.read(PARENT, key) if is_own else ()
-            if any(parent == attempt.instance.id for _, parent in rows):
+            if any(parent == attempt.instance.id for _, parent, _ in rows):
                 return key
         raise InvalidResult(
             "the result of the step has no key of a child that it started, so there is no child to "
@@ -276,8 +282,8 @@ class Children:
                     number += 1
         for number in range(1, children.number_of(attempt)):
             key = child_keys.key_of(attempt.key, attempt.name, number, attempt.undo)
-            if await self._is_known(key):
-                found.append(key)
+            if (there := await self._key_there(attempt, key)) is not None:
+                found.append(there)
         return found
 
     async def _is_known(self, key: str) -> bool:
@@ -314,7 +320,7 @@ class Children:
             self._drops[attempt] = self._host.spawn(self._abort_if_dropped(attempt))
 
     async def _abort(self, attempt: Attempt) -> None:
-        key = children.key_of(attempt)
+        key = self._there[attempt]
         while True:
             try:
                 await self._carried.abort(key, f"the abort of saga {attempt.key}")

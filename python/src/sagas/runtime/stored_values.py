@@ -7,7 +7,7 @@ from collections.abc import Callable, Sequence
 
 from sagas.core.held_values import StoredValues
 from sagas.core.model import Attempt
-from sagas.definition.blobs import BlobUnavailable
+from sagas.definition.blobs import BlobUnavailable, Reference
 from sagas.runtime.executor_host import Host
 from sagas.runtime.retries import until_answered
 from sagas.storage.interface import Database
@@ -36,6 +36,14 @@ async def of(
         return None
     text, shape = rows[0]
     return StoredValues(text, shape, {step: value or "null" for step, value in results})
+
+
+async def input_of(store: Database, id: int, text: str) -> str:
+    """Return the input of a saga, by that of its row, which may be a reference to a blob. Raises
+    `BlobUnavailable`.
+    """
+    stored = await of(store, id, ()) if Reference.of(text) else None
+    return text if stored is None else stored.text
 
 
 class ValueReader:

@@ -36,7 +36,7 @@ async def _note(asker: Asker) -> None:
             noted = await (await link.execute(NOTED)).fetchall()
             if nodes and not noted:
                 raise StoreLocked(
-                    f"{asker.where}: node {nodes[0][0]} has this store open without a codec. Stop "
-                    "all nodes without one first"
+                    f"{asker.where}: node {nodes[0][0]} has this store open without a codec, or is "
+                    "of an earlier release. Stop all such nodes first"
                 )
             await link.execute(NOTE)

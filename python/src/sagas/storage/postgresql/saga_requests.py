@@ -18,9 +18,10 @@ from sagas.storage.postgresql import connections, notifications
 from sagas.storage.postgresql.key_finder import FIND_ONE
 from sagas.storage.postgresql.node_lease import UNTAKEN
 
-MINE = (
-    f"JOIN shards l ON l.shard = s.id / {SHARD_CAPACITY} AND (l.owner = %(node)s OR l.closed <> 0)"
-)
+MINE = f"""
+JOIN shards l ON l.shard = s.id / {SHARD_CAPACITY}
+  AND (l.owner = %(node)s OR l.closed <> 0 OR r.command = 'compensate')"""
+"""A compensation is for whoever has the definition."""
 REQUESTS = f"""
 SELECT r.id, r.key, r.command, r.value, s.id FROM operator_commands r JOIN sagas s ON s.id = r.saga
 {MINE}
@@ -53,7 +54,9 @@ FIND_NOW = queries.named(FIND_ONE.replace("$1", "?"), "key", "key")
 
 
 async def asked_of(asker: connections.Asker, node: str, after: int, most: int) -> list[Request]:
-    """What was asked of the sagas of a node's shards, and has no answer: `Database.requests`."""
+    """What was asked of the sagas of a node's shards, and what any node may do, without an answer:
+    `Database.requests`.
+    """
     words = {"node": node, "after": after, "most": most}
     return await asker.read(REQUESTS, **words)  # type: ignore[return-value]
 
