@@ -42,7 +42,9 @@ struct Talk {
 }
 
 const OK: &str = "Ok(())";
+
 const OWN: &[usize] = &[0, 1];
+
 const OPENED: &[(usize, Call, &str)] = &[(0, Open(0, 0), "Ok(0)")];
 
 /// Each seat of the first desk opens a saga on both shards, in opposite orders. Seat 2 of the second desk has the same
@@ -606,7 +608,13 @@ fn turn<R: process::Abort + Wait + Alloc<A = Global>>(
     let saga = desk.open_saga(rt, seat, last, 0).expect(rt, "a saga");
     assert_eq!(rt; saga, expected);
     for missed in 0..turns.tries {
-        attempt(rt, desk, seat, (saga, missed + 1), missed + 1 == turns.tries);
+        attempt(
+            rt,
+            desk,
+            seat,
+            (saga, missed + 1),
+            missed + 1 == turns.tries,
+        );
     }
     let claim = desk.claim(rt, seat).expect(rt, "memory");
     let rest = if turns.is_one_held { "idle" } else { "settled" };
@@ -622,7 +630,10 @@ fn take_turns<R: process::Abort + Wait + Alloc<A = Global>>(rt: &R, turns: &Turn
     let mut seat = seats.pop().expect(rt, "a seat");
     let mut first = 0u32;
     if turns.is_one_held {
-        assert_eq!(rt; desk.open_saga(rt, &mut seat, shards - 1, 0).ok(), Some(shards - 1));
+        assert_eq!(rt;
+            desk.open_saga(rt, &mut seat, shards - 1, 0).ok(),
+            Some(shards - 1)
+        );
         let held = desk.claim(rt, &mut other).expect(rt, "memory");
         assert!(rt; matches!(&held, Claim::Run(_)));
         first = 1;
