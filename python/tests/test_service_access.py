@@ -220,15 +220,15 @@ BOTH = [
     ("complete", {"undo": False}, "result: it is missing"),
     ("complete", {"result": 1, "error": "x"}, "error: there is no such field"),
     ("complete", {"approved": True, "result": 1}, "approved: there is no such field"),
-    ("complete", {"result": 1, "note": 5}, "note: it is a text"),
-    ("complete", {"result": 1, "undo": "no"}, "undo: it is true or false"),
-    ("complete", [], "the body: it is an object"),
-    ("complete", [["result", 1]], "the body: it is an object"),
+    ("complete", {"result": 1, "note": 5}, "note: must be a string"),
+    ("complete", {"result": 1, "undo": "no"}, "undo: must be true or false"),
+    ("complete", [], "the body: must be an object"),
+    ("complete", [["result", 1]], "the body: must be an object"),
     ("fail", {}, "error: it is missing"),
     ("fail", {"error": "x", "result": 1}, "result: there is no such field"),
-    ("fail", {"error": None}, "error: it is a text"),
-    ("fail", {"error": 5}, "error: it is a text"),
-    ("fail", [["error", "x"]], "the body: it is an object"),
+    ("fail", {"error": None}, "error: must be a string"),
+    ("fail", {"error": 5}, "error: must be a string"),
+    ("fail", [["error", "x"]], "the body: must be an object"),
 ]  # fmt: skip
 
 

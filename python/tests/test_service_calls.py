@@ -61,7 +61,7 @@ def test_a_start_is_once(client: httpx.Client) -> None:
         ('{"key":', "application/json", 400, "the body is not JSON at line 1"),
         ("NaN", "application/json", 400, "the body is not JSON"),
         ("{}", "text/plain", 415, "send it with Content-Type: application/json"),
-        ("[1]", "application/json", 422, "it is an object"),
+        ("[1]", "application/json", 422, "must be an object"),
     ):
         wrong = client.post("/v1/sagas", content=body, headers={"content-type": kind})
         assert wrong.status_code == status and says in wrong.json()["detail"]

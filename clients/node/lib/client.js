@@ -14,7 +14,7 @@ const BEYOND = 15; // seconds that an answer may take beyond that
 const LATE = 10;
 
 const name = (what, value) => {
-  if (typeof value !== "string" || !value) throw new InvalidArgument(`${what}: it is a text that is not empty`);
+  if (typeof value !== "string" || !value) throw new InvalidArgument(`${what}: must be a string that is not empty`);
   if (/\p{Surrogate}/u.test(value)) throw new InvalidArgument(`${what}: it has half of a character`);
   return value;
 };
@@ -55,7 +55,7 @@ export class Client {
   #values;
 
   constructor(url, { token, timeout = PATIENCE, codec, blobs } = {}) {
-    if (!(timeout > 0)) throw new InvalidArgument("timeout: it is a number of seconds above 0");
+    if (!(timeout > 0)) throw new InvalidArgument("timeout: must be a number of seconds above 0");
     this.#values = new Values(codec, blobs);
     this.#connection = new Connection(url, token);
     this.#timeout = timeout;

@@ -50,7 +50,7 @@ export class Task {
   }
 
   progress(fraction, detail) {
-    if (typeof fraction !== "number" || !(fraction >= 0 && fraction <= 1)) throw new InvalidArgument("progress: it is a number from 0 to 1");
+    if (typeof fraction !== "number" || !(fraction >= 0 && fraction <= 1)) throw new InvalidArgument("progress: must be a number from 0 to 1");
     if (detail !== undefined && typeof detail !== "string") throw new InvalidArgument("progress: the detail is a text");
     this.#news = { progress: fraction, detail: detail === undefined ? null : shortened(detail, MOST_DETAIL) };
   }

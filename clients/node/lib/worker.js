@@ -23,12 +23,12 @@ const WORD = /^[a-z][a-z0-9_-]{0,31}$/;
 const PATH = /^[a-z][a-z0-9_-]{0,31}(\/[a-z][a-z0-9_-]{0,31}){0,8}$/; // a step, also of an included saga: `hotel/room`
 
 const between = (what, value, least, most) => {
-  if (typeof value !== "number" || !(value >= least && value <= most)) throw new InvalidArgument(`${what}: it is a number from ${least} to ${most}`);
+  if (typeof value !== "number" || !(value >= least && value <= most)) throw new InvalidArgument(`${what}: must be a number from ${least} to ${most}`);
   return value;
 };
 
 const whole = (what, value, least, most) => {
-  if (!Number.isInteger(value)) throw new InvalidArgument(`${what}: it is a whole number from ${least} to ${most}`);
+  if (!Number.isInteger(value)) throw new InvalidArgument(`${what}: must be a whole number from ${least} to ${most}`);
   return between(what, value, least, most);
 };
 

@@ -150,7 +150,7 @@ def check_still(request: Request, who: Who) -> None:
 
 def rights_changed() -> Problem:
     """The token is there, and is kept to something else than it was."""
-    return Problem("RightsChanged", "what your token may was changed meanwhile: ask again")
+    return Problem("RightsChanged", "the rights of your token have changed. Send the request again")
 
 
 def check_definition(who: Who, definition: str | None, starts: bool = True) -> None:

@@ -28,7 +28,7 @@ TITLE, VERSION = "sagas", "1"
 TAGS = {
     "sagas": "Start sagas, wait for them, and decide approvals.",
     "workers": "Claim tasks and report them.",
-    "operators": "What needs a person, deeds on many sagas, health and metrics.",
+    "operators": "What needs a person, changes of many sagas, health and metrics.",
     "definitions": "The definitions that the service has.",
 }
 ALWAYS = (

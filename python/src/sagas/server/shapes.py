@@ -65,14 +65,15 @@ class Text(Shape):
 
     def read(self, value: Any, field: str) -> str:
         if not isinstance(value, str):
-            raise Invalid(field, "it is a text")
+            raise Invalid(field, "must be a string")
         found = value.strip() if self.strip else value
         if len(found) < self.least:
-            raise Invalid(field, "it is empty" if self.least == 1 else f"at least {self.least}")
+            least = "not be empty" if self.least == 1 else f"have at least {self.least} characters"
+            raise Invalid(field, f"must {least}")
         if self.most is not None and len(found) > self.most:
-            raise Invalid(field, f"it has at most {self.most} characters")
+            raise Invalid(field, f"must have at most {self.most} characters")
         if self.pattern is not None and not re.fullmatch(self.pattern, found):
-            raise Invalid(field, f"it has the form {self.pattern}")
+            raise Invalid(field, f"must match {self.pattern}")
         return found
 
     def schema(self) -> Schema:
@@ -93,7 +94,7 @@ class Choice(Shape):
 
     def read(self, value: Any, field: str) -> str:
         if not isinstance(value, str) or value not in self.some:
-            raise Invalid(field, f"it is one of {', '.join(self.some)}")
+            raise Invalid(field, f"must be one of {', '.join(self.some)}")
         return value
 
     def schema(self) -> Schema:
@@ -111,18 +112,18 @@ class Number(Shape):
     def read(self, value: Any, field: str) -> float:
         is_number = isinstance(value, (int, float)) and not isinstance(value, bool)
         if not is_number or (isinstance(value, float) and not math.isfinite(value)):
-            raise Invalid(field, "it is a number")
+            raise Invalid(field, "must be a number")
         if self.whole and value != int(value):
-            raise Invalid(field, "it is a whole number")
+            raise Invalid(field, "must be a whole number")
         if (self.least is not None and value < self.least) or (
             self.most is not None and value > self.most
         ):
-            raise Invalid(field, f"it is from {self.least} to {self.most}")
+            raise Invalid(field, f"must be from {self.least} to {self.most}")
         return int(value) if self.whole else float(value)
 
     def of_text(self, text: str, field: str) -> float:
         if not (WHOLE if self.whole else DECIMAL).fullmatch(text):
-            raise Invalid(field, f"it is a {'whole ' if self.whole else ''}number")
+            raise Invalid(field, f"must be a {'whole ' if self.whole else ''}number")
         return self.read(int(text) if self.whole else float(text), field)
 
     def schema(self) -> Schema:
@@ -137,7 +138,7 @@ class Flag(Shape):
 
     def read(self, value: Any, field: str) -> bool:
         if not isinstance(value, bool):
-            raise Invalid(field, "it is true or false")
+            raise Invalid(field, "must be true or false")
         return value
 
     def of_text(self, text: str, field: str) -> bool:
@@ -176,9 +177,9 @@ class Several(Shape):
 
     def read(self, value: Any, field: str) -> list[Any]:
         if not isinstance(value, list):
-            raise Invalid(field, "it is a list")
+            raise Invalid(field, "must be a list")
         if len(value) < self.least or (self.most is not None and len(value) > self.most):
-            raise Invalid(field, f"it has from {self.least} to {self.most} entries")
+            raise Invalid(field, f"must have from {self.least} to {self.most} entries")
         return [self.of.read(one, f"{field}.{place}") for place, one in enumerate(value)]
 
     def schema(self) -> Schema:
@@ -195,7 +196,7 @@ class Mapped(Shape):
 
     def read(self, value: Any, field: str) -> dict[str, Any]:
         if not isinstance(value, dict):
-            raise Invalid(field, "it is an object")
+            raise Invalid(field, "must be an object")
         return {name: self.of.read(one, f"{field}.{name}") for name, one in value.items()}
 
     def schema(self) -> Schema:
@@ -241,7 +242,7 @@ class Record(Shape):
 
     def read(self, value: Any, field: str) -> dict[str, Any]:
         if not isinstance(value, dict):
-            raise Invalid(field, "it is an object")
+            raise Invalid(field, "must be an object")
         return read_fields(self.fields, value, field)
 
     def schema(self) -> Schema:

@@ -24,7 +24,7 @@ RESOLVE = Record("ResolveRequest", {"note": NOTE}, example={"note": "bought one 
 
 @routes.get("/health/live", "isLive", answers={200: Answer("It lives.", answers.HEALTH)})
 async def live(call: Call) -> Response:
-    """Whether it lives.
+    """Whether the process is alive.
 
     200 as long as its loop turns: a supervisor restarts it where this is not answered."""
     return Json({"alive": True})
