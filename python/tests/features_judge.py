@@ -48,6 +48,8 @@ FAULTS = stores.FAULTS | {
 LATE = 3.0
 """Seconds behind a deadline within which the store looks for it, also after a takeover."""
 ROOT = re.compile(r"k(\d+)")
+AGAIN = re.compile(r":undo/\d+$")
+"""The end of the key of a saga that undoes a child once more: what is undone it leaves out."""
 
 
 @dataclass
@@ -93,8 +95,15 @@ class FeatureJudge(stores.Judge):
             said = stores.records.integrity(pathlib.Path(self.settings.direct))
             if said != "ok":
                 self.verdict.fault("broken-file", said)
+        for key in self.found.undefined:
+            self.verdict.fault("lost", f"the definition of {key}")
         for log in self.records.logs.values():
-            self._log(log)
+            if all(
+                row.place < len(log.texts)
+                for row in self.records.sagas.values()
+                if row.log == log.log
+            ):
+                self._log(log)
         self._archives()
         self._acknowledged()
         self._called()
@@ -105,7 +114,7 @@ class FeatureJudge(stores.Judge):
             self._deadline(one)
             root = self.found.of(one.key.partition("/:")[0])
             for step in one.steps if len(root) == 1 else []:  # its key was not free before
-                if one.declared[step] in CHILDREN:
+                if one.declared[step] in CHILDREN and not AGAIN.search(one.key):
                     self._child(one, step)
         self._limits()
         self._contexts()
@@ -358,15 +367,18 @@ class FeatureJudge(stores.Judge):
             for other in sagas
         ]
         completed = [other for other in below if other.told == "completed"]
-        undone = self.found.of(f"{key}:undo")
+        again = re.compile(re.escape(key) + r":undo(/\d+)?")
+        found = self.found.by_key.items()
+        undone = [other for name, some in found if again.fullmatch(name) for other in some]
+        is_by_hand = bool(self.by_hand.get((one.key, step, "undo")))
         said = f"{one.key} {step} is {state}, and its child {[other.told for other in below]}"
         self.verdict.figures["children"] += len(below)
         if state in ("committed", "undone", "fixed") and not completed:
             fault("child", said)
         elif state in ("failed", "waiting") and completed:
             fault("child", said)
-        elif state == "undone":
-            if not undone or any(other.told != "completed" for other in undone):
+        elif state == "undone" and not is_by_hand:
+            if not any(other.told == "completed" for other in undone):
                 fault("child", f"{said}, undone by {[other.told for other in undone]}")
             for other in completed:
                 self._undone(other, f"{said}: not undone")

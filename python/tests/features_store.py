@@ -136,6 +136,7 @@ class FeatureStore:
     def __init__(self, settings: Settings) -> None:
         self.settings, self.values = settings, Values(settings)
         self.records = records.read(settings.direct)
+        self.undefined: list[str] = []
         self.instances = [*self._stored(), *self._archived()]
         self.by_token = {one.token: one for one in self.instances}
         self.by_key: dict[str, list[Instance]] = {}
@@ -171,7 +172,11 @@ class FeatureStore:
                 times.setdefault(shard, {}).setdefault(event["saga"], []).append((at, event))
         names = {log: self._texts(rows) for log, rows in found.logs.items()}
         for row in found.sagas.values():
-            log, text = found.logs[row.log], found.logs[row.log].texts[row.place]
+            log = found.logs[row.log]
+            if row.place >= len(log.texts):
+                self.undefined.append(row.key)
+                continue
+            text = log.texts[row.place]
             saga, steps = names[row.log][row.place]
             deadline, note = more.get(row.id, (None, None))
             outcomes = {

@@ -257,7 +257,7 @@ class Node:
             await self.store.resolve(one.key, "somebody saw to it")
             self.note(what="resolved", key=one.key)
             return
-        word = random.choice(("retry", "retry", "complete", "fail"))
+        word = "fail" if self._is_refused(one) else random.choice(("retry", "retry", "complete"))
         if one.why != "exhausted":
             word = "complete"
         value = {"operator": secrets.token_hex(3)}
@@ -272,6 +272,14 @@ class Node:
         else:
             await self.store.fail(one.key, one.step, "somebody says no", **words)
         self.note(what="answered", **said)
+
+    def _is_refused(self, one: sagas.Attention) -> bool:
+        """Whether operators say that a step failed for good. Of such a step no one asks for another
+        call: that may have its effect before the answer of one who looked earlier.
+        """
+        number = int("".join(filter(str.isdigit, one.key.partition("/")[0])) or 0)
+        is_retried = self.has("label") and number % 3 == 2
+        return not is_retried and chance(f"{one.key}/{one.step}/refused") < 0.25
 
     async def _report_late(self) -> None:
         """Report the papers that no caller has reported."""

@@ -451,7 +451,7 @@ def test_how_many_missed_times_are_started(place: str) -> None:
             assert found == {"e": ("all", 3, "allow"), "c": ("all", 2, "allow")}
         clock.now += 90 * DAY
         async with contextlib.AsyncExitStack() as nodes:
-            count = 1 if "://" not in place else 3
+            count = 1 if "://" not in place else 10
             for _ in range(count):
                 await nodes.enter_async_context(sagas.open(place, [kind], clock=clock, on_event=listen))
             await until(lambda: len(keys(place)) >= 5)

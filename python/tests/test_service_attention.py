@@ -10,8 +10,18 @@ import httpx
 import pytest
 from serving import DEFINITIONS, FEW, LONG, Served, all_done, error_of, report, served, start, take
 
+PAIR = """format = 2
+name = "pair"
+[[step]]
+name = "a"
+skip = "never"
+[[step]]
+name = "b"
+skip = "never"
+"""
 FILES = {
     **DEFINITIONS,
+    "pair.toml": PAIR,
     "asks.toml": FEW.replace('"few"', '"asks"'),
     "asks.service.toml": '[step.a]\non_exhausted = "ask"\n',
 }
@@ -185,3 +195,15 @@ def test_a_filter_that_selects_nothing_by_mistake(client: httpx.Client) -> None:
     some = {"filter": {"kind": "exhausted", "step": "reviev"}}
     answer = client.post("/v1/bulk/retry", json=some)
     assert "no definition has a step 'reviev'; did you mean 'review'?" in answer.json()["warnings"]
+
+
+def test_the_cause_is_the_last_failure(client: httpx.Client) -> None:
+    """Of two steps that failed, whatever their order in the definition."""
+    for key, order in (("two-ab", "ab"), ("two-ba", "ba")):
+        start(client, "pair", key)
+        tasks = {one["step"]: one for step in "ab" for one in take(client, f"pair/{step}")}
+        for step in order:
+            report(client, tasks[step], "fail", error=f"no {step}", final=True)
+        client.get(f"/v1/sagas/{key}/wait")
+        (one,) = client.get(f"/v1/attention?kind=stuck&search={key}").json()["entries"]
+        assert one["detail"].endswith(f": no {order[-1]}"), one

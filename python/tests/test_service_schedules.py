@@ -37,9 +37,9 @@ def world(tmp_path_factory: pytest.TempPathFactory, store: str | None) -> Iterat
             client.close()
 
 
-def declare(service: Served, name: str, saga: str, seconds: float) -> None:
+def declare(service: Served, name: str, saga: str, seconds: float, *policy: Any) -> None:
     """A schedule, as a program declares it beside the service."""
-    when = timing(None, seconds, "UTC", "last")
+    when = timing(None, seconds, "UTC", *(policy or ("last",)))
     with contextlib.closing(admin.connect(service.store, "rw")) as link:
         labels = json.dumps({"by": name})
         Schedules(link).put(name, (saga, 1), '{"n":1}', labels, when, time.time())
@@ -89,8 +89,9 @@ def test_the_dashboard_has_schedules_and_labels(world: World) -> None:
     """A page with forms, which ask for the session's word, and before they remove one; and a filter
     of the list."""
     page = world.page("operator")
-    declare(world.service, "<b>night", "trip", 86400.0)
+    declare(world.service, "<b>night", "trip", 86400.0, "all", 7, "queue")
     text = page.get("/ui/schedules").text
+    assert "one saga at a time (queue), up to 7 missed times" in text
     assert "&lt;b&gt;night" in text and "<b>night" not in text and "every 1 d" in text
     assert "night" not in world.page("of-order").get("/ui/schedules").text
     csrf = re.search(r'name="csrf" value="([^"]+)"', text)

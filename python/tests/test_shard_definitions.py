@@ -8,6 +8,7 @@ from contextlib import contextmanager
 from typing import Any
 
 import pytest
+from cases import ended, run, until
 from core_world import Engine
 
 import sagas
@@ -108,3 +109,34 @@ def kind_line(of: Kind) -> str:
     definitions = ShardDefinitions([])
     definitions.place(of)
     return definitions.define_lines()[0]
+
+
+def test_what_undoes_an_older_child_is_stored_with_its_definition(place: str) -> None:
+    """Also in a shard of sagas whose steps come from their inputs, where no other saga has it."""
+
+    def declared(is_later: bool) -> list[sagas.Saga]:
+        hotel, trip, order = sagas.Saga("hotel"), sagas.Saga("trip"), sagas.Saga("order")
+        room = hotel.step(name="room", keep=9)(lambda task: "R-7")
+        room.compensation(lambda task: None)
+        if is_later:
+            hotel.step(name="bar", needs=[room])(lambda task: None)
+        stay = trip.child(hotel, name="stay", input=lambda task: None, undo=1, keep=9)
+        trip.step(name="pay", external=True, needs=[stay])
+        order.step(name="send", for_each="items")(lambda task: None)
+        return [hotel, trip, order]
+
+    async def main() -> None:
+        older, later = declared(False), declared(True)
+        async with sagas.open(place, older) as store:
+            await store.start(older[1], "trip-1")
+            await until(lambda: store.get("trip-1/:stay"))
+            await store.wait("trip-1/:stay")
+        async with sagas.open(place, later) as store:
+            assert (await ended(store, later[2], "order-1", {"items": [1]})).ok
+            await store.fail("trip-1", "pay", "no")
+            assert (await store.wait("trip-1")).states == {"stay": "undone", "pay": "failed"}
+        async with sagas.open(place, later) as store:
+            assert (await ended(store, later[2], "order-2", {"items": [1]})).ok
+            assert all(said.startswith("yes") for said in (await store.audit()).values())
+
+    run(main())

@@ -145,3 +145,36 @@ def test_functions(place: str) -> None:
     }  # fmt: skip
     assert found["last", 1].spans[-1].detail == timeline.AGAIN
     assert found["again", 1].error == "RuntimeError: not yet" and found["again", 2].seconds(0.0)["backoff"] > 0.03
+
+
+def test_a_call_behind_the_last_attempt(place: str) -> None:
+    """It waits for its pause, as one behind an attempt of the definition."""
+    shop, calls = sagas.Saga("shop"), list[int]()
+
+    @shop.step(on_exhausted="retry", backoff=sagas.Backoff(0.5, 0.5))
+    async def plain(task: sagas.Task[Any]) -> None:
+        calls.append(task.attempt)
+        if len(calls) == 1:
+            raise RuntimeError("not yet")
+
+    async def main() -> None:
+        async with sagas.open(place, [shop]) as store:
+            run = await store.start(shop, "one")
+            waited = list[tuple[str, str | None]]()
+            while ("backoff", None) not in waited and len(calls) < 2:
+                waited = seen(store)
+                await asyncio.sleep(0.02)
+            assert ("backoff", None) in waited
+            assert (await run.wait()).ok
+            states = seen(store)
+            assert states == [("running", None), ("backoff", None), ("running", None)]
+
+    def seen(store: sagas.Store) -> list[tuple[str, str | None]]:
+        reader = StoreReader(store.reader())
+        view = reader.ask(one_saga.view("one"))
+        reader.close()
+        assert view
+        found = timeline.of(view, store.now())
+        return [(span.state, span.why) for one in found for span in one.spans if span.state != "queued"]
+
+    asyncio.run(main())

@@ -276,7 +276,9 @@ class Reading:
                     batch.more.labels += [(id, *label) for label in labels.items()]
                 if saga.options.shape is not None:
                     batch.more.shapes.append((id, saga.options.shape))
-                    batch.more.defined += driver.identity.definitions.to_store(saga.place)
+                definitions = driver.identity.definitions
+                if saga.place >= definitions.stored:
+                    batch.more.defined += definitions.to_store(saga.place)
                 if saga.options.parent is not None:
                     batch.more.children.append((id, saga.options.parent))
                 there.append(saga)

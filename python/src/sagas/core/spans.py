@@ -68,7 +68,8 @@ def taken(attempt: Attempt) -> list[Spans]:
     if extras is None or not extras.spans:
         return []
     spans, extras.spans = extras.spans, []
-    if attempt.state is SUSPENDED or _is_told(attempt, spans):
+    follows = extras.notes > len(spans)  # on those that are stored
+    if attempt.state is SUSPENDED or follows or _is_told(attempt, spans):
         return [(*attempt.row, spans[0][1], json.dumps(spans))]
     return []
 

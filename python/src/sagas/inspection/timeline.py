@@ -166,7 +166,8 @@ def _is_of(note: Note, one: Stretch) -> bool:
 def _joined(ready: float, one: Stretch, marks: list[Span]) -> list[Span]:
     """The parts without gaps: each lasts until the next, or to the end."""
     first = Span("running", None, one.began, None)
-    if marks and (marks[0].state, marks[0].why) in FIRST:
+    is_first = bool(marks) and marks[0].detail is None  # else it was called, and that was raised
+    if is_first and (marks[0].state, marks[0].why) in FIRST:
         first = dataclasses.replace(marks[0], began=one.began)
         marks = marks[1:]
     found = [Span("queued", "slot", ready, one.began)] if ready < one.began else []
