@@ -8,6 +8,7 @@ import datetime
 import itertools
 import os
 import pathlib
+import sqlite3
 import subprocess
 import sys
 import textwrap
@@ -570,3 +571,23 @@ def test_bounds_and_overlaps_that_are_none() -> None:
     some = timing.timing(None, SECOND, "UTC", "all", 7, "queue")
     assert timing.policy_of(some.policy) == (some.catch_up, 7, some.overlap)
     assert timing.timing(None, SECOND, "UTC", "last").policy == "last"
+
+
+def test_a_schedule_of_a_later_release_stops_no_other(tmp_path: pathlib.Path) -> None:
+    """It has options that this release does not know: it is left to other programs, which is told once, and the others start."""
+    place, saga, told = str(tmp_path / "store.db"), sagas.Saga("report"), list[str]()
+    saga.step(name="only")(lambda task: None)
+
+    async def main() -> None:
+        store = sagas.open(place, [saga], on_event=lambda event: told.append(event.name) if event.name == "schedule_failed" else None)
+        async with store:
+            for name in ("a", "b"):
+                await store.schedule(name, saga, every=datetime.timedelta(seconds=1))
+            with contextlib.closing(sqlite3.connect(place)) as link, link:
+                link.execute("UPDATE schedules SET catch_up = 'all overlap=wait' WHERE name = 'a'")
+            before = {one.key for one in await store.list()}
+            while not any(one.key.startswith("b@") and one.key not in before for one in await store.list()):
+                await asyncio.sleep(0.05)
+            assert told == ["schedule_failed"]
+
+    asyncio.run(asyncio.wait_for(main(), 60))

@@ -243,6 +243,38 @@ def test_with_items_a_codec_and_blobs(place: str, tmp_path: Any) -> None:
     run(main())
 
 
+def test_a_worker_compensates_an_item_of_an_included_saga(place: str) -> None:
+    """The task has the item, its key, the input, what the included saga is given, and the results, as any compensation has."""
+    inner, outer = sagas.Saga("inner"), sagas.Saga("outer")
+    sign = inner.approval(name="sign")(lambda task: None)
+    pay = inner.step(name="pay", for_each="items", external=True, needs=[sign], keep=9)
+    pay.compensation(external=True)
+    first = outer.step(name="first", keep=9)(lambda task: "done")
+    first.compensation(lambda task: None)
+    outer.include(inner, name="part", needs=[first], given=lambda task: task.result_of(first))
+
+    async def main() -> None:
+        store = sagas.open(place, [outer])
+        store.leased = True
+        async with store:
+            begun = await store.start(outer, "k", {"items": {"a": 1, "b": 2}})
+            await until(lambda: [one for one in store.active_attempts("k") if one.waits == "approval"])
+            await store.complete("k", "part-pay-1", RESULT)
+            await store.abort("k")
+            await begun.wait(60)
+            await store.compensate("k", "part-pay-1")
+            (leased,) = await store.workers.claim([("outer", "part/pay", "undo")], wait=60)
+            task = leased.task
+            assert (task.key, task.step, task.item, task.index, task.result) == ("k", "part-pay-1", 2, "b", RESULT)
+            assert (task.input, json.loads(leased.given)) == ({"items": {"a": 1, "b": 2}}, "done")
+            told = task.plain
+            assert (told["item"], told["item_key"], told["shape"]["saga"]) == (2, "b", "inner")
+            await store.workers.report(leased.attempt_id, leased.lease)
+            assert (await store.wait("k/:part-pay-1:undo", 60)).ok
+
+    run(main())
+
+
 def test_what_a_compensation_that_fails_comes_to(place: str) -> None:
     """It waits for a person, as any other; and nothing is said to be compensated that has none."""
     gate = asyncio.Event()

@@ -190,14 +190,28 @@ class ToldPlace(Place):
         """The item, as JSON has it: a new object at each call."""
         return serialization.read(self._item)
 
+    @property
+    def plain(self) -> dict[str, Any]:
+        """As of `Place`."""
+        return {"index": self.spot.number, "item_key": self._key, "item": self.item()}
+
     def visible(self, texts: Mapping[str, str]) -> Iterator[tuple[str, str]]:
         """All of them."""
         return ((name, name) for name in texts)
+
+    def groups(self, texts: Mapping[str, str]) -> Iterator[tuple[str, Any]]:
+        """None: they are among the results."""
+        return iter(())
 
     def gather(self, step: Selection[Any] | str, one: Callable[[str], Any]) -> Any:
         """As of `Place`; `one` is called with names in its own saga, and of its step the whole."""
         own, whole = self._name, self._whole
         return super().gather(step, lambda name: one(whole if name == own else name))
+
+    @property
+    def lacks_given(self) -> bool:
+        """As of `Place`: it was computed already."""
+        return False
 
     def given(self, about: About) -> Any:
         """What the service computed: a new object at each call."""

@@ -65,8 +65,13 @@ class Scheduler:
         """Start what is due; return how many seconds there is nothing to do."""
         owner = self._owner
         pause = MOST_PAUSE
-        for one in map(schedules.of_row, await owner.store.read(schedules.DUE)):
+        for row in await owner.store.read(schedules.DUE):
             now = owner.clock()
+            try:
+                one = schedules.of_row(row)
+            except ValueError:
+                self._leave(row[0], row[1], "a later release of sagas has declared it")
+                continue
             if (one.saga, one.version) not in owner.shelf.sagas:
                 await self._lack(one, now)
                 continue
@@ -84,7 +89,7 @@ class Scheduler:
             times, next_at = one.timing.due(one.next_at, now, MOST)
             first = one.timing.first_of(one.next_at, now)
         except InvalidSchedule as fault:  # a node whose system has its time zone starts them
-            self._leave(one, str(fault))
+            self._leave(one.name, one.saga, str(fault))
             return MOST_PAUSE
         self._left.pop(one.name, None)
         if times and one.catch_up == timing.CatchUp.ALL and first > one.next_at:
@@ -129,16 +134,16 @@ class Scheduler:
         if one.next_at + grace > now:
             return
         why = f"no program has its saga {one.saga!r} (version {one.version})"
-        self._leave(one, why)
+        self._leave(one.name, one.saga, why)
         if one.error != why:
             await self._advance(one, one.next_at, None, why)
 
-    def _leave(self, one: Schedule, why: str) -> None:
+    def _leave(self, name: str, saga: str, why: str) -> None:
         """Leave a schedule to other nodes, which is told once."""
-        if self._left.get(one.name) != why:
-            self._left[one.name] = why
-            detail = f"{one.name}: {why}"
-            self._owner.teller.tell("schedule_failed", saga=one.saga, detail=detail)
+        if self._left.get(name) != why:
+            self._left[name] = why
+            detail = f"{name}: {why}"
+            self._owner.teller.tell("schedule_failed", saga=saga, detail=detail)
 
     async def _is_still(self, one: Schedule) -> bool:
         """Whether nobody has paused, removed or changed it, and no node has advanced it."""
