@@ -519,7 +519,11 @@ def test_figures_and_life(client: httpx.Client) -> None:
     """What Prometheus reads has each figure that the page of the docs names."""
     start(client, "licence", "figures")
     all_done(client, "licence/server", "licence/licence")
-    text = client.get("/metrics").text
+    get(client, "/v1/sagas/figures/wait?seconds=60")
+    deadline = time.monotonic() + LONG
+    while 'sagas_current{phase="completed",saga="licence"}' not in (text := client.get("/metrics").text):
+        assert time.monotonic() < deadline  # they are counted once in a while
+        time.sleep(0.1)
     for name in (
         'sagas_started_total{saga="licence"}', 'sagas_current{phase="completed",saga="licence"}', 'sagas_steps_total{action="run",outcome="succeeded",saga="licence",step="server"}',
         "sagas_step_seconds_bucket", "sagas_attention_required", "sagas_tasks_ready", "sagas_tasks_reclaimed_total", "sagas_commits_total", "sagas_http_requests_total",
