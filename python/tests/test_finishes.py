@@ -306,3 +306,42 @@ def test_a_retry_is_said_again_of_where_the_shard_is(url: str, on_its_way: str) 
         return any(one.waits and one.waits != "worker" for one in store.active_attempts("k"))
 
     run(main())
+
+
+@pytest.mark.parametrize("size", [1, 100_000])
+def test_a_retry_is_called_whatever_is_stored_first(url: str, size: int) -> None:
+    """The tenant of its saga is asked for, and the input read for that, while its row is on its way
+    to the store.
+    """
+    asked, calls = list[str](), list[int]()
+
+    def tenant(given: dict[str, str]) -> str:
+        asked.append(given["of"])
+        return given["of"]
+
+    saga = sagas.Saga("retried", fair_by=tenant)
+
+    @saga.step(on_exhausted="ask")
+    async def call(task: Task) -> str:
+        calls.append(task.attempt)
+        if len(calls) == 1:
+            raise ValueError("fails")
+        return "done"
+
+    async def main() -> None:
+        async with sagas.open(url, [saga]) as store:
+            await store.start(saga, "k", {"of": "a", "fill": "x" * size})
+            while not await store.attention():
+                await asyncio.sleep(0.01)
+        asked.clear()
+        async with sagas.open(url, [saga]) as store:
+            with held(url) as reached:
+                says = asyncio.create_task(store.retry("k", "call"))
+                await reached()
+                await until(lambda: bool(asked))
+                await asyncio.sleep(0.1)  # the answer is there by then, or soon after
+            await asyncio.wait_for(says, 60)
+            assert (await store.wait("k", 60)).results["call"] == "done"
+
+    run(main())
+    assert calls == [1, 1]

@@ -5,7 +5,7 @@ The runtime keeps what belongs to its event loop (futures, timers, tasks) beside
 
 from __future__ import annotations
 
-from collections.abc import Sequence
+from collections.abc import Callable, Sequence
 from typing import TYPE_CHECKING, Any
 
 from sagas.base.errors import CannotDecode
@@ -138,6 +138,19 @@ class Attempt(AcknowledgedAttempt):
         self.pending = None
         if self.state is not FINISHED:
             self._to(FINISHED)
+
+    def pausing(self) -> Callable[[], bool]:
+        """Return what says, after a pause, whether nothing else became of it. Its row may have been
+        stored meanwhile.
+        """
+        before, row = (self.state, self.reason, self.until), self.pending
+
+        def is_same() -> bool:
+            is_there = self.instance.busy.get(self.word) is self
+            is_row = self.pending is None or self.pending is row
+            return is_there and is_row and (self.state, self.reason, self.until) == before
+
+        return is_same
 
     @property
     def rare(self) -> AttemptExtras:

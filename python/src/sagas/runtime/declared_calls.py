@@ -37,17 +37,16 @@ class DeclaredCalls:
         """Let an attempt have the answers of a question. False: something else became of the
         attempt meanwhile.
         """
-        state, extras = attempt.state, attempt.rare
+        is_same, extras = attempt.pausing(), attempt.rare
         extras.asked = question.words
         try:
             answers = await self.call(attempt.instance.kind.name, question.answers)
         finally:
             extras.asked = ""
-        is_here = attempt.instance.busy.get(attempt.word) is attempt
-        if is_here and attempt.state is state and not attempt.pending:
-            extras.returned |= answers
-            return True
-        return False
+        if not is_same():
+            return False
+        extras.returned |= answers
+        return True
 
     async def fit(self, shelf: Shelf, saga: Saga, text: str) -> Fitted:
         """Return the definition of a saga with an input. See `Shelf.fit`."""

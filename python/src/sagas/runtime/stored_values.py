@@ -70,14 +70,13 @@ class ValueReader:
         """Read what an attempt lacks, and go on with it, unless something became of it meanwhile.
         Its values are held no longer than that takes, if it waits then.
         """
-        state, fault = attempt.state, None
+        is_same, fault = attempt.pausing(), None
         async with self._places:
             try:
                 await self._fill(attempt)
             except BlobUnavailable as error:
                 fault = error
-            is_here = attempt.instance.busy.get(attempt.word) is attempt
-            if is_here and attempt.state is state and not attempt.pending:
+            if is_same():
                 self._unread(attempt, fault) if fault else go_on(attempt)
             attempt.instance.release()
 
