@@ -144,8 +144,17 @@ class FeatureStore:
             self.by_key.setdefault(one.key, []).append(one)
         self.undoes: dict[str, list[Instance]] = {}
         for one in self.instances:
-            if one.is_undo and isinstance(one.input, dict) and "token" in one.input:
-                self.undoes.setdefault(one.input["token"], []).append(one)
+            for token in self._undone_by(one) if one.is_undo else ():
+                self.undoes.setdefault(token, []).append(one)
+
+    def _undone_by(self, one: Instance) -> list[str]:
+        """The tokens of the children that a saga undoes: by its input; or by its key, if that is in
+        an archive and was in the blob store.
+        """
+        if isinstance(one.input, dict) and "token" in one.input:
+            return [one.input["token"]]
+        child = re.sub(r":undo(?:/\d+)?", "", one.key)
+        return [other.token for other in self.of(child)]
 
     def of(self, key: str) -> list[Instance]:
         """The sagas that have, or had, a key."""
