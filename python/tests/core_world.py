@@ -420,8 +420,9 @@ class World:
     # -- what the executor does
 
     def _done(self, effects: Effects) -> None:
-        for attempt in effects.rare.suspended:
-            self._do(attempt, self.machine.stored(attempt))
+        for attempt, row in effects.rare.suspended:
+            if attempt.pending is row:
+                self._do(attempt, self.machine.stored(attempt))
         for saga in (*effects.rare.draining, *effects.rare.overdue):
             self._drain(saga)
         for saga in effects.opened:

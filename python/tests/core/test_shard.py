@@ -247,7 +247,7 @@ def test_a_suspension_is_kept_by_itself() -> None:
     attempt = begun(shard)
     effects = shard.suspended(attempt, SuspensionRow(Suspension.UNKNOWN, 60.0, "lost"), NOW)
     assert effects.batch.rare and effects.batch.rare.held == [(7000, 0, "run", 1, "unknown", 0, 0.0, 60.0, "lost")]
-    assert effects.rare.suspended == [attempt] and effects.batch.first == 1 and not effects.batch.text
+    assert [one for one, _ in effects.rare.suspended] == [attempt] and effects.batch.first == 1 and not effects.batch.text
 
 
 def test_a_state_that_may_not_follow(monkeypatch: pytest.MonkeyPatch) -> None:

@@ -8,6 +8,7 @@ from collections.abc import Sequence
 from sagas.core.batch import Batch, Wanted, Withdrawal
 from sagas.core.early_reports import DueReport, EarlyReport, Refusal
 from sagas.core.model import Attempt, SagaInstance
+from sagas.core.suspensions import SuspensionRow
 
 
 @dataclasses.dataclass(eq=False, slots=True)
@@ -35,7 +36,7 @@ class RareEffects:
         displaced: The shard has no room for these: another one opens them.
 
     Done once the batch is durable, in this order:
-        suspended: The rows of their suspensions are kept.
+        suspended: Attempts, each with the row of its suspension that is kept.
         offered: These attempts are offered to external workers.
         withdrawn: These are offered no more, where the withdrawal is done.
         draining: A step of these sagas failed, so that they drain: what waits of them and was not
@@ -50,7 +51,7 @@ class RareEffects:
     """
 
     displaced: list[SagaInstance] = dataclasses.field(default_factory=list)
-    suspended: list[Attempt] = dataclasses.field(default_factory=list)
+    suspended: list[tuple[Attempt, SuspensionRow]] = dataclasses.field(default_factory=list)
     offered: list[Attempt] = dataclasses.field(default_factory=list)
     withdrawn: list[tuple[Attempt, Withdrawal]] = dataclasses.field(default_factory=list)
     draining: list[SagaInstance] = dataclasses.field(default_factory=list)

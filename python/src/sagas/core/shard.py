@@ -200,7 +200,7 @@ class ShardDriver:
         """Keep why an attempt waits: the batch is its row."""
         effects = self.effects(now)
         suspension_rows.put(effects.batch, attempt, row, self.number)
-        effects.more.suspended.append(attempt)
+        effects.more.suspended.append((attempt, row))
         return effects
 
     def offered(self, attempt: Attempt, now: float) -> Effects:

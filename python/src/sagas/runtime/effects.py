@@ -111,8 +111,8 @@ class EffectHandler:
         """Rows, offers, reports and answers are in the store."""
         if rare.taken:
             self._executor.reported(rare.taken)
-        for attempt in rare.suspended:
-            self._executor.stored(attempt)
+        for attempt, row in rare.suspended:
+            self._executor.stored(attempt, row)
         for attempt in rare.offered:
             self._offers.offered(attempt)
         for attempt, withdrawal in rare.withdrawn:

@@ -212,8 +212,12 @@ class Executor:
                 runner.has_unread = True
             runner.suspend(attempt, row)
 
-    def stored(self, attempt: Attempt) -> None:
-        """Go on with one whose row is in the store."""
+    def stored(self, attempt: Attempt, row: SuspensionRow) -> None:
+        """Go on with one whose row is in the store. Where a later one is on its way, that is
+        waited for.
+        """
+        if attempt.pending is not row:
+            return
         self._do(attempt, self.machine.stored(attempt))
         if attempt.state is not FINISHED:
             self.kept.tell(attempt)

@@ -214,7 +214,7 @@ class Simulation:
             declared = self._kind.declared_name(attempt.step)
             if attempt.event == "commit" and self._scenario.abort in (attempt.name, declared):
                 self._driver.abort(Abort(self._saga))
-        for attempt in effects.rare.suspended:
+        for attempt, _ in effects.rare.suspended:
             self._stored(attempt)
         for saga in effects.rare.draining:
             self._drain(saga)
