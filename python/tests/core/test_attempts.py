@@ -14,7 +14,7 @@ import pytest
 import sagas
 from sagas.core import early_reports, outcomes, states
 from sagas.core.attempts import LOOK, AttemptMachine, is_asked, is_simple, will_be_asked
-from sagas.core.decisions import CALL, NOTHING, OFFER, REPORT, REPORT_AGAIN, SLEEP, WITHDRAW, Decision, Do
+from sagas.core.decisions import CALL, FOLLOW, NOTHING, OFFER, REPORT, REPORT_AGAIN, SLEEP, WITHDRAW, Decision, Do
 from sagas.core.early_reports import EarlyReport
 from sagas.core.model import Attempt, SagaInstance
 from sagas.core.outcomes import Outcome
@@ -425,6 +425,18 @@ def test_what_an_earlier_program_had_begun_goes_on_by_its_row(
 def test_what_an_earlier_program_had_begun_without_a_row_begins_again() -> None:
     assert MACHINE.resume(attempt_of("plain", fresh=False), NOW) is CALL
     assert MACHINE.resume(attempt_of("outside", fresh=False), NOW) is OFFER
+
+
+def test_resumes_one_with_a_child() -> None:
+    """Its child may be there, also where it was given up before its row was stored: it is followed,
+    and not given up again.
+    """
+    attempt = attempt_of("plain", fresh=True)
+    attempt.reason, attempt.has_row = Suspension.CHILD, True
+    assert MACHINE.resume(attempt, NOW) is FOLLOW and not attempt.fresh
+    attempt.instance.busy[attempt.word] = attempt
+    attempt.instance.aborted = attempt.instance.draining = True
+    assert MACHINE.drain(attempt.instance, NOW) == [(attempt, FOLLOW)]
 
 
 # -- a saga that drains

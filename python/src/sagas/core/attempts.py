@@ -147,6 +147,7 @@ class AttemptMachine:
         if attempt.reason is Suspension.TIMER and attempt.until == 0:
             return CALL
         if attempt.reason is Suspension.CHILD:
+            attempt.fresh = False  # its row is in the store, and its child may be
             attempt.suspend(Suspension.CHILD)
             return FOLLOW
         if attempt.reason in (Suspension.TIMER, Suspension.APPROVAL):
