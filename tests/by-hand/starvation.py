@@ -8,8 +8,8 @@ once, or twenty GETs of it. The callers are processes of their own. It fails if 
 the median more than three times as long, or twenty GETs more than ten times.
 
 Measured on 2026-11-29, on four processors that other work kept busy (load 12 to 20). Before tokens
-had queues of their own: 103 times as long for what-ifs, 75 times for GETs. With them: 0.9 to 3.2
-times for what-ifs in five runs, and 6 to 7 times for GETs.
+had queues of their own: 103 times as long for what-ifs, 75 times for GETs. With them: 0.9 to 4.2
+times for what-ifs in seven runs, and 5 to 7 times for GETs.
 """
 
 from __future__ import annotations
