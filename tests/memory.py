@@ -7,7 +7,7 @@ stopped; then its log, and what a drive has told, are as far as they go right.
 
 The calls are tried by `saga_trials` (crates/saga_trials): where a growth is refused all has to be as before, and the call made again gives
 what is expected. Of each row it is printed how many growths were refused; `none` where a call has to succeed without a growth, and did not
-ask for any. Rows run side by side, as many as there are processors.
+ask for any; `ample` where it is tried at the greatest sizes. Rows run side by side, as many as there are processors.
 """
 
 from __future__ import annotations

@@ -35,17 +35,11 @@ struct Talk {
     calls: &'static [(usize, Call, &'static str)],
     /// The indices in the receipts of a seat at the end.
     numbers: &'static [(usize, &'static [usize])],
-    /// The seats with which the first desk is ended.
-    takes: &'static [usize],
-    /// The numbers of events of its books, or why it is not ended.
-    ends: &'static str,
+    /// The seats with which the first desk is ended, and the expected result, until it has ended.
+    ends: &'static [(&'static [usize], &'static str)],
 }
 
 const OK: &str = "Ok(())";
-
-const OWN: &[usize] = &[0, 1];
-
-const OPENED: &[(usize, Call, &str)] = &[(0, Open(0, 0), "Ok(0)")];
 
 /// Each seat of the first desk opens a saga on both shards, in opposite orders. Seat 2 of the second desk has the same
 /// receipts as seat 0, but in an order that contradicts the histories.
@@ -75,8 +69,7 @@ const TALKS: &[Talk] = &[
             (0, Take, "settled"),
         ],
         numbers: &[(0, &[0, 1, 2]), (1, &[])],
-        takes: OWN,
-        ends: "books 3 0",
+        ends: &[(&[1, 0], "books 3 0")],
     },
     Talk {
         name: "a job of another seat",
@@ -95,8 +88,7 @@ const TALKS: &[Talk] = &[
             (0, Take, "settled"),
         ],
         numbers: &[(0, &[0, 1, 3]), (1, &[2, 4])],
-        takes: OWN,
-        ends: "books 5 0",
+        ends: &[(&[0, 1], "books 5 0")],
     },
     Talk {
         name: "jobs of another desk: of a step that was reported, and of a saga that this desk has not",
@@ -120,8 +112,7 @@ const TALKS: &[Talk] = &[
             (0, Take, "settled"),
         ],
         numbers: &[(0, &[0, 1, 2, 3, 4]), (2, &[0, 0, 1, 2, 1])],
-        takes: OWN,
-        ends: "books 5 0",
+        ends: &[(&[0, 1], "books 5 0")],
     },
     Talk {
         name: "two seats on two shards, of which the first has no saga",
@@ -139,8 +130,7 @@ const TALKS: &[Talk] = &[
             (0, Take, "settled"),
         ],
         numbers: &[(0, &[0, 1, 2, 4]), (1, &[3, 5])],
-        takes: OWN,
-        ends: "books 0 6",
+        ends: &[(&[0, 1], "books 0 6")],
     },
     Talk {
         name: "each seat begins at its own shard",
@@ -154,8 +144,7 @@ const TALKS: &[Talk] = &[
             (0, Take, "run 0 0 1"),
         ],
         numbers: &[(0, &[0, 0, 1]), (1, &[1])],
-        takes: OWN,
-        ends: "books 2 2",
+        ends: &[(&[0, 1], "books 2 2")],
     },
     Talk {
         name: "the first shard is busy, and the last is settled",
@@ -174,8 +163,7 @@ const TALKS: &[Talk] = &[
             (1, Take, "settled"),
         ],
         numbers: &[(0, &[0, 0, 1, 2]), (1, &[1, 2])],
-        takes: OWN,
-        ends: "books 3 0",
+        ends: &[(&[0, 1], "books 3 0")],
     },
     Talk {
         name: "a seat aborts a saga of another shard than its own",
@@ -194,8 +182,7 @@ const TALKS: &[Talk] = &[
             (0, Take, "settled"),
         ],
         numbers: &[(0, &[0, 1, 2]), (1, &[3, 4, 5, 6])],
-        takes: OWN,
-        ends: "books 0 7",
+        ends: &[(&[0, 1], "books 0 7")],
     },
     Talk {
         name: "each place and mark of the other desk's seat fits, but the orders of the two seats cross",
@@ -204,8 +191,7 @@ const TALKS: &[Talk] = &[
         shards: 2,
         calls: CROSSING,
         numbers: &[(0, &[0, 1]), (1, &[1, 0]), (2, &[1, 0])],
-        takes: &[1, 2],
-        ends: "torn",
+        ends: &[(&[2, 1], "torn")],
     },
     Talk {
         name: "the same desk with its own seats",
@@ -214,48 +200,21 @@ const TALKS: &[Talk] = &[
         shards: 2,
         calls: CROSSING,
         numbers: &[(0, &[0, 1]), (1, &[1, 0])],
-        takes: OWN,
-        ends: "books 2 2",
+        ends: &[(&[0, 1], "books 2 2")],
     },
     Talk {
-        name: "a seat is missing",
+        name: "a seat is missing, a stranger stands in its place, and an unused seat of the other desk",
         steps: 1,
         tries: 1,
         shards: 1,
-        calls: OPENED,
-        numbers: &[],
-        takes: &[1],
-        ends: "missing",
-    },
-    Talk {
-        name: "a stranger stands in the place of a seat",
-        steps: 1,
-        tries: 1,
-        shards: 1,
-        calls: OPENED,
-        numbers: &[],
-        takes: &[0, 2],
-        ends: "stranger",
-    },
-    Talk {
-        name: "a seat of the other desk is one too many",
-        steps: 1,
-        tries: 1,
-        shards: 1,
-        calls: OPENED,
-        numbers: &[],
-        takes: &[0, 1, 2],
-        ends: "stranger",
-    },
-    Talk {
-        name: "an unused seat of the other desk stands in the place of the first",
-        steps: 1,
-        tries: 1,
-        shards: 1,
-        calls: OPENED,
-        numbers: &[],
-        takes: &[1, 2],
-        ends: "torn",
+        calls: &[(0, Open(0, 0), "Ok(0)")],
+        numbers: &[(0, &[0]), (1, &[]), (2, &[])],
+        ends: &[
+            (&[1], "missing"),
+            (&[0, 2], "stranger"),
+            (&[0, 1, 2], "stranger"),
+            (&[2, 1], "torn"),
+        ],
     },
     Talk {
         name: "a plan is given back, and made again",
@@ -278,8 +237,7 @@ const TALKS: &[Talk] = &[
             (0, Take, "settled"),
         ],
         numbers: &[(0, &[0, 1, 2, 3, 4, 6, 7, 8]), (1, &[5, 9])],
-        takes: OWN,
-        ends: "books 10 0",
+        ends: &[(&[0, 1], "books 10 0")],
     },
     Talk {
         name: "a saga is aborted while it is planned: the adoption is stale",
@@ -303,8 +261,7 @@ const TALKS: &[Talk] = &[
             (0, Take, "settled"),
         ],
         numbers: &[(0, &[0, 1, 2, 3, 5]), (1, &[4, 6, 7])],
-        takes: OWN,
-        ends: "books 8 0",
+        ends: &[(&[0, 1], "books 8 0")],
     },
     Talk {
         name: "a saga is aborted between a claim and its report: its step is compensated, in two attempts that fail, and stands",
@@ -328,8 +285,7 @@ const TALKS: &[Talk] = &[
             (1, Take, "settled"),
         ],
         numbers: &[(0, &[0, 1, 3, 8, 9, 10, 11]), (1, &[2, 4, 5, 6, 7])],
-        takes: OWN,
-        ends: "books 12 0",
+        ends: &[(&[0, 1], "books 12 0")],
     },
     Talk {
         name: "three attempts, of which the last one is done",
@@ -347,8 +303,7 @@ const TALKS: &[Talk] = &[
             (0, Take, "settled"),
         ],
         numbers: &[(0, &[0, 1, 2, 5, 6]), (1, &[3, 4])],
-        takes: OWN,
-        ends: "books 7 0",
+        ends: &[(&[0, 1], "books 7 0")],
     },
     Talk {
         name: "a compensation that is done",
@@ -367,8 +322,7 @@ const TALKS: &[Talk] = &[
             (0, Take, "settled"),
         ],
         numbers: &[(0, &[0, 1, 3, 4, 5]), (1, &[2, 6, 7])],
-        takes: OWN,
-        ends: "books 8 0",
+        ends: &[(&[0, 1], "books 8 0")],
     },
 ];
 
@@ -461,75 +415,90 @@ fn make<'d, R: process::Abort + Wait + Alloc<A = Global>>(
     }
 }
 
-/// Makes the calls.
+/// Makes the calls, and checks the receipts.
 fn speak<'d, R: process::Abort + Wait + Alloc<A = Global>>(
     rt: &R,
     desk: &Desk<'d>,
     other: &Desk<'d>,
-    seats: &mut [Seat],
+    seats: &mut Vec<Option<Seat>>,
     talk: &Talk,
 ) {
     let mut claims = Vec::new(rt.alloc());
-    for (who, call, expected) in talk.calls {
+    for (number, (who, call, expected)) in talk.calls.iter().enumerate() {
+        let seat = seats
+            .get_mut(*who)
+            .expect(rt, "a seat")
+            .as_mut()
+            .expect(rt, "a seat");
         let place = if *who < 2 { desk } else { other };
-        let seat = seats.get_mut(*who).expect(rt, "a seat");
         let reply = make(rt, place, seat, &mut claims, call);
-        assert_eq!(rt; reply.as_str(), *expected, "{}", talk.name);
+        assert_eq!(rt; reply.as_str(), *expected, "call {number}: {}", talk.name);
     }
-}
-
-/// Checks the receipts.
-fn compare<R: process::Abort>(rt: &R, seats: &[Seat], talk: &Talk) {
     for (who, numbers) in talk.numbers {
-        let seat = seats.get(*who).expect(rt, "a seat");
+        let seat = seats
+            .get(*who)
+            .expect(rt, "a seat")
+            .as_ref()
+            .expect(rt, "a seat");
         let receipts = seat.receipts().iter().map(|receipt| &receipt.place);
-        assert!(rt; receipts.eq(numbers.iter()), "{}", talk.name);
+        assert!(rt;
+            receipts.eq(numbers.iter()),
+            "receipts of {who}: {}",
+            talk.name
+        );
     }
 }
 
-/// The result of the end of a desk.
-fn ended<R: process::Abort + Alloc<A = Global>>(
+/// The result of the end of a desk. If the desk is not ended, it is returned with the seats.
+fn ended<'d, R: process::Abort + Alloc<A = Global>>(
+    rt: &R,
+    desk: Desk<'d>,
+    seats: Vec<Seat>,
+) -> (String, Option<Desk<'d>>, Vec<Seat>) {
+    match desk.finish(seats) {
+        Ok(books) => (lengths(rt, books.as_slice()), None, Vec::new(rt.alloc())),
+        Err(FinishRefused::Stranger(desk, seats)) => (text(rt, "stranger"), Some(desk), seats),
+        Err(FinishRefused::Missing(desk, seats)) => (text(rt, "missing"), Some(desk), seats),
+        Err(FinishRefused::OutOfMemory(desk, seats)) => (text(rt, "memory"), Some(desk), seats),
+        Err(FinishRefused::Torn(_, seats)) => (text(rt, "torn"), None, seats),
+    }
+}
+
+/// Ends a desk with the chosen seats, until it has ended.
+fn end_all<R: process::Abort + Alloc<A = Global>>(
     rt: &R,
     desk: Desk<'_>,
-    seats: Vec<Seat>,
-) -> String {
-    match desk.finish(seats) {
-        Ok(books) => lengths(rt, books.as_slice()),
-        Err(FinishRefused::Stranger(..)) => text(rt, "stranger"),
-        Err(FinishRefused::Missing(..)) => text(rt, "missing"),
-        Err(FinishRefused::OutOfMemory(..)) => text(rt, "memory"),
-        Err(FinishRefused::Torn(..)) => text(rt, "torn"),
-    }
-}
-
-/// The seats with these indices.
-fn taken<R: process::Abort + Alloc<A = Global>>(
-    rt: &R,
-    seats: Vec<Seat>,
-    takes: &[usize],
-) -> Vec<Seat> {
-    let mut taken = Vec::new(rt.alloc());
-    for (place, seat) in seats.into_iter().enumerate() {
-        if takes.contains(&place) {
-            taken.push(seat).expect(rt, "room");
+    seats: &mut Vec<Option<Seat>>,
+    talk: &Talk,
+) {
+    let mut left = Some(desk);
+    for (picked, expected) in talk.ends {
+        let mut chosen = Vec::new(rt.alloc());
+        for place in *picked {
+            let seat = seats.get_mut(*place).expect(rt, "a seat").take();
+            chosen.push(seat.expect(rt, "a seat")).expect(rt, "room");
         }
+        let (how, back, chosen) = ended(rt, left.expect(rt, "a desk"), chosen);
+        assert_eq!(rt; how.as_str(), *expected, "{}", talk.name);
+        for (place, seat) in picked.iter().zip(chosen) {
+            *seats.get_mut(*place).expect(rt, "a seat") = Some(seat);
+        }
+        left = back;
     }
-    taken
 }
 
 fn check<R: process::Abort + Wait + Alloc<A = Global>>(rt: &R, talk: &Talk) {
     let alloc = rt.alloc();
     let shelf = shelf_of(rt, talk.steps, talk.tries, Needs::Nothing);
     let shards = within(talk.shards);
-    let (desk, mut seats) = Desk::open(alloc, &shelf, 2, shards).expect(rt, "a desk");
+    let (desk, own) = Desk::open(alloc, &shelf, 2, shards).expect(rt, "a desk");
     let (other, others) = Desk::open(alloc, &shelf, 2, shards).expect(rt, "a desk");
-    for seat in others {
-        seats.push(seat).expect(rt, "room");
+    let mut seats = Vec::new(alloc);
+    for seat in own.into_iter().chain(others) {
+        seats.push(Some(seat)).expect(rt, "room");
     }
     speak(rt, &desk, &other, &mut seats, talk);
-    compare(rt, &seats, talk);
-    let how = ended(rt, desk, taken(rt, seats, talk.takes));
-    assert_eq!(rt; how.as_str(), talk.ends, "{}", talk.name);
+    end_all(rt, desk, &mut seats, talk);
 }
 
 const OTHER_ATTEMPT: &Talk = &Talk {
@@ -549,8 +518,7 @@ const OTHER_ATTEMPT: &Talk = &Talk {
         (0, Take, "settled"),
     ],
     numbers: &[(0, &[0, 1, 2, 3, 4]), (2, &[0, 1])],
-    takes: OWN,
-    ends: "books 5 0",
+    ends: &[(&[0, 1], "books 5 0")],
 };
 
 /// Sagas with one step on the last of several shards. Each is opened, run and settled before the next one.
@@ -580,66 +548,34 @@ const TURNS: &[Turns] = &[
     },
 ];
 
-/// Ends a saga's claim of this attempt.
-fn attempt<'d, R: process::Abort + Wait + Alloc<A = Global>>(
-    rt: &R,
-    desk: &Desk<'d>,
-    seat: &mut Seat,
-    expected: (u32, u64),
-    well: bool,
-) {
-    let (saga, attempt) = expected;
-    let mut claim = desk.claim(rt, seat).expect(rt, "memory");
-    let expected = format!(in rt.alloc(); "run {saga} 0 {attempt}").expect(rt, "a text");
-    assert_eq!(rt; kind_of(rt, &claim).as_str(), expected.as_str());
-    assert_eq!(rt; end(rt, desk, seat, &mut claim, well).as_str(), OK);
-}
-
-/// Opens a saga on the last shard, and runs it. Each action fails except in its last attempt.
-fn turn<R: process::Abort + Wait + Alloc<A = Global>>(
-    rt: &R,
-    desk: &Desk<'_>,
-    seat: &mut Seat,
-    turns: &Turns,
-    expected: u32,
-) {
-    let last = within(turns.shards) - 1;
-    assert!(rt; last < desk.shards());
-    let saga = desk.open_saga(rt, seat, last, 0).expect(rt, "a saga");
-    assert_eq!(rt; saga, expected);
-    for missed in 0..turns.tries {
-        attempt(
-            rt,
-            desk,
-            seat,
-            (saga, missed + 1),
-            missed + 1 == turns.tries,
-        );
-    }
-    let claim = desk.claim(rt, seat).expect(rt, "memory");
-    let rest = if turns.is_one_held { "idle" } else { "settled" };
-    assert_eq!(rt; kind_of(rt, &claim).as_str(), rest);
-}
-
-/// Runs 300 sagas in turn, on one of which the action is in progress.
+/// Runs 300 sagas in turn. Each action fails except in its last attempt.
 fn take_turns<R: process::Abort + Wait + Alloc<A = Global>>(rt: &R, turns: &Turns) {
     let shelf = shelf_of(rt, 1, turns.tries, Needs::Nothing);
     let shards = within(turns.shards);
     let (desk, mut seats) = Desk::open(rt.alloc(), &shelf, 2, shards).expect(rt, "a desk");
     let mut other = seats.pop().expect(rt, "a seat");
     let mut seat = seats.pop().expect(rt, "a seat");
-    let mut first = 0u32;
-    if turns.is_one_held {
-        assert_eq!(rt;
-            desk.open_saga(rt, &mut seat, shards - 1, 0).ok(),
-            Some(shards - 1)
-        );
-        let held = desk.claim(rt, &mut other).expect(rt, "memory");
-        assert!(rt; matches!(&held, Claim::Run(_)));
-        first = 1;
-    }
-    for number in first..300u32 {
-        turn(rt, &desk, &mut seat, turns, shards - 1 + number * shards);
+    let last = shards - 1;
+    let mut rest = "settled";
+    for turn in 0..300u32 {
+        let saga = desk.open_saga(rt, &mut seat, last, 0).expect(rt, "a saga");
+        assert_eq!(rt; saga, last + turn * shards);
+        if turn == 0 && turns.is_one_held {
+            let held = desk.claim(rt, &mut other).expect(rt, "memory");
+            assert!(rt; matches!(&held, Claim::Run(_)));
+            rest = "idle";
+            continue;
+        }
+        for missed in 0..turns.tries {
+            let attempt = missed + 1;
+            let mut claim = desk.claim(rt, &mut seat).expect(rt, "memory");
+            let expected = format!(in rt.alloc(); "run {saga} 0 {attempt}").expect(rt, "a text");
+            assert_eq!(rt; kind_of(rt, &claim).as_str(), expected.as_str());
+            let well = attempt == turns.tries;
+            assert_eq!(rt; end(rt, &desk, &mut seat, &mut claim, well).as_str(), OK);
+        }
+        let claim = desk.claim(rt, &mut seat).expect(rt, "memory");
+        assert_eq!(rt; kind_of(rt, &claim).as_str(), rest);
     }
 }
 

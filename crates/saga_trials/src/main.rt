@@ -1,8 +1,9 @@
 //! Trials of public calls under refused memory that no command of the program makes: the calls of a desk, and others. The program also has a booking service that embeds the crates.
 //!
 //! `names` prints the kind and the name of each trial. The kind is `each` if one allocation after another is refused,
-//! and `none` if every allocation is refused. `try NAME` makes a trial: it makes the call, and repeats it if memory was
-//! refused. It prints `refused` or `whole`, or what is wrong. `book` books the trips of [`booking`] with the definition from standard input. Without words, the program
+//! `none` if every allocation is refused, and `ample` for inputs of the maximum size with ample memory. `try NAME`
+//! makes a trial: it makes the call, and repeats it if memory was refused. It prints `refused` or `whole`, or what is
+//! wrong. `book` books the trips of [`booking`] with the definition from standard input. Without words, the program
 //! makes each trial once with ample memory, and books the trips.
 //!
 //! The program itself refuses no memory. It prints on standard error where the calls start and end. A library that is
@@ -13,15 +14,17 @@ mod agency;
 mod booking;
 mod calls;
 mod desks;
+mod greatest;
 mod nets;
 mod samples;
 mod trial;
 mod trips;
 
 use crate::calls::Call;
+use crate::greatest::Size;
 use crate::nets::Flow;
 use crate::trial::Trial;
-use Tried::{Alone, Desk, Net};
+use Tried::{Alone, Desk, Great, Net};
 use anyhow::{Context, Result, bail, ensure};
 use std::env;
 use std::sync::Wait;
@@ -33,6 +36,7 @@ enum Tried {
     Desk(desks::Script),
     Alone(Call),
     Net(Flow),
+    Great(Size),
 }
 
 /// The trials: the kind and the name of each, and what is tried.
@@ -60,6 +64,9 @@ const TRIALS: &[(&str, Tried)] = &[
     ("each saga_flow::largest", Net(Flow::Largest)),
     ("each saga_flow::largest_counted", Net(Flow::Counted)),
     ("each saga_flow::reach", Net(Flow::Reach)),
+    ("ample saga_order::Order::of,greatest", Great(Size::Order)),
+    ("ample saga_flow::largest,greatest", Great(Size::Largest)),
+    ("ample saga_plan::plan,greatest", Great(Size::Plan)),
 ];
 
 /// Returns the trials. A use of the constant itself would be checked with all its rows.
@@ -74,6 +81,7 @@ fn run<R: Wait>(rt: &R, trial: &mut Trial<'_>, how: &str, tried: Tried) -> Resul
         Desk(script) => desks::run(rt, trial, script),
         Alone(call) => calls::run(trial, call),
         Net(call) => nets::run(trial, call),
+        Great(which) => greatest::run(trial, which),
     }
 }
 

@@ -1,14 +1,19 @@
-"""Tasks of a child's compensations, which another saga calls as its steps."""
+"""Compensations that another saga calls as its steps: their tasks."""
 
 from __future__ import annotations
 
+import inspect
 import json
-from collections.abc import Collection, Mapping
-from typing import Any
+from collections.abc import Callable, Collection, Mapping
+from typing import TYPE_CHECKING, Any
 
+from sagas.definition import children, decoders
 from sagas.definition.decoders import Decoder
 from sagas.definition.task import Task
 from sagas.definition.task_data import Told
+
+if TYPE_CHECKING:
+    from sagas.definition.step import Step
 
 
 def of(
@@ -50,3 +55,41 @@ def of(
     )
     found.enter_by(lambda: task.connection)
     return found
+
+
+def hints(
+    function: Callable[[Any], Any], step: Step[Any]
+) -> tuple[Decoder | None, dict[str, Decoder]]:
+    """Return how the compensation of a step reads its input, and the results of its saga's steps.
+
+    Both are read as JSON if nothing is declared.
+    """
+    hint, _ = decoders.hints(function)
+    known: dict[str, Decoder] = {}
+    for one in step.saga.steps:
+        _, result = children.hints(one)
+        if result is not None:
+            known[one.name] = result
+    return hint, known
+
+
+def calling(
+    function: Callable[[Any], Any], own: Callable[[Task[Any]], Task[Any]]
+) -> Callable[[Any], Any]:
+    """Return a step's function that calls a compensation.
+
+    Args:
+        function: The compensation, plain or async.
+        own: Returns the task of the compensation, by that of the step.
+    """
+    if inspect.iscoroutinefunction(function):
+
+        async def undo_later(task: Any) -> Any:
+            return await function(own(task))
+
+        return undo_later
+
+    def undo(task: Any) -> Any:
+        return function(own(task))
+
+    return undo

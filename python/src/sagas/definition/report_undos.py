@@ -8,21 +8,17 @@ from __future__ import annotations
 
 import dataclasses
 import hashlib
-import inspect
 import json
 from collections.abc import Callable, Mapping
-from typing import TYPE_CHECKING, Any
+from typing import Any
 
-from sagas.definition import children, decoders
+from sagas.definition import compensation_task
 from sagas.definition.place import ToldPlace
 from sagas.definition.saga import Saga
 from sagas.definition.step import NEVER, CostOf, Step
 from sagas.definition.task import Task
 from sagas.definition.task_data import Told
 from sagas.definition.undo_text import MOST_NAME, name_of
-
-if TYPE_CHECKING:
-    from sagas.definition.decoders import Decoder
 
 QUEUED = "workers of a queue call its compensation, which only its own saga can have called"
 NONE = "it has no compensation"
@@ -115,14 +111,9 @@ def compensation(task: Task[Any], saga: Saga | None) -> Task[Any]:
 
 def _undoing(function: Callable[[Any], Any], step: Step[Any]) -> Callable[[Any], Any]:
     """A compensation as the function of a step: its task is that of the compensation."""
-    hint, _ = decoders.hints(function)
-    known: dict[str, Decoder] = {}
-    for one in step.saga.steps:
-        _, result = children.hints(one)
-        if result is not None:
-            known[one.name] = result
+    hint, known = compensation_task.hints(function, step)
 
-    def told(task: Any) -> Task[Any]:
+    def own(task: Any) -> Task[Any]:
         about = task._about
         inner: Task[Any] = Task(
             dataclasses.replace(
@@ -133,14 +124,4 @@ def _undoing(function: Callable[[Any], Any], step: Step[Any]) -> Callable[[Any],
         inner.enter_by(lambda: task.connection)
         return inner
 
-    if inspect.iscoroutinefunction(function):
-
-        async def undo_later(task: Any) -> Any:
-            return await function(told(task))
-
-        return undo_later
-
-    def undo(task: Any) -> Any:
-        return function(told(task))
-
-    return undo
+    return compensation_task.calling(function, own)

@@ -3,19 +3,11 @@
 from __future__ import annotations
 
 import dataclasses
-import inspect
 from collections.abc import Callable, Iterable, Mapping, Sequence
 from typing import Any
 
 from sagas.base.errors import DefinitionError
-from sagas.definition import (
-    children,
-    compensation_task,
-    decoders,
-    listed_steps,
-    undo_text,
-    validation,
-)
+from sagas.definition import children, compensation_task, listed_steps, undo_text, validation
 from sagas.definition.decoders import Decoder
 from sagas.definition.saga import Saga
 from sagas.definition.step import NEVER, Cost, CostOf, Step
@@ -186,27 +178,12 @@ def _undoing(
     function: Callable[[Any], Any], step: Step[Any], sees: frozenset[str]
 ) -> Callable[[Any], Any]:
     """A compensation as the function of a step: its task is that of the compensation."""
-    hint, _ = decoders.hints(function)
-    known: dict[str, Decoder] = {}
-    for one in step.saga.steps:
-        _, result = children.hints(one)
-        if result is not None:
-            known[one.name] = result
+    hint, known = compensation_task.hints(function, step)
 
     def own(task: Any) -> Task[Any]:
         return compensation_task.of(task, step.saga.name, sees, hint, known)
 
-    if inspect.iscoroutinefunction(function):
-
-        async def undo_later(task: Any) -> Any:
-            return await function(own(task))
-
-        return undo_later
-
-    def undo(task: Any) -> Any:
-        return function(own(task))
-
-    return undo
+    return compensation_task.calling(function, own)
 
 
 # -- of a store

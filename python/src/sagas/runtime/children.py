@@ -256,8 +256,7 @@ class Children:
         release may.
         """
         if not attempt.undo:
-            undoes = attempt.instance.kind.undoes is not None
-            return str(children.child_input(attempt)()) if undoes else None
+            return children.undone_key(attempt)
         result = attempt.task().result
         key = result.get("key") if isinstance(result, dict) else None
         if isinstance(key, str):
