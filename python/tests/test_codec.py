@@ -15,7 +15,7 @@ import textwrap
 from typing import Any
 
 import pytest
-from cases import QUICK, Task, ended, run, simple, until
+from cases import QUICK, Task, run, simple, until
 from cryptography.fernet import Fernet
 from driving import program
 from test_transactions import KILLED, prepare

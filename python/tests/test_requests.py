@@ -11,7 +11,6 @@ import psycopg
 import pytest
 from cases import Task, pairs, run, until
 
-from sagas.core import outcomes
 import sagas
 from sagas.cli import store_command
 

@@ -10,7 +10,6 @@ import argparse
 import json
 from typing import Any
 
-import tomllib
 
 from sagas.definition.capacity import SHARD_CAPACITY
 from sagas.definition.compiled import name_of, version_of

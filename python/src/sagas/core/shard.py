@@ -34,7 +34,7 @@ from sagas.core.early_reports import is_success
 from sagas.core.outcomes import SUCCEEDED
 from sagas.core.replies import Reading
 from sagas.core.shard_definitions import ShardDefinitions
-from sagas.core.states import SHARD_TRANSITIONS, Check, ShardState, Suspension, check
+from sagas.core.states import SHARD_TRANSITIONS, Check, ShardState, check
 from sagas.core.suspensions import SuspensionRow
 
 MOST_REPORTS = 256

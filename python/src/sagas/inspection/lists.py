@@ -31,7 +31,6 @@ from sagas.storage.queries import (
     DAMAGED_SINCE,
     HELD,
     LABELS,
-    PHASE,
     PHASES,
     RESULTS,
     SAGA,

@@ -17,7 +17,7 @@ from typing import Any
 from starlette.responses import Response
 
 from sagas.server import answers
-from sagas.server.auth import ROLES, May
+from sagas.server.auth import ROLES
 from sagas.server.operations import Answer, Call, Operation, Routes
 from sagas.server.problems import MEDIA_TYPE, PREFIX, PROBLEMS
 from sagas.server.responses import has_tag

@@ -28,7 +28,7 @@ from sagas.storage.external import (
     earlier,
 )
 from sagas.storage.lots import Lots
-from sagas.storage.postgresql import connections, notifications, prepared
+from sagas.storage.postgresql import notifications, prepared
 from sagas.storage.postgresql.connections import Asker
 from sagas.storage.postgresql.deliveries import PostgreSQLDeliveries
 
