@@ -13,7 +13,10 @@ import tempfile
 import book
 import runs
 
-LOADS = [("1,000 sagas of 64 steps, each missed seven times", 64, 1000, ["7"]), ("200 sagas of 1,024 steps, a plan each", 1024, 200, ["0", "1023"])]
+LOADS = [
+    ("1,000 sagas of 64 steps, each missed seven times", 64, 1000, ["7"]),
+    ("200 sagas of 1,024 steps, a plan each", 1024, 200, ["0", "1023"]),
+]
 PARTS = ["book", "audit", "audit_with 4"]
 WORKERS = "4"
 
@@ -25,12 +28,23 @@ def main():
     with tempfile.TemporaryDirectory() as folder:
         for name, steps, sagas, rest in LOADS:
             file = runs.put(folder, str(steps), book.definition(steps))
-            events, best = runs.events_of(program, ["audit", file, str(sagas), WORKERS, *rest], len(PARTS), words.turns)
+            events, best = runs.events_of(
+                program, ["audit", file, str(sagas), WORKERS, *rest], len(PARTS), words.turns
+            )
             each = [time / events * 1e9 for time in best]
-            print(f"{name}: {events} events; " + ", ".join(f"{part} {time:.0f} ns an event" for part, time in zip(PARTS, each))
-                  + f"; audit takes {each[1] / each[0]:.2f} of the book's time, four workers {each[2] / each[1]:.2f} of one's", flush=True)
-            _, small = runs.events_of(program, ["audit", file, str(sagas // 10), WORKERS, *rest], len(PARTS), words.turns)
-            print(f"ten times the sagas take an audit {best[1] / small[1]:.1f} times as long", flush=True)
+            print(
+                f"{name}: {events} events; "
+                + ", ".join(f"{part} {time:.0f} ns an event" for part, time in zip(PARTS, each))
+                + f"; audit takes {each[1] / each[0]:.2f} of the book's time, four workers {each[2] / each[1]:.2f} of one's",
+                flush=True,
+            )
+            _, small = runs.events_of(
+                program, ["audit", file, str(sagas // 10), WORKERS, *rest], len(PARTS), words.turns
+            )
+            print(
+                f"ten times the sagas take an audit {best[1] / small[1]:.1f} times as long",
+                flush=True,
+            )
             good = good and best[1] <= 2 * best[0] and best[1] <= 12 * small[1]
     sys.exit(0 if good else 1)
 

@@ -49,22 +49,36 @@ def main():
     program = runs.built(words)
     with tempfile.TemporaryDirectory() as folder:
         peer = pathlib.Path(folder) / "book"
-        subprocess.run(["g++", "-std=c++20", "-O2", "-o", peer, runs.HERE / "peers" / "book.cpp"], check=True)
+        subprocess.run(
+            ["g++", "-std=c++20", "-O2", "-o", peer, runs.HERE / "peers" / "book.cpp"], check=True
+        )
         for sagas, steps in LOADS:
             file = runs.put(folder, str(steps), definition(steps))
             for kind, fails in [("all succeed", []), ("one failure a saga", [str(steps - 1)])]:
                 load = [file, str(sagas), *fails]
-                (ours, our_time), (theirs, their_time) = runs.timed([[*program, "book", *load], [peer, *load]], words.turns, runs.KEPT)
+                (ours, our_time), (theirs, their_time) = runs.timed(
+                    [[*program, "book", *load], [peer, *load]], words.turns, runs.KEPT
+                )
                 events = int(ours[1])
-                grown = greatest_memory([*program, "book", *load]) - greatest_memory([*program, "book", file, "1", *fails])
-                print(f"{sagas} sagas of {steps} steps, {kind}: {events} events {'agree' if ours == theirs else 'DIFFER'},"
-                      f" {our_time / events * 1e9:.0f} ns an event against {their_time / events * 1e9:.0f} ns,"
-                      f" ratio {our_time / their_time:.2f}, {grown / events:.1f} bytes an event", flush=True)
+                grown = greatest_memory([*program, "book", *load]) - greatest_memory(
+                    [*program, "book", file, "1", *fails]
+                )
+                print(
+                    f"{sagas} sagas of {steps} steps, {kind}: {events} events {'agree' if ours == theirs else 'DIFFER'},"
+                    f" {our_time / events * 1e9:.0f} ns an event against {their_time / events * 1e9:.0f} ns,"
+                    f" ratio {our_time / their_time:.2f}, {grown / events:.1f} bytes an event",
+                    flush=True,
+                )
         for kind, fails in [("all succeed", []), ("one failure a saga", ["63"])]:
-            commands = [[*program, "book", folder + "/64", sagas, *fails] for sagas in ["100", "1000"]]
+            commands = [
+                [*program, "book", folder + "/64", sagas, *fails] for sagas in ["100", "1000"]
+            ]
             (few, few_time), (many, many_time) = runs.timed(commands, words.turns, runs.KEPT)
             ratio = many_time / int(many[1]) / (few_time / int(few[1]))
-            print(f"from 100 to 1,000 sagas of 64 steps, {kind}: ratio {ratio:.2f} an event", flush=True)
+            print(
+                f"from 100 to 1,000 sagas of 64 steps, {kind}: ratio {ratio:.2f} an event",
+                flush=True,
+            )
 
 
 if __name__ == "__main__":

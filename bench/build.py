@@ -40,11 +40,17 @@ def main():
         for kind, made in [("any", random_needs), ("forward", forward), ("backward", backward)]:
             found = []
             for seed in range(1, words.seeds + 1):
-                commands = [[*program, "build", runs.put(folder, str(steps), made(steps, seed))] for steps in SIZES]
+                commands = [
+                    [*program, "build", runs.put(folder, str(steps), made(steps, seed))]
+                    for steps in SIZES
+                ]
                 found.append([seconds for _, seconds in runs.timed(commands, words.turns)])
             middles = [statistics.median(times) for times in zip(*found)]
             for steps, middle in zip(SIZES, middles):
-                print(f"{steps} steps {kind}: {middle * 1e6:.0f} us, ratio {middle / middles[0]:.2f}", flush=True)
+                print(
+                    f"{steps} steps {kind}: {middle * 1e6:.0f} us, ratio {middle / middles[0]:.2f}",
+                    flush=True,
+                )
 
 
 if __name__ == "__main__":

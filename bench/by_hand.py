@@ -16,7 +16,9 @@ TABLES = """
 CREATE TABLE by_hand(id bigint PRIMARY KEY, key text NOT NULL UNIQUE, input text NOT NULL, step integer NOT NULL, phase text NOT NULL) WITH (fillfactor = 70);
 CREATE TABLE by_hand_result(saga bigint NOT NULL, step integer NOT NULL, value text, at double precision, PRIMARY KEY(saga, step));
 """
-SETTINGS = "SET enable_seqscan = off; SET enable_hashjoin = off; SET enable_mergejoin = off; SET jit = off"
+SETTINGS = (
+    "SET enable_seqscan = off; SET enable_hashjoin = off; SET enable_mergejoin = off; SET jit = off"
+)
 OPEN = "INSERT INTO by_hand VALUES(%s, %s, %s, 0, 'going')"
 DONE = """WITH r AS (INSERT INTO by_hand_result VALUES(%(id)s, %(step)s, %(value)s, %(at)s))
 UPDATE by_hand SET step = %(step)s + 1, phase = %(phase)s WHERE id = %(id)s"""
@@ -43,7 +45,10 @@ class Each:
     async def open(self) -> None:
         """Makes the tables, and connects."""
         self.links: asyncio.Queue[psycopg.AsyncConnection[Any]] = asyncio.Queue()
-        self.all = [await psycopg.AsyncConnection.connect(self.url, autocommit=True, prepare_threshold=2) for _ in range(self.count)]
+        self.all = [
+            await psycopg.AsyncConnection.connect(self.url, autocommit=True, prepare_threshold=2)
+            for _ in range(self.count)
+        ]
         await self.all[0].execute(TABLES)
         for link in self.all:
             await link.execute(SETTINGS)
@@ -87,7 +92,10 @@ class Shared(Each):
             opened = [one for _, one, _ in batch if one]
             done = [one for _, _, one in batch if one]
             ends = [(id, step, phase) for id, step, _, _, phase in done]
-            await self.all[0].execute(MANY, (*columns(opened, 3), *columns([one[:4] for one in done], 4), *columns(ends, 3)))
+            await self.all[0].execute(
+                MANY,
+                (*columns(opened, 3), *columns([one[:4] for one in done], 4), *columns(ends, 3)),
+            )
             for future, _, _ in batch:
                 future.set_result(None)
         self.busy = False
@@ -112,13 +120,26 @@ class Machine:
             try:
                 value = await step(given)
             except LookupError as error:
-                logging.getLogger("by hand").warning("step_failed key=%s step=%d detail=%r", key, number, error)
+                logging.getLogger("by hand").warning(
+                    "step_failed key=%s step=%d detail=%r", key, number, error
+                )
                 await self._back(id, number, given)
                 return
-            await self.store.write(None, (id, number, json.dumps(value), time.time(), "ended" if number == len(self.steps) - 1 else "going"))
+            await self.store.write(
+                None,
+                (
+                    id,
+                    number,
+                    json.dumps(value),
+                    time.time(),
+                    "ended" if number == len(self.steps) - 1 else "going",
+                ),
+            )
 
     async def _back(self, id: int, failed: int, given: Any) -> None:
         await self.store.write(None, (id, UNDONE + failed, "null", time.time(), "undoing"))
         for number in reversed(range(failed)):
             await self.steps[0](given)
-            await self.store.write(None, (id, UNDONE + number, "null", time.time(), "undoing" if number else "ended"))
+            await self.store.write(
+                None, (id, UNDONE + number, "null", time.time(), "undoing" if number else "ended")
+            )

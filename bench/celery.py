@@ -38,7 +38,7 @@ sys.path.append(str(TOP / "bench"))
 
 from brokers import Program, broker_at  # noqa: E402
 
-APP = '''
+APP = """
 import os
 import celery, redis, sagas, sagas.celery
 
@@ -57,14 +57,16 @@ def empty(): pass
 
 @app.task(name="last", **late)
 def last(): done.lpush("done", "1")
-'''
+"""
 
 
 async def chains(app: Any, done: redis.Redis[bytes], count: int, most: int) -> float:
     """Seconds for so many chains."""
 
     def work() -> None:
-        whole = celery.chain(app.tasks["empty"].si(), app.tasks["empty"].si(), app.tasks["last"].si())
+        whole = celery.chain(
+            app.tasks["empty"].si(), app.tasks["empty"].si(), app.tasks["last"].si()
+        )
         for number in range(count):
             if number >= most:
                 done.brpop("done", 60)
@@ -95,16 +97,40 @@ def running(words: argparse.Namespace, folder: pathlib.Path) -> Iterator[Any]:
     """The broker, a list in Redis, a worker; gives the app's module."""
     for name in ("done", "broker"):
         (folder / name).mkdir()
-    with broker_at("redis", folder / "done", False) as done, broker_at(words.broker, folder / "broker", False) as broker:
+    with broker_at("redis", folder / "done", False) as done, broker_at(
+        words.broker, folder / "broker", False
+    ) as broker:
         (folder / "bench_app.py").write_text(APP)
-        told = {"BENCH_BROKER": broker.url, "BENCH_STORE": words.store or str(folder / "store.db"), "BENCH_DONE": done.url.removeprefix("redis+socket://")}
+        told = {
+            "BENCH_BROKER": broker.url,
+            "BENCH_STORE": words.store or str(folder / "store.db"),
+            "BENCH_DONE": done.url.removeprefix("redis+socket://"),
+        }
         os.environ.update(told)
         sys.path.insert(0, str(folder))
         import bench_app  # type: ignore[import]
 
         path = f"{TOP / 'python' / 'src'}{os.pathsep}{folder}"
-        start = [sys.executable, "-m", "celery", "-A", "bench_app", "worker", "-Q", "bench", "-c", str(words.workers), "-l", "INFO"]
-        worker = Program([*start, "--without-gossip", "--without-mingle"], folder, os.environ | {"PYTHONPATH": path, "PYTHONUNBUFFERED": "1"}, "worker.log")
+        start = [
+            sys.executable,
+            "-m",
+            "celery",
+            "-A",
+            "bench_app",
+            "worker",
+            "-Q",
+            "bench",
+            "-c",
+            str(words.workers),
+            "-l",
+            "INFO",
+        ]
+        worker = Program(
+            [*start, "--without-gossip", "--without-mingle"],
+            folder,
+            os.environ | {"PYTHONPATH": path, "PYTHONUNBUFFERED": "1"},
+            "worker.log",
+        )
         try:
             worker.wait_for(r" ready\.")
             yield bench_app
@@ -124,14 +150,23 @@ async def main(words: argparse.Namespace, module: Any) -> None:
             if turn:
                 found["chains"].append(count / took)
                 found["sagas"].append(count / taken)
-                print(f"turn {turn}: {count / took:.0f} chains a second, {count / taken:.0f} sagas a second", flush=True)
+                print(
+                    f"turn {turn}: {count / took:.0f} chains a second, {count / taken:.0f} sagas a second",
+                    flush=True,
+                )
     middle = {what: statistics.median(rates) for what, rates in found.items()}
-    print(f"middle of {words.turns}, {words.open} open, {words.workers} processes of a worker, {words.broker}:")
-    print(f"  chains {middle['chains']:.0f} a second, sagas {middle['sagas']:.0f} a second: {middle['sagas'] / middle['chains']:.2f} of it")
+    print(
+        f"middle of {words.turns}, {words.open} open, {words.workers} processes of a worker, {words.broker}:"
+    )
+    print(
+        f"  chains {middle['chains']:.0f} a second, sagas {middle['sagas']:.0f} a second: {middle['sagas'] / middle['chains']:.2f} of it"
+    )
 
 
 if __name__ == "__main__":
-    parser = argparse.ArgumentParser(description=__doc__, formatter_class=argparse.RawDescriptionHelpFormatter)
+    parser = argparse.ArgumentParser(
+        description=__doc__, formatter_class=argparse.RawDescriptionHelpFormatter
+    )
     parser.add_argument("--turns", type=int, default=5)
     parser.add_argument("--count", type=int, default=1000)
     parser.add_argument("--open", type=int, default=64)

@@ -17,7 +17,9 @@ import time
 HERE = os.path.dirname(os.path.abspath(__file__))
 SAGAS = os.path.join(HERE, "..", "sagas")
 # The program that ./sagas starts.
-PROGRAM = subprocess.run([os.path.join(HERE, "..", "tests", "program")], capture_output=True, text=True, check=True).stdout.strip()
+PROGRAM = subprocess.run(
+    [os.path.join(HERE, "..", "tests", "program")], capture_output=True, text=True, check=True
+).stdout.strip()
 SIZES = [128, 256, 512, 1024]
 NEEDS = 8
 RUNS = 60
@@ -42,7 +44,14 @@ def case(steps):
 def answer(steps, needs):
     """Undoing costs 1 a step and keeping 2, so all committed steps are undone; each sends its 1 straight to the sink."""
     ones = [1] * (steps - 1) + [0]
-    plan = {"cost": steps - 1, "kept": [], "kind": "plan", "leave": ones, "links": [0] * needs, "stand": ones}
+    plan = {
+        "cost": steps - 1,
+        "kept": [],
+        "kind": "plan",
+        "leave": ones,
+        "links": [0] * needs,
+        "stand": ones,
+    }
     return json.dumps(plan, separators=(",", ":"))
 
 
@@ -52,7 +61,12 @@ def seconds(runs):
     for _ in range(RUNS):
         for number, (command, *words) in enumerate(runs):
             start = time.perf_counter()
-            subprocess.run([PROGRAM, command, *words], stdout=subprocess.DEVNULL, stderr=subprocess.DEVNULL, check=False)
+            subprocess.run(
+                [PROGRAM, command, *words],
+                stdout=subprocess.DEVNULL,
+                stderr=subprocess.DEVNULL,
+                check=False,
+            )
             best[number] = min(best[number], time.perf_counter() - start)
     return best
 
@@ -60,6 +74,7 @@ def seconds(runs):
 def main():
     subprocess.run([SAGAS, "--help"], stdout=subprocess.DEVNULL, check=True)
     with tempfile.TemporaryDirectory() as work:
+
         def put(name, text):
             path = os.path.join(work, name)
             with open(path, "w", encoding="utf-8") as file:
@@ -69,12 +84,29 @@ def main():
         none = put("none", "x")
         for steps in SIZES:
             text, needs = definition(steps, steps)
-            saga, states, plan = put("saga.toml", text), put("case.json", case(steps)), put("answer.json", answer(steps, needs))
-            shapeless = put("shapeless.json", answer(steps, needs).replace('"kept":[]', '"kept":[0]').replace('"links":[', '"links":[0,', 1))
-            said = subprocess.run([PROGRAM, "check", saga, states, plan], capture_output=True, text=True, check=False).stdout
+            saga, states, plan = (
+                put("saga.toml", text),
+                put("case.json", case(steps)),
+                put("answer.json", answer(steps, needs)),
+            )
+            shapeless = put(
+                "shapeless.json",
+                answer(steps, needs)
+                .replace('"kept":[]', '"kept":[0]')
+                .replace('"links":[', '"links":[0,', 1),
+            )
+            said = subprocess.run(
+                [PROGRAM, "check", saga, states, plan], capture_output=True, text=True, check=False
+            ).stdout
             if said != f"least {steps - 1}\n":
                 sys.exit(f"not least: {said!r}")
-            files = [[none, none, none], [saga, none, none], [saga, states, none], [saga, states, shapeless], [saga, states, plan]]
+            files = [
+                [none, none, none],
+                [saga, none, none],
+                [saga, states, none],
+                [saga, states, shapeless],
+                [saga, states, plan],
+            ]
             start, read, cased, answered, whole = seconds([["check", *words] for words in files])
             parts = {
                 "start": start,

@@ -50,7 +50,9 @@ def spent(process: int) -> float:
 
 def fill(service: Served, count: int) -> None:
     """So many sagas, all of which wait for their task."""
-    with httpx.Client(base_url=service.url, trust_env=False, timeout=60) as client, ThreadPoolExecutor(STARTERS) as pool:
+    with httpx.Client(
+        base_url=service.url, trust_env=False, timeout=60
+    ) as client, ThreadPoolExecutor(STARTERS) as pool:
 
         def start(number: int) -> None:
             body = {"definition": "one", "key": f"k{number}", "input": {"script": {}}}
@@ -71,7 +73,10 @@ def timed(command: list[str], service: Served, count: int, concurrency: int) -> 
         words = {"url": service.url, "token": None, "steps": ["one/a"], "lease": 60, "wait": 1}
         driver.ask("worker", worker="w", concurrency=concurrency, quiet=True, **words)
         with httpx.Client(base_url=service.url, trust_env=False, timeout=60) as client:
-            while client.get("/v1/definitions").json()["definitions"][0]["sagas"].get("completed", 0) < count:
+            while (
+                client.get("/v1/definitions").json()["definitions"][0]["sagas"].get("completed", 0)
+                < count
+            ):
                 time.sleep(0.05)
         seconds = time.perf_counter() - began
         costs = [1e6 * (spent(one) - old) / count for one, old in zip(processes, before)]
@@ -92,7 +97,9 @@ def turn(command: list[str], server: Server | None, count: int, concurrency: int
 
 def main() -> None:
     """The command."""
-    parser = argparse.ArgumentParser(description=__doc__, formatter_class=argparse.RawDescriptionHelpFormatter)
+    parser = argparse.ArgumentParser(
+        description=__doc__, formatter_class=argparse.RawDescriptionHelpFormatter
+    )
     parser.add_argument("--store", choices=("sqlite", "postgresql"), default="sqlite")
     parser.add_argument("--count", type=int, default=3000)
     parser.add_argument("--concurrency", type=int, default=4)
@@ -101,17 +108,23 @@ def main() -> None:
     words = parser.parse_args()
     figures: dict[str, list[Figure]] = {language: [] for language in words.languages}
     with contextlib.ExitStack() as stack:
-        server = stack.enter_context(serving({"fsync": "on"})) if words.store == "postgresql" else None
+        server = (
+            stack.enter_context(serving({"fsync": "on"})) if words.store == "postgresql" else None
+        )
         command = stack.enter_context(commands())
         for _ in range(words.turns):
             for language in words.languages:
-                figures[language].append(turn(command(language), server, words.count, words.concurrency))
+                figures[language].append(
+                    turn(command(language), server, words.count, words.concurrency)
+                )
     print(f"{words.store}, {words.count} tasks, {words.concurrency} at once, {words.turns} turns")
     print(f"{'':10}{'tasks/s':>10}{'from':>8}{'to':>8}{'worker us':>12}{'service us':>12}")
     for language, some in figures.items():
         rates = [one.rate for one in some]
         worker, service = (statistics.median(one[place] for one in some) for place in (1, 2))
-        print(f"{language:10}{statistics.median(rates):10.0f}{min(rates):8.0f}{max(rates):8.0f}{worker:12.0f}{service:12.0f}")
+        print(
+            f"{language:10}{statistics.median(rates):10.0f}{min(rates):8.0f}{max(rates):8.0f}{worker:12.0f}{service:12.0f}"
+        )
 
 
 if __name__ == "__main__":

@@ -23,10 +23,15 @@ def main():
     with tempfile.TemporaryDirectory() as folder:
         file = runs.put(folder, "steps", definition())
         for sagas in LOADS:
-            [(said, took)] = runs.timed([[*program, "desk", file, str(sagas)]], words.turns, runs.KEPT)
+            [(said, took)] = runs.timed(
+                [[*program, "desk", file, str(sagas)]], words.turns, runs.KEPT
+            )
             receipts = int(said[1])
-            print(f"{receipts} receipts of 16 seats on 16 shards: {took * 1e3:.1f} ms,"
-                  f" {took / receipts * 1e9:.1f} ms a million", flush=True)
+            print(
+                f"{receipts} receipts of 16 seats on 16 shards: {took * 1e3:.1f} ms,"
+                f" {took / receipts * 1e9:.1f} ms a million",
+                flush=True,
+            )
 
 
 if __name__ == "__main__":

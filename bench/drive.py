@@ -27,7 +27,9 @@ import runs
 
 TOGETHER = 64
 STEPS = 512
-MOST_EVENTS = 4 * 2 * STEPS  # a log has room for the ends of four sagas of so many steps, and refuses a fifth
+MOST_EVENTS = (
+    4 * 2 * STEPS
+)  # a log has room for the ends of four sagas of so many steps, and refuses a fifth
 LONG_STEPS = 500
 ROOT = runs.HERE.parent
 NEXT = b'{"do":"next"}\n'
@@ -37,10 +39,16 @@ def options():
     """The words of this script."""
     parser = argparse.ArgumentParser(description=__doc__.strip().splitlines()[0])
     parser.add_argument("--turns", type=int, default=5, help="how often the parts take turns")
-    parser.add_argument("--events", type=int, default=1024, help="how many events a part has, at most 4,096")
+    parser.add_argument(
+        "--events", type=int, default=1024, help="how many events a part has, at most 4,096"
+    )
     parser.add_argument("--sagas", type=int, default=1000, help="how many sagas the long log has")
-    parser.add_argument("--folder", help="where the files are put, in place of the system's folder for such")
-    parser.add_argument("--program", type=pathlib.Path, help="a program, in place of the one that ./sagas starts")
+    parser.add_argument(
+        "--folder", help="where the files are put, in place of the system's folder for such"
+    )
+    parser.add_argument(
+        "--program", type=pathlib.Path, help="a program, in place of the one that ./sagas starts"
+    )
     words = parser.parse_args()
     if words.events > MOST_EVENTS:
         parser.error(f"--events: at most {MOST_EVENTS:,}")
@@ -51,12 +59,18 @@ def built(words):
     """The program, built where its sources changed."""
     if words.program:
         return words.program
-    return pathlib.Path(subprocess.run([ROOT / "tests" / "program"], capture_output=True, text=True, check=True).stdout.strip())
+    return pathlib.Path(
+        subprocess.run(
+            [ROOT / "tests" / "program"], capture_output=True, text=True, check=True
+        ).stdout.strip()
+    )
 
 
 def definition(steps):
     """The text of a definition of steps without needs."""
-    return 'format = 1\nname = "wide"\n' + "".join(f'[[step]]\nname = "s{step}"\n' for step in range(steps))
+    return 'format = 1\nname = "wide"\n' + "".join(
+        f'[[step]]\nname = "s{step}"\n' for step in range(steps)
+    )
 
 
 def requests(events, together):
@@ -64,7 +78,9 @@ def requests(events, together):
     groups = []
     for first in range(0, events // 2, together):
         steps = [divmod(number, STEPS) for number in range(first, first + together)]
-        reports = [b'{"do":"report","outcome":"ok","saga":%d,"step":%d}\n' % place for place in steps]
+        reports = [
+            b'{"do":"report","outcome":"ok","saga":%d,"step":%d}\n' % place for place in steps
+        ]
         groups += [[NEXT] * together, reports]
     return groups
 
@@ -145,7 +161,10 @@ def parts(program, file, folder, events):
         how = "one at a time" if together == 1 else f"{TOGETHER} together"
         found += [
             (f"drive, {how}", lambda path, k=together: drive(program, file, None, events, k)),
-            (f"drive with a log, {how}", lambda path, k=together: drive(program, file, path, events, k)),
+            (
+                f"drive with a log, {how}",
+                lambda path, k=together: drive(program, file, path, events, k),
+            ),
             (f"SQLite DELETE, {how}", lambda path, k=together: sqlite(path, "DELETE", lines, k)),
             (f"SQLite WAL, {how}", lambda path, k=together: sqlite(path, "WAL", lines, k)),
             (f"append and fdatasync, {how}", lambda path, k=together: bare(path, lines, k)),
@@ -189,7 +208,9 @@ def selected(folder, text):
     """The seconds in which SQLite reads the lines of a text, which a table has."""
     base = table(folder / "long.db", "WAL")
     base.execute("BEGIN")
-    base.executemany("INSERT INTO events (line) VALUES (?)", ((line,) for line in text.splitlines(True)))
+    base.executemany(
+        "INSERT INTO events (line) VALUES (?)", ((line,) for line in text.splitlines(True))
+    )
     base.execute("COMMIT")
     begin = time.perf_counter()
     rows = sum(1 for _ in base.execute("SELECT line FROM events ORDER BY place"))
@@ -205,27 +226,35 @@ def greatest_memory(command):
         status = pathlib.Path(f"/proc/{child.pid}/status").read_text(encoding="utf-8")
         child.stdin.close()
         child.stdout.read()
-    return next(1024 * int(line.split()[1]) for line in status.splitlines() if line.startswith("VmHWM"))
+    return next(
+        1024 * int(line.split()[1]) for line in status.splitlines() if line.startswith("VmHWM")
+    )
 
 
 def restart(program, folder, sagas):
     """Times a start on a long log; gives its seconds."""
     text = long_log(sagas)
-    file, log = runs.put(folder, "long.toml", definition(LONG_STEPS)), runs.put(folder, "long.log", text)
+    file, log = runs.put(folder, "long.toml", definition(LONG_STEPS)), runs.put(
+        folder, "long.log", text
+    )
     command = [program, "drive", "--log", log, file]
     start = seconds(command, b"")
     audit = seconds([program, "audit", log, file], b"yes ")
     rows, select = selected(folder, text)
     memory = greatest_memory(command)
-    print(f"a start on {rows - 1:,} events, {len(text) / 1e6:.0f} MB: {start:.2f} s; an audit {audit:.2f} s; SQLite reads the rows in"
-          f" {select:.2f} s; greatest memory {memory / 1e6:.0f} MB, {memory / (rows - 1):.0f} bytes an event")
+    print(
+        f"a start on {rows - 1:,} events, {len(text) / 1e6:.0f} MB: {start:.2f} s; an audit {audit:.2f} s; SQLite reads the rows in"
+        f" {select:.2f} s; greatest memory {memory / 1e6:.0f} MB, {memory / (rows - 1):.0f} bytes an event"
+    )
     return start
 
 
 def chain(steps):
     """The text of a definition of steps each of which needs the one before it."""
     needs = [""] + [f'needs = ["s{step}"]\n' for step in range(steps - 1)]
-    return 'format = 1\nname = "chain"\n' + "".join(f'[[step]]\nname = "s{step}"\n{need}' for step, need in enumerate(needs))
+    return 'format = 1\nname = "chain"\n' + "".join(
+        f'[[step]]\nname = "s{step}"\n{need}' for step, need in enumerate(needs)
+    )
 
 
 def halfway(sagas, steps):
@@ -234,13 +263,18 @@ def halfway(sagas, steps):
     for saga in range(sagas):
         deeds.append(f'{{"def":0,"event":"open","saga":{saga}}}\n')
         for step in range(steps // 2):
-            deeds += [f'{{"event":"{word}","saga":{saga},"step":{step}}}\n' for word in ["start_run", "commit"]]
+            deeds += [
+                f'{{"event":"{word}","saga":{saga},"step":{step}}}\n'
+                for word in ["start_run", "commit"]
+            ]
     return '{"format":2}\n' + "".join(deeds)
 
 
 def asked(program, file, log, question):
     """The milliseconds of a question, a hundred of which are sent one at a time: the middle one."""
-    with subprocess.Popen([program, "drive", "--log", log, file], stdin=subprocess.PIPE, stdout=subprocess.PIPE) as child:
+    with subprocess.Popen(
+        [program, "drive", "--log", log, file], stdin=subprocess.PIPE, stdout=subprocess.PIPE
+    ) as child:
         times = []
         for _ in range(100):
             begin = time.perf_counter()
@@ -253,18 +287,32 @@ def asked(program, file, log, question):
 def questions(program, folder):
     """Times the questions over 1,000 sagas; gives the milliseconds of `ready` over trips."""
     ready = {}
-    for name, text, steps in [("trip", (ROOT / "examples" / "trip.toml").read_text(encoding="utf-8"), 0), ("chain", chain(16), 16)]:
-        file, log = runs.put(folder, f"{name}.toml", text), runs.put(folder, f"{name}.log", halfway(1000, steps))
-        took = {word: asked(program, file, log, b'{"do":"%s"}\n' % word.encode()) for word in ["ready", "list", "status"]}
+    for name, text, steps in [
+        ("trip", (ROOT / "examples" / "trip.toml").read_text(encoding="utf-8"), 0),
+        ("chain", chain(16), 16),
+    ]:
+        file, log = runs.put(folder, f"{name}.toml", text), runs.put(
+            folder, f"{name}.log", halfway(1000, steps)
+        )
+        took = {
+            word: asked(program, file, log, b'{"do":"%s"}\n' % word.encode())
+            for word in ["ready", "list", "status"]
+        }
         ready[name] = took["ready"]
-        print(f"questions over 1,000 sagas, {name}: " + ", ".join(f"{word} {ms:.2f} ms" for word, ms in took.items()), flush=True)
+        print(
+            f"questions over 1,000 sagas, {name}: "
+            + ", ".join(f"{word} {ms:.2f} ms" for word, ms in took.items()),
+            flush=True,
+        )
     return ready["trip"]
 
 
 def seconds_of(program, file, requests):
     """The seconds of a processor that a run of these requests takes, without a log."""
     before = resource.getrusage(resource.RUSAGE_CHILDREN)
-    subprocess.run([program, "drive", file], input=b"".join(requests), stdout=subprocess.DEVNULL, check=True)
+    subprocess.run(
+        [program, "drive", file], input=b"".join(requests), stdout=subprocess.DEVNULL, check=True
+    )
     after = resource.getrusage(resource.RUSAGE_CHILDREN)
     return after.ru_utime + after.ru_stime - before.ru_utime - before.ru_stime
 
@@ -274,10 +322,19 @@ def many(program, folder, turns):
     file = runs.put(folder, "ten.toml", definition(10))
     openings = [b'{"def":0,"do":"open"}\n'] * 1000
     took = {}
-    for name, requests in [("none", []), ("one", [NEXT] * 10000), ("many", [b'{"do":"next","most":%d}\n' % TOGETHER] * (10000 // TOGETHER + 1))]:
-        took[name] = statistics.median(seconds_of(program, file, openings + requests) for _ in range(turns))
+    for name, requests in [
+        ("none", []),
+        ("one", [NEXT] * 10000),
+        ("many", [b'{"do":"next","most":%d}\n' % TOGETHER] * (10000 // TOGETHER + 1)),
+    ]:
+        took[name] = statistics.median(
+            seconds_of(program, file, openings + requests) for _ in range(turns)
+        )
     one, together = took["one"] - took["none"], took["many"] - took["none"]
-    print(f"10,000 tasks: {one:.3f} s of a processor one by one, {together:.3f} s by {TOGETHER}: {together / one:.2f}", flush=True)
+    print(
+        f"10,000 tasks: {one:.3f} s of a processor one by one, {together:.3f} s by {TOGETHER}: {together / one:.2f}",
+        flush=True,
+    )
     return together / one
 
 
@@ -292,7 +349,10 @@ def main():
         good = True
         for part, took in middle.items():
             peer = middle["SQLite WAL, " + part.split(", ", 1)[1]]
-            print(f"{part}: {events / took:,.0f} events a second, {took / peer:.2f} of SQLite's time with WAL", flush=True)
+            print(
+                f"{part}: {events / took:,.0f} events a second, {took / peer:.2f} of SQLite's time with WAL",
+                flush=True,
+            )
             good = good and (not part.startswith("drive with a log") or took <= peer)
         start = restart(program, folder, words.sagas)
         ready = questions(program, folder)

@@ -34,8 +34,12 @@ def large(steps: int) -> list[bytes]:
     lines = ["format = 1", 'name = "large"']
     for step in range(steps):
         needs = chance.sample(range(max(0, step - 40), step), min(8, step))
-        prices = "".join(f"{key} = {chance.randrange(1000)}\n" for key in ("run", "undo", "skip", "keep"))
-        lines.append(f'[[step]]\nname = "s{step}"\nneeds = {json.dumps([f"s{need}" for need in needs])}\n{prices}')
+        prices = "".join(
+            f"{key} = {chance.randrange(1000)}\n" for key in ("run", "undo", "skip", "keep")
+        )
+        lines.append(
+            f'[[step]]\nname = "s{step}"\nneeds = {json.dumps([f"s{need}" for need in needs])}\n{prices}'
+        )
     states = ["committed"] * (steps * 3 // 4) + ["failed"] * 2 + ["waiting"] * steps
     return ["\n".join(lines).encode(), json.dumps({"states": states[:steps]}).encode()]
 
@@ -47,7 +51,11 @@ def works(call: Callable[[str, list[bytes]], bytes]) -> Iterator[tuple[int, Work
         yield steps, ("plan", "sagas_plan", texts)
         yield steps, ("check", "sagas_check", [*texts, call("sagas_plan", texts)])
         if steps == 4:
-            yield steps, ("audit", "sagas_audit", [(ROOT / "examples" / "trip.log").read_bytes(), trip[0]])
+            yield steps, (
+                "audit",
+                "sagas_audit",
+                [(ROOT / "examples" / "trip.log").read_bytes(), trip[0]],
+            )
 
 
 def rate(once: Callable[[], object], seconds: float) -> float:
@@ -61,7 +69,9 @@ def rate(once: Callable[[], object], seconds: float) -> float:
 
 def main() -> int:
     """Takes all in turns, and prints a line each."""
-    parser = argparse.ArgumentParser(description=__doc__, formatter_class=argparse.RawDescriptionHelpFormatter)
+    parser = argparse.ArgumentParser(
+        description=__doc__, formatter_class=argparse.RawDescriptionHelpFormatter
+    )
     parser.add_argument("--turns", type=int, default=5, help="how many turns each has")
     parser.add_argument("--seconds", type=float, default=0.5, help="how long a turn is")
     words = parser.parse_args()
@@ -70,21 +80,31 @@ def main() -> int:
     if loaded is None:
         sys.exit("library.py: dist/libsagas.so is missing: ./release makes it")
     found = loaded
-    program = subprocess.run([ROOT / "tests" / "program"], check=True, capture_output=True, text=True).stdout.strip()
+    program = subprocess.run(
+        [ROOT / "tests" / "program"], check=True, capture_output=True, text=True
+    ).stdout.strip()
 
     def call(name: str, texts: list[bytes]) -> bytes:
         return library.call(found, name, texts)[1]
 
     slow = 0
     for steps, (command, name, texts) in works(call):
-        with tempfile.TemporaryDirectory(dir="/dev/shm" if os.path.isdir("/dev/shm") else None) as folder:
+        with tempfile.TemporaryDirectory(
+            dir="/dev/shm" if os.path.isdir("/dev/shm") else None
+        ) as folder:
             paths = [Path(folder, str(number)) for number in range(len(texts))]
             for path, text in zip(paths, texts):
                 path.write_bytes(text)
             line = [program, command, *map(str, paths)]
 
             def start() -> bytes:
-                return subprocess.run(line, stdin=subprocess.DEVNULL, capture_output=True, close_fds=False, check=False).stdout
+                return subprocess.run(
+                    line,
+                    stdin=subprocess.DEVNULL,
+                    capture_output=True,
+                    close_fds=False,
+                    check=False,
+                ).stdout
 
             if start() != call(name, texts):
                 sys.exit(f"library.py: {command} at {steps} steps: they differ")
@@ -94,7 +114,10 @@ def main() -> int:
                 starts = max(starts, rate(start, words.seconds))
         ratio = calls / starts
         slow += ratio < LEAST.get(steps, 0.0)
-        print(f"{command}, {steps} steps: {calls:.0f} calls a second, {starts:.0f} starts, ratio {ratio:.1f}", flush=True)
+        print(
+            f"{command}, {steps} steps: {calls:.0f} calls a second, {starts:.0f} starts, ratio {ratio:.1f}",
+            flush=True,
+        )
     return 1 if slow else 0
 
 

@@ -46,7 +46,9 @@ def main():
             best = seconds(program, runs.put(folder, str(events), log(events)), words.turns)
             bests.append(best)
             for part, time in zip(PARTS, best):
-                print(f"{events} events, {part}: {time:.4f} s, ratio {time / best[2]:.2f}", flush=True)
+                print(
+                    f"{events} events, {part}: {time:.4f} s, ratio {time / best[2]:.2f}", flush=True
+                )
             good = good and best[0] <= best[2] and best[1] <= best[2] / 2
     for part, small, great in zip(PARTS, *bests):
         print(f"{part}: {great / small:.1f} times as long at ten times the events")

@@ -28,7 +28,9 @@ def main():
                 found.append([seconds for _, seconds in runs.timed(commands, words.turns)])
             middles = [statistics.median(times) for times in zip(*found)]
             for steps, middle in zip(SIZES, middles):
-                print(f"{steps} steps {NEEDS * steps} needs {shape}: {middle * 1e6:.0f} us, ratio {middle / middles[0]:.2f}")
+                print(
+                    f"{steps} steps {NEEDS * steps} needs {shape}: {middle * 1e6:.0f} us, ratio {middle / middles[0]:.2f}"
+                )
 
 
 if __name__ == "__main__":

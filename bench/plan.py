@@ -26,7 +26,15 @@ def definition(drawn, pairs):
         needs[step].append(f'"s{on}"')
     lines = ["format = 1", 'name = "random"']
     for step, (_, (run, undo, skip, keep)) in enumerate(drawn):
-        lines += ["", "[[step]]", f'name = "s{step}"', f"run = {run}", f"undo = {undo}", f"skip = {skip}", f"keep = {keep}"]
+        lines += [
+            "",
+            "[[step]]",
+            f'name = "s{step}"',
+            f"run = {run}",
+            f"undo = {undo}",
+            f"skip = {skip}",
+            f"keep = {keep}",
+        ]
         lines.append("needs = [" + ", ".join(needs[step]) + "]")
     return "\n".join(lines) + "\n"
 
@@ -53,14 +61,34 @@ def main():
         none = runs.put(folder, "none", "x")
         for steps, needs in SIZES:
             drawn, pairs = case_net.made("any", steps, needs, 1)
-            files = [runs.put(folder, "saga.toml", definition(drawn, pairs)), runs.put(folder, "case.json", case(drawn))]
-            text = json.loads(subprocess.run([PROGRAM, "plan", *files], capture_output=True, text=True, check=True).stdout)
-            said, planning = least(program, "plan", runs.put(folder, "case", case_net.case(drawn, pairs)), words.turns)
-            _, flow = least(program, "flow", runs.put(folder, "net", case_net.network(drawn, pairs)), words.turns)
+            files = [
+                runs.put(folder, "saga.toml", definition(drawn, pairs)),
+                runs.put(folder, "case.json", case(drawn)),
+            ]
+            text = json.loads(
+                subprocess.run(
+                    [PROGRAM, "plan", *files], capture_output=True, text=True, check=True
+                ).stdout
+            )
+            said, planning = least(
+                program, "plan", runs.put(folder, "case", case_net.case(drawn, pairs)), words.turns
+            )
+            _, flow = least(
+                program,
+                "flow",
+                runs.put(folder, "net", case_net.network(drawn, pairs)),
+                words.turns,
+            )
             if said[:2] != ["cost", str(text["cost"])]:
                 sys.exit(f"another cost: {said}")
             whole, read, start, cased = seconds(
-                [["plan", *files], ["plan", files[0], none], ["plan", none, none], ["check", *files, none]])
+                [
+                    ["plan", *files],
+                    ["plan", files[0], none],
+                    ["plan", none, none],
+                    ["check", *files, none],
+                ]
+            )
             parts = {
                 "start": start,
                 "definition": read - start,

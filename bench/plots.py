@@ -86,7 +86,9 @@ def drawn(title: str, series: Series) -> str:
             f'<text x="{x(place):.1f}" y="{HEIGHT - 18}" text-anchor="middle">{at:,} open</text>'
         )
     for number, (name, values) in enumerate(series.items()):
-        color, line = COLORS[number], " ".join(f"{x(i):.1f},{y(v):.1f}" for i, v in enumerate(values))
+        color, line = COLORS[number], " ".join(
+            f"{x(i):.1f},{y(v):.1f}" for i, v in enumerate(values)
+        )
         parts.append(f'<polyline points="{line}" fill="none" stroke="{color}" stroke-width="2"/>')
         parts += [
             f'<circle cx="{x(i):.1f}" cy="{y(v):.1f}" r="3" fill="{color}"/>'

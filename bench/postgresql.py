@@ -27,7 +27,11 @@ import time
 from collections.abc import AsyncIterator, Awaitable, Callable
 
 HERE = pathlib.Path(__file__).resolve().parent
-sys.path[:0] = [str(HERE.parent / "python" / "src"), str(HERE.parent / "python" / "tests"), str(HERE)]
+sys.path[:0] = [
+    str(HERE.parent / "python" / "src"),
+    str(HERE.parent / "python" / "tests"),
+    str(HERE),
+]
 
 import psycopg  # noqa: E402
 
@@ -42,7 +46,9 @@ SIZES = {1: 100, 16: 800, 256: 3000, 1000: 5000}
 LEASE = 3.0
 
 
-def trip(inside: bool = False, gate: asyncio.Event | None = None, called: list[float] | None = None) -> sagas.Saga:
+def trip(
+    inside: bool = False, gate: asyncio.Event | None = None, called: list[float] | None = None
+) -> sagas.Saga:
     """Three steps in a row; the second waits for a gate, where one is given."""
     saga = sagas.Saga("trip")
 
@@ -81,7 +87,8 @@ def failing() -> sagas.Saga:
     async def three(task: sagas.Task[object]) -> None:
         raise sagas.Fail("sold out")
 
-    async def undo(task: sagas.Task[object]) -> None: ...
+    async def undo(task: sagas.Task[object]) -> None:
+        ...
 
     one.compensation(undo)
     two.compensation(undo)
@@ -129,7 +136,9 @@ async def driven(url: str, saga: sagas.Saga, count: int, together: int, concurre
     async with sagas.open(url, [saga], concurrency=concurrency) as store:
 
         async def go(number: int) -> None:
-            await (await store.start(saga, f"{together}-{number}-{random.random()}", {"n": number})).wait()
+            await (
+                await store.start(saga, f"{together}-{number}-{random.random()}", {"n": number})
+            ).wait()
 
         await rate(go, 20, 4)
         return await rate(go, count, together)
@@ -191,7 +200,9 @@ async def bare(url: str, count: int, together: int) -> float:
     async with resting(url) as links:
         link = links.get_nowait()
         await link.execute("CREATE TABLE book(key text, step text)")
-        await link.execute("CREATE TABLE record(key text, step text, value text, PRIMARY KEY(key, step))")
+        await link.execute(
+            "CREATE TABLE record(key text, step text, value text, PRIMARY KEY(key, step))"
+        )
         await link.commit()
         links.put_nowait(link)
 
@@ -199,7 +210,9 @@ async def bare(url: str, count: int, together: int) -> float:
             for step in ("one", "two", "three"):
                 link = await links.get()
                 await link.execute(ROW, (str(number), step))
-                await link.execute("INSERT INTO record VALUES(%s, %s, %s)", (str(number), step, "1"))
+                await link.execute(
+                    "INSERT INTO record VALUES(%s, %s, %s)", (str(number), step, "1")
+                )
                 await link.commit()
                 links.put_nowait(link)
 
@@ -208,18 +221,32 @@ async def bare(url: str, count: int, together: int) -> float:
 
 WAYS: dict[str, Callable[[str, int, int], Awaitable[float]]] = {
     "sagas": ours,
-    "sagas, steps inside that do nothing there": lambda url, count, together: ours(url, count, together, True),
-    "sagas, steps inside, a row each": lambda url, count, together: ours_with_rows(url, count, together, True),
-    "sagas, steps that write the same row over a connection of their own": lambda url, count, together: ours_with_rows(url, count, together, False),
+    "sagas, steps inside that do nothing there": lambda url, count, together: ours(
+        url, count, together, True
+    ),
+    "sagas, steps inside, a row each": lambda url, count, together: ours_with_rows(
+        url, count, together, True
+    ),
+    "sagas, steps that write the same row over a connection of their own": lambda url, count, together: ours_with_rows(
+        url, count, together, False
+    ),
     "psycopg alone, three transactions of two rows each": bare,
-    "by hand, a commit a change": lambda url, count, together: hand(by_hand.Each(url), count, together),
-    "by hand, commits shared": lambda url, count, together: hand(by_hand.Shared(url), count, together),
+    "by hand, a commit a change": lambda url, count, together: hand(
+        by_hand.Each(url), count, together
+    ),
+    "by hand, commits shared": lambda url, count, together: hand(
+        by_hand.Shared(url), count, together
+    ),
 }
 
 
 FAILING: dict[str, Callable[[str, int, int], Awaitable[float]]] = {
-    "sagas, the third step fails": lambda url, count, together: driven(url, failing(), count, together, max(16, together)),
-    "by hand, commits shared, the third step fails": lambda url, count, together: hand(by_hand.Shared(url), count, together, True),
+    "sagas, the third step fails": lambda url, count, together: driven(
+        url, failing(), count, together, max(16, together)
+    ),
+    "by hand, commits shared, the third step fails": lambda url, count, together: hand(
+        by_hand.Shared(url), count, together, True
+    ),
 }
 
 
@@ -228,7 +255,11 @@ def undone(server: Server, words: argparse.Namespace) -> None:
     speed(server, words, FAILING)
 
 
-def speed(server: Server, words: argparse.Namespace, ways: dict[str, Callable[[str, int, int], Awaitable[float]]] = WAYS) -> None:
+def speed(
+    server: Server,
+    words: argparse.Namespace,
+    ways: dict[str, Callable[[str, int, int], Awaitable[float]]] = WAYS,
+) -> None:
     """Sagas a second, at four concurrencies. The ways take turns, so that a slow minute of the machine is a slow minute of each, and each second time in
     the opposite order, since one that follows another finds the disk as that left it."""
     turns: dict[tuple[str, int], list[float]] = collections.defaultdict(list)
@@ -240,12 +271,20 @@ def speed(server: Server, words: argparse.Namespace, ways: dict[str, Callable[[s
                 server.drop(url)
     print("| sagas a second, so many at once |", " | ".join(map(str, words.at)), "|")
     for name in ways:
-        print(f"| {name} | {' | '.join(f'{statistics.median(turns[name, together]):.0f}' for together in words.at)} |", flush=True)
+        print(
+            f"| {name} | {' | '.join(f'{statistics.median(turns[name, together]):.0f}' for together in words.at)} |",
+            flush=True,
+        )
 
 
 def child(url: str, count: int, name: str) -> subprocess.Popen[str]:
     """This file as a node in a process of its own."""
-    return subprocess.Popen([sys.executable, __file__, "child", url, str(count), name], stdout=subprocess.PIPE, stdin=subprocess.PIPE, text=True)
+    return subprocess.Popen(
+        [sys.executable, __file__, "child", url, str(count), name],
+        stdout=subprocess.PIPE,
+        stdin=subprocess.PIPE,
+        text=True,
+    )
 
 
 def be_child(url: str, count: int, name: str) -> None:
@@ -255,7 +294,9 @@ def be_child(url: str, count: int, name: str) -> None:
         if name.startswith("waits"):
             called: list[float] = []
             saga = trip(gate=asyncio.Event(), called=called)
-            async with sagas.open(url, [saga], node=name, lease=LEASE if name == "waits" else 10.0, concurrency=count) as store:
+            async with sagas.open(
+                url, [saga], node=name, lease=LEASE if name == "waits" else 10.0, concurrency=count
+            ) as store:
                 await asyncio.gather(*(store.start(saga, f"k{number}") for number in range(count)))
                 while len(called) < count:
                     await asyncio.sleep(0.01)
@@ -282,7 +323,9 @@ def nodes(server: Server, words: argparse.Namespace) -> None:
             url = server.create()
             with psycopg.connect(url):
                 pass
-            processes = [child(url, int(2000 * words.scale), f"n{number}") for number in range(many)]
+            processes = [
+                child(url, int(2000 * words.scale), f"n{number}") for number in range(many)
+            ]
             for one in processes:
                 assert one.stdout and one.stdout.readline() == "ready\n"
             for one in processes:
@@ -320,7 +363,13 @@ def spent_by(server: Server) -> float:
     pid = int((server.folder / "data" / "postmaster.pid").read_text().split()[0])
 
     def fields(pid: int) -> list[int]:
-        return [int(word) for word in pathlib.Path(f"/proc/{pid}/stat").read_text().rpartition(")")[2].split()[11:15]]
+        return [
+            int(word)
+            for word in pathlib.Path(f"/proc/{pid}/stat")
+            .read_text()
+            .rpartition(")")[2]
+            .split()[11:15]
+        ]
 
     ticks = sum(fields(pid))
     for one in pathlib.Path(f"/proc/{pid}/task/{pid}/children").read_text().split():
@@ -330,9 +379,16 @@ def spent_by(server: Server) -> float:
 
 
 TABLES = (
-    "sagas", "attempts", "event_log", "shards", "definitions", "shard_definitions", "suspensions", "operator_commands",
+    "sagas",
+    "attempts",
+    "event_log",
+    "shards",
+    "definitions",
+    "shard_definitions",
+    "suspensions",
+    "operator_commands",
     "pending_starts",
-)  # fmt: skip
+)
 
 
 def size(server: Server, words: argparse.Namespace) -> None:
@@ -349,10 +405,14 @@ def size(server: Server, words: argparse.Namespace) -> None:
             return store.commits
 
     def spent() -> tuple[float, float, float]:
-        own, children = (resource.getrusage(who) for who in (resource.RUSAGE_SELF, resource.RUSAGE_CHILDREN))
+        own, children = (
+            resource.getrusage(who) for who in (resource.RUSAGE_SELF, resource.RUSAGE_CHILDREN)
+        )
         return own.ru_utime + own.ru_stime, children.ru_utime + children.ru_stime, spent_by(server)
 
-    print("| a saga, so many at once | commits | rows | bytes in the tables | bytes of WAL | ms of processor: program | its children | server |")
+    print(
+        "| a saga, so many at once | commits | rows | bytes in the tables | bytes of WAL | ms of processor: program | its children | server |"
+    )
     for together, count in ((1, 300), (16, 2000), (256, 5000)):
         url, count = server.create(), max(100, int(count * words.scale))
         with psycopg.connect(url, autocommit=True) as link:
@@ -363,12 +423,19 @@ def size(server: Server, words: argparse.Namespace) -> None:
             wal = number("SELECT pg_current_wal_lsn() - '0/0'")
             before = spent()
             commits = asyncio.run(fill(url, count, together))
-            times = " | ".join(f"{1000 * (now - was) / count:.2f}" for was, now in zip(before, spent()))
+            times = " | ".join(
+                f"{1000 * (now - was) / count:.2f}" for was, now in zip(before, spent())
+            )
             rows = sum(number(f"SELECT count(*) FROM sagas.{table}") for table in TABLES)
             wal = number("SELECT pg_current_wal_lsn() - '0/0'") - wal
             link.execute("VACUUM")
-            of = {table: number(f"SELECT pg_total_relation_size('sagas.{table}')") for table in TABLES}
-            print(f"| {together} | {commits / count:.2f} | {rows / count:.2f} | {sum(of.values()) / count:.0f} | {wal / count:.0f} | {times} |", flush=True)
+            of = {
+                table: number(f"SELECT pg_total_relation_size('sagas.{table}')") for table in TABLES
+            }
+            print(
+                f"| {together} | {commits / count:.2f} | {rows / count:.2f} | {sum(of.values()) / count:.0f} | {wal / count:.0f} | {times} |",
+                flush=True,
+            )
         print({table: round(bytes / count) for table, bytes in of.items() if bytes / count >= 1})
         server.drop(url)
 
@@ -413,7 +480,12 @@ def opening(server: Server, words: argparse.Namespace) -> None:
         async with sagas.open(url, [saga], concurrency=1000, shutdown_timeout=0.0) as store:
             if not store._inside.shards.runners:  # type: ignore[union-attr]
                 for first in range(0, 1000, 100):
-                    await asyncio.gather(*(store.start(saga, f"open-{number}") for number in range(first, first + 100)))
+                    await asyncio.gather(
+                        *(
+                            store.start(saga, f"open-{number}")
+                            for number in range(first, first + 100)
+                        )
+                    )
             while len(called) < 1000:
                 await asyncio.sleep(0.005)
         return max(called)
@@ -428,7 +500,10 @@ def opening(server: Server, words: argparse.Namespace) -> None:
         for _ in range(words.turns):
             began = time.time()
             times.append(asyncio.run(opened(url)) - began)
-        print(f"opening: {int(100_000 * words.scale)} ended, 1,000 open sagas in {1000 // room} logs: {statistics.median(times):.2f} s until all are called", flush=True)
+        print(
+            f"opening: {int(100_000 * words.scale)} ended, 1,000 open sagas in {1000 // room} logs: {statistics.median(times):.2f} s until all are called",
+            flush=True,
+        )
         server.drop(url)
         setattr(sagas.definition.shelf, "SHARD_CAPACITY", 1000)
 
@@ -464,8 +539,15 @@ def prune(server: Server, words: argparse.Namespace) -> None:
         thread.start()
         waits = sorted(asyncio.run(starts(url, done.is_set)))
         thread.join()
-        took = f", {1000 * (time.monotonic() - began) / max(1, len(gone.logs)) / 2:.0f} ms a log of {gone.sagas // max(1, len(gone.logs))} sagas" if gone.logs else ""
-        print(f"starts {name}: middle {1000 * waits[len(waits) // 2]:.1f} ms, 99 of 100 {1000 * waits[len(waits) * 99 // 100]:.1f} ms, most {1000 * waits[-1]:.1f} ms{took}", flush=True)
+        took = (
+            f", {1000 * (time.monotonic() - began) / max(1, len(gone.logs)) / 2:.0f} ms a log of {gone.sagas // max(1, len(gone.logs))} sagas"
+            if gone.logs
+            else ""
+        )
+        print(
+            f"starts {name}: middle {1000 * waits[len(waits) // 2]:.1f} ms, 99 of 100 {1000 * waits[len(waits) * 99 // 100]:.1f} ms, most {1000 * waits[-1]:.1f} ms{took}",
+            flush=True,
+        )
 
 
 def takeover(server: Server, words: argparse.Namespace) -> None:
@@ -489,7 +571,10 @@ def takeover(server: Server, words: argparse.Namespace) -> None:
 
     for _ in range(words.turns):
         first, last = asyncio.run(main(server.create()))
-        print(f"takeover, lease {LEASE:.0f} s: the first step is called again {first:.2f} s after the kill, the last {last:.2f} s", flush=True)
+        print(
+            f"takeover, lease {LEASE:.0f} s: the first step is called again {first:.2f} s after the kill, the last {last:.2f} s",
+            flush=True,
+        )
 
 
 def main() -> None:
@@ -497,12 +582,28 @@ def main() -> None:
     if sys.argv[1:2] == ["child"]:
         be_child(sys.argv[2], int(sys.argv[3]), sys.argv[4])
         return
-    parts = {"speed": speed, "failing": undone, "nodes": nodes, "size": size, "idle": idle, "takeover": takeover, "opening": opening, "prune": prune}
-    parser = argparse.ArgumentParser(description=__doc__, formatter_class=argparse.RawDescriptionHelpFormatter)
+    parts = {
+        "speed": speed,
+        "failing": undone,
+        "nodes": nodes,
+        "size": size,
+        "idle": idle,
+        "takeover": takeover,
+        "opening": opening,
+        "prune": prune,
+    }
+    parser = argparse.ArgumentParser(
+        description=__doc__, formatter_class=argparse.RawDescriptionHelpFormatter
+    )
     parser.add_argument("parts", nargs="*", choices=[*parts, []], default=[])
     parser.add_argument("--turns", type=int, default=3)
     parser.add_argument("--scale", type=float, default=1.0)
-    parser.add_argument("--at", type=lambda text: [int(one) for one in text.split(",")], default=[*SIZES], help="of `speed` and `failing`: how many at once, as 1,16")
+    parser.add_argument(
+        "--at",
+        type=lambda text: [int(one) for one in text.split(",")],
+        default=[*SIZES],
+        help="of `speed` and `failing`: how many at once, as 1,16",
+    )
     words = parser.parse_args()
     logging.basicConfig(filename=os.devnull)  # what is logged is written, and nobody reads it
     print(f"{os.cpu_count()} processors, load {os.getloadavg()[0]:.1f}")

@@ -87,8 +87,12 @@ class Done:
     phase: str
 
     def write(self, db: sqlite3.Connection) -> None:
-        db.execute("INSERT INTO result VALUES(?, ?, ?, ?)", (self.id, self.step, self.value, self.at))
-        db.execute("UPDATE saga SET step = ?, phase = ? WHERE id = ?", (self.step + 1, self.phase, self.id))
+        db.execute(
+            "INSERT INTO result VALUES(?, ?, ?, ?)", (self.id, self.step, self.value, self.at)
+        )
+        db.execute(
+            "UPDATE saga SET step = ?, phase = ? WHERE id = ?", (self.step + 1, self.phase, self.id)
+        )
 
 
 @dataclass(frozen=True)
@@ -102,7 +106,9 @@ class Undone:
 
     def write(self, db: sqlite3.Connection) -> None:
         db.execute("INSERT INTO result VALUES(?, ?, NULL, ?)", (self.id, -1 - self.step, self.at))
-        db.execute("UPDATE saga SET step = ?, phase = ? WHERE id = ?", (self.step, self.phase, self.id))
+        db.execute(
+            "UPDATE saga SET step = ?, phase = ? WHERE id = ?", (self.step, self.phase, self.id)
+        )
 
 
 Change = Started | Done | Undone
@@ -145,7 +151,9 @@ class Table:
     async def _drain(self) -> None:
         while self.queue:
             batch, self.queue = self.queue, []
-            await self.loop.run_in_executor(self.thread, self._commit, [change for _, change in batch])
+            await self.loop.run_in_executor(
+                self.thread, self._commit, [change for _, change in batch]
+            )
             for future, _ in batch:
                 future.set_result(None)
 
@@ -164,7 +172,9 @@ class ByHand:
             try:
                 value = await step(given)
             except LookupError as error:
-                logging.getLogger("by hand").warning("step_failed key=%s step=%d detail=%r", key, number, error)
+                logging.getLogger("by hand").warning(
+                    "step_failed key=%s step=%d detail=%r", key, number, error
+                )
                 await self._back(id, number, given)
                 return
             phase = "ended" if number + 1 == len(self.steps) else "going"
@@ -174,7 +184,9 @@ class ByHand:
         await self.table.write(Undone(id, failed, time.time(), "undoing"))
         for number in reversed(range(failed)):
             await self.undo(given)
-            await self.table.write(Undone(id, number, time.time(), "undoing" if number else "ended"))
+            await self.table.write(
+                Undone(id, number, time.time(), "undoing" if number else "ended")
+            )
 
 
 async def small(given: Any) -> Any:
@@ -285,19 +297,22 @@ async def timed(one: One, count: int, together: int) -> Timing:
 async def with_package(folder: pathlib.Path, saga: sagas.Saga, count: int, together: int) -> Timing:
     """The package's turn."""
     async with sagas.open(folder / "sagas.db", [saga], concurrency=max(16, together)) as store:
-
         last: list[sagas.SagaResult] = []
 
         async def one(key: str, given: Any) -> None:
             run = await store.start(saga, key=key, input=given)
-            last[:] = [await run.wait()]  # a result is read when it is looked at, which is no part of this
+            last[:] = [
+                await run.wait()
+            ]  # a result is read when it is looked at, which is no part of this
 
         timing = await timed(one, count, together)
         assert last[0].ok if saga is row else last[0].states["one"] == "undone", last
         return dataclasses.replace(timing, commits=store.commits / (count + WARM))
 
 
-async def by_hand(folder: pathlib.Path, failing: bool, count: int, together: int, shared: bool) -> Timing:
+async def by_hand(
+    folder: pathlib.Path, failing: bool, count: int, together: int, shared: bool
+) -> Timing:
     """The hand-written one's turn."""
     table = Table(folder / "table.db", shared)
     try:
@@ -371,7 +386,9 @@ def open_again(count: int, each: int) -> None:
         done = subprocess.run([*words, "again"], check=False, capture_output=True, text=True)
         opened, called, children, memory = map(float, done.stdout.split())
         logs = -(-count // each)
-        print(f"{count:,} open sagas in {logs} logs: open after {opened:.2f} s, the first step called again after {called:.2f} s,")
+        print(
+            f"{count:,} open sagas in {logs} logs: open after {opened:.2f} s, the first step called again after {called:.2f} s,"
+        )
         print(f"  {children:.0f} children, {memory:.0f} MB in all")
     finally:
         shutil.rmtree(folder)
@@ -386,7 +403,9 @@ async def fill(path: pathlib.Path, count: int) -> None:
                 run = await store.start(row, key=f"key-{number}", input={"n": number})
                 await run.wait()
 
-            await asyncio.gather(*(one(number) for number in range(place, min(place + 1_000, count))))
+            await asyncio.gather(
+                *(one(number) for number in range(place, min(place + 1_000, count)))
+            )
 
 
 async def opening(path: pathlib.Path) -> float:
@@ -419,14 +438,26 @@ def middle(timings: list[Timing]) -> Timing:
 
 def main() -> int:
     """The command."""
-    parser = argparse.ArgumentParser(description=__doc__, formatter_class=argparse.RawDescriptionHelpFormatter)
+    parser = argparse.ArgumentParser(
+        description=__doc__, formatter_class=argparse.RawDescriptionHelpFormatter
+    )
     parser.add_argument("--turns", type=int, default=3)
-    parser.add_argument("--scale", type=float, default=1.0, help="more or fewer sagas than the usual")
-    parser.add_argument("--open", type=int, metavar="N", help="go on with so many open sagas, after kill -9")
-    parser.add_argument("--each", type=int, default=1_000, metavar="M", help="at most so many of them in a log")
-    parser.add_argument("--ended", type=int, metavar="N", help="open a store with so many ended sagas")
+    parser.add_argument(
+        "--scale", type=float, default=1.0, help="more or fewer sagas than the usual"
+    )
+    parser.add_argument(
+        "--open", type=int, metavar="N", help="go on with so many open sagas, after kill -9"
+    )
+    parser.add_argument(
+        "--each", type=int, default=1_000, metavar="M", help="at most so many of them in a log"
+    )
+    parser.add_argument(
+        "--ended", type=int, metavar="N", help="open a store with so many ended sagas"
+    )
     parser.add_argument("--at", default=",".join(map(str, COUNTS)), help="the concurrencies")
-    parser.add_argument("--failing", action="store_true", help="the third step fails, and the others are undone")
+    parser.add_argument(
+        "--failing", action="store_true", help="the third step fails, and the others are undone"
+    )
     words = parser.parse_args()
     logging.basicConfig(filename=os.devnull)  # what is logged is written, and nobody reads it
     if words.open:
@@ -442,24 +473,38 @@ def main() -> int:
 def compare(words: argparse.Namespace) -> None:
     """The three ways, side by side."""
     sizes = [int(size) for size in words.at.split(",")]
-    timings: dict[tuple[int, str], list[Timing]] = {(size, way): [] for size in sizes for way in WAYS}
+    timings: dict[tuple[int, str], list[Timing]] = {
+        (size, way): [] for size in sizes for way in WAYS
+    }
     for _ in range(words.turns):
         for size in sizes:
             for way in WAYS:
                 count = max(20, int(COUNTS.get(size, 6 * size) * words.scale))
-                timings[size, way].append(turn(way, words.failing, min(count, 1_500) if way == "by hand" else count, size))
-    print(f"{'':>11}  {'':16} {'sagas/s':>8} {'(least, most)':>17} {'latency ms':>11} {'CPU us':>7}")
+                timings[size, way].append(
+                    turn(way, words.failing, min(count, 1_500) if way == "by hand" else count, size)
+                )
+    print(
+        f"{'':>11}  {'':16} {'sagas/s':>8} {'(least, most)':>17} {'latency ms':>11} {'CPU us':>7}"
+    )
     for (size, way), ones in timings.items():
         one, rates = middle(ones), [timing.rate for timing in ones]
         spread = f"({min(rates):,.0f}, {max(rates):,.0f})"
-        print(f"{size:>5} at once  {way:16} {one.rate:>8,.0f} {spread:>17} {one.middle:>11.1f} {one.cpu:>7,.0f}")
+        print(
+            f"{size:>5} at once  {way:16} {one.rate:>8,.0f} {spread:>17} {one.middle:>11.1f} {one.cpu:>7,.0f}"
+        )
         if way == WAYS[-1]:
             rate = {name: middle(timings[size, name]).rate for name in WAYS}
-            print(f"{'':>11}  sagas is {rate['sagas'] / rate['by hand']:.2f} of by hand, {rate['sagas'] / rate[way]:.2f} of shared")
+            print(
+                f"{'':>11}  sagas is {rate['sagas'] / rate['by hand']:.2f} of by hand, {rate['sagas'] / rate[way]:.2f} of shared"
+            )
             if words.failing:
-                well = turn("sagas", False, max(20, int(COUNTS.get(size, 6 * size) * words.scale)), size).commits
+                well = turn(
+                    "sagas", False, max(20, int(COUNTS.get(size, 6 * size) * words.scale)), size
+                ).commits
                 commits = middle(timings[size, "sagas"]).commits
-                print(f"{'':>11}  {commits:.3f} transactions a saga, {commits / well:.2f} of those of a saga that goes well")
+                print(
+                    f"{'':>11}  {commits:.3f} transactions a saga, {commits / well:.2f} of those of a saga that goes well"
+                )
 
 
 if __name__ == "__main__":

@@ -199,11 +199,22 @@ def main() -> None:
         for at in map(int, words.at.split(",")):
             with tempfile.TemporaryDirectory() as folder:
                 under = [
-                    "valgrind", "--tool=callgrind", "--instr-atstart=no", "--zero-before=umask",
-                    "--dump-before=getpriority", f"--callgrind-out-file={folder}/count",
-                    sys.executable, __file__, "--at", str(at), "--sagas", str(words.sagas),
-                    "--within", server.create(), folder,
-                ]  # fmt: skip
+                    "valgrind",
+                    "--tool=callgrind",
+                    "--instr-atstart=no",
+                    "--zero-before=umask",
+                    "--dump-before=getpriority",
+                    f"--callgrind-out-file={folder}/count",
+                    sys.executable,
+                    __file__,
+                    "--at",
+                    str(at),
+                    "--sagas",
+                    str(words.sagas),
+                    "--within",
+                    server.create(),
+                    folder,
+                ]
                 done = subprocess.run(
                     under, env=os.environ | {"PYTHONHASHSEED": "0"}, capture_output=True, text=True
                 )

@@ -33,11 +33,18 @@ def main():
         for steps in STEPS:
             file = runs.put(folder, str(steps), definition(steps))
             for kind, fails in [("all succeed", []), ("one failure a saga", [str(steps - 1)])]:
-                events, (audit, replay) = runs.events_of(program, ["replay", file, str(SAGAS), *fails], len(PARTS), words.turns)
-                _, (_, small) = runs.events_of(program, ["replay", file, str(SAGAS // 10), *fails], len(PARTS), words.turns)
-                print(f"{SAGAS} sagas of {steps} steps, {kind}: {events} events; audit {audit / events * 1e9:.0f} ns an event,"
-                      f" replay {replay / events * 1e9:.0f}, {replay / audit:.2f} times as long;"
-                      f" ten times the sagas take a replay {replay / small:.1f} times as long", flush=True)
+                events, (audit, replay) = runs.events_of(
+                    program, ["replay", file, str(SAGAS), *fails], len(PARTS), words.turns
+                )
+                _, (_, small) = runs.events_of(
+                    program, ["replay", file, str(SAGAS // 10), *fails], len(PARTS), words.turns
+                )
+                print(
+                    f"{SAGAS} sagas of {steps} steps, {kind}: {events} events; audit {audit / events * 1e9:.0f} ns an event,"
+                    f" replay {replay / events * 1e9:.0f}, {replay / audit:.2f} times as long;"
+                    f" ten times the sagas take a replay {replay / small:.1f} times as long",
+                    flush=True,
+                )
                 good = good and replay <= 3 * audit and replay <= 12 * small
     sys.exit(0 if good else 1)
 

@@ -47,7 +47,9 @@ def seconds(program, file, crews, turns):
     for _ in range(turns):
         for crew in crews:
             words = command(program, file, SAGAS, crew, True)
-            done = subprocess.run(words, env=os.environ | runs.KEPT, capture_output=True, text=True, check=True)
+            done = subprocess.run(
+                words, env=os.environ | runs.KEPT, capture_output=True, text=True, check=True
+            )
             events = int(done.stdout.split()[1])
             times = [float(line) for line in done.stderr.split()]
             found[crew].append([min(times[part :: len(PARTS)]) for part in range(len(PARTS))])
@@ -57,7 +59,9 @@ def seconds(program, file, crews, turns):
 def busy_seconds(program, file, crew):
     """The seconds of a run of steps that take their time, in the best of its runs."""
     words = [*command(program, file, BUSY_SAGAS, crew, False), str(MICROS)]
-    done = subprocess.run(words, env=os.environ | runs.KEPT, capture_output=True, text=True, check=True)
+    done = subprocess.run(
+        words, env=os.environ | runs.KEPT, capture_output=True, text=True, check=True
+    )
     return min(float(line) for line in done.stderr.split()[1::2])
 
 
@@ -68,13 +72,18 @@ def ratio(turns):
 
 def bytes_each(program, file, crew, logs, events):
     """By how many bytes an event the greatest memory in use grows."""
-    many, one = (book.greatest_memory(command(program, file, sagas, crew, logs)) for sagas in [SAGAS, 1])
+    many, one = (
+        book.greatest_memory(command(program, file, sagas, crew, logs)) for sagas in [SAGAS, 1]
+    )
     return (many - one) / events
 
 
 def shown(crew):
     """A crew in words."""
-    return " on ".join(f"{number} {name}{'' if number == 1 else 's'}" for number, name in zip(crew, ["worker", "shard"]))
+    return " on ".join(
+        f"{number} {name}{'' if number == 1 else 's'}"
+        for number, name in zip(crew, ["worker", "shard"])
+    )
 
 
 def main():
@@ -89,21 +98,37 @@ def main():
         events, found = seconds(program, file, crews, words.turns)
         for crew, turns in found.items():
             _, run, write, audit = (min(times) for times in zip(*turns))
-            print(f"{shown(crew)}: {events} events; events a second: {events / run:,.0f}, with a log {events / (run + write):,.0f},"
-                  f" audit {events / audit:,.0f}; {ratio(turns):.2f} of a book's time alone", flush=True)
+            print(
+                f"{shown(crew)}: {events} events; events a second: {events / run:,.0f}, with a log {events / (run + write):,.0f},"
+                f" audit {events / audit:,.0f}; {ratio(turns):.2f} of a book's time alone",
+                flush=True,
+            )
         for crew in dict.fromkeys([one, full]):
-            without, with_log = (bytes_each(program, file, crew, logs, events) for logs in [False, True])
-            print(f"{shown(crew)}: {without:.1f} bytes an event, with a log and its audit {with_log:.1f}", flush=True)
+            without, with_log = (
+                bytes_each(program, file, crew, logs, events) for logs in [False, True]
+            )
+            print(
+                f"{shown(crew)}: {without:.1f} bytes an event, with a log and its audit {with_log:.1f}",
+                flush=True,
+            )
         alone = busy_seconds(program, file, one)
-        busy = {shards: busy_seconds(program, file, (max(WORKERS), shards)) / alone for shards in SHARDS}
+        busy = {
+            shards: busy_seconds(program, file, (max(WORKERS), shards)) / alone for shards in SHARDS
+        }
     gains = {crew: ratio(found[crew]) / ratio(found[one]) for crew in crews}
     for crew, gain in gains.items():
         print(f"{shown(crew)}: {gain:.2f} of the time of {shown(one)}")
     for shards, gain in busy.items():
-        print(f"{shown((max(WORKERS), shards))}, {MICROS} microseconds a step: {gain:.2f} of the time of {shown(one)}")
+        print(
+            f"{shown((max(WORKERS), shards))}, {MICROS} microseconds a step: {gain:.2f} of the time of {shown(one)}"
+        )
     good = ratio(found[one]) <= 2 and gains[full] <= 1
     if processors >= max(WORKERS):
-        good = good and all(gains[max(WORKERS), shards] <= most for shards, most in LIMITS.items()) and max(busy.values()) <= BUSY_LIMIT
+        good = (
+            good
+            and all(gains[max(WORKERS), shards] <= most for shards, most in LIMITS.items())
+            and max(busy.values()) <= BUSY_LIMIT
+        )
     sys.exit(0 if good else 1)
 
 

@@ -21,7 +21,9 @@ def options(summary):
     parser = argparse.ArgumentParser(description=summary.strip().splitlines()[0])
     parser.add_argument("--seeds", type=int, default=5, help="how many inputs of each kind")
     parser.add_argument("--turns", type=int, default=5, help="how often the programs take turns")
-    parser.add_argument("--program", type=pathlib.Path, help="a built program, in place of bench/saga_timing's")
+    parser.add_argument(
+        "--program", type=pathlib.Path, help="a built program, in place of bench/saga_timing's"
+    )
     return parser.parse_args()
 
 
@@ -54,7 +56,9 @@ def timed(commands, turns, settings=None):
     times = [[] for _ in commands]
     for _ in range(turns):
         for number, command in enumerate(commands):
-            done = subprocess.run(command, env=surroundings, capture_output=True, text=True, check=True)
+            done = subprocess.run(
+                command, env=surroundings, capture_output=True, text=True, check=True
+            )
             said[number] = done.stdout.split()
             times[number] += [float(line) for line in done.stderr.split()]
     return [(words, statistics.median(found)) for words, found in zip(said, times)]
@@ -65,7 +69,9 @@ def best_of_parts(command, parts, turns):
     one part behind the other, again and again."""
     found = [[] for _ in range(parts)]
     for _ in range(turns):
-        done = subprocess.run(command, env=os.environ | KEPT, capture_output=True, text=True, check=True)
+        done = subprocess.run(
+            command, env=os.environ | KEPT, capture_output=True, text=True, check=True
+        )
         for number, line in enumerate(done.stderr.split()):
             found[number % parts].append(float(line))
     return done.stdout.split(), [min(times) for times in found]
@@ -90,12 +96,20 @@ def compared(summary, command, kinds):
             ratios = []
             for seed in range(1, words.seeds + 1):
                 text, net = made(seed)
-                commands = [[*program, command, put(folder, "text", text)], [peer, put(folder, "net", net)]]
+                commands = [
+                    [*program, command, put(folder, "text", text)],
+                    [peer, put(folder, "net", net)],
+                ]
                 (ours, our_time), (theirs, their_time) = timed(commands, words.turns)
                 same = ours[1:2] == theirs[1:2]
                 agree = agree and same
                 ratios.append(our_time / their_time)
-                print(f"{kind} seed {seed}: {' '.join(ours)} {'agrees' if same else 'DIFFERS'},"
-                      f" {our_time * 1e6:.0f} us against {their_time * 1e6:.0f} us, ratio {ratios[-1]:.2f}")
-            print(f"{kind}: ratio {statistics.median(ratios):.2f} in the middle, {max(ratios):.2f} at most", flush=True)
+                print(
+                    f"{kind} seed {seed}: {' '.join(ours)} {'agrees' if same else 'DIFFERS'},"
+                    f" {our_time * 1e6:.0f} us against {their_time * 1e6:.0f} us, ratio {ratios[-1]:.2f}"
+                )
+            print(
+                f"{kind}: ratio {statistics.median(ratios):.2f} in the middle, {max(ratios):.2f} at most",
+                flush=True,
+            )
     return agree

@@ -105,7 +105,9 @@ async def clients(addresses: str, count: int) -> list[Client]:
     return found
 
 
-async def starts(address: str, path: str, count: int, together: int, body: Callable[[int], Any]) -> Done:
+async def starts(
+    address: str, path: str, count: int, together: int, body: Callable[[int], Any]
+) -> Done:
     """So many requests, of so many clients."""
     left = iter(range(count))
 
@@ -127,9 +129,17 @@ async def tasks(address: str, count: int, together: int, most: int) -> Done:
     async def work(client: Client) -> None:
         nonlocal done
         while done < count:
-            _, text = await client.ask("POST", "/v1/tasks/claim", {"steps": ["one/a"], "limit": most, "wait": 1, "lease": 600})
+            _, text = await client.ask(
+                "POST",
+                "/v1/tasks/claim",
+                {"steps": ["one/a"], "limit": most, "wait": 1, "lease": 600},
+            )
             for task in json.loads(text)["tasks"]:
-                status, text = await client.ask("POST", f"/v1/tasks/{task['attempt_id']}/complete", {"lease": task["lease"], "result": None})
+                status, text = await client.ask(
+                    "POST",
+                    f"/v1/tasks/{task['attempt_id']}/complete",
+                    {"lease": task["lease"], "result": None},
+                )
                 assert status == 200, text
                 done += 1
 
@@ -153,7 +163,11 @@ async def chained(address: str, count: int, together: int, most: int) -> Done:
             else:
                 task = tasks.pop(0)
                 more = {} if tasks or done + 1 >= count else {"next": wanted}
-                status, text = await client.ask("POST", f"/v1/tasks/{task['attempt_id']}/complete", {"lease": task["lease"], "result": None, **more})
+                status, text = await client.ask(
+                    "POST",
+                    f"/v1/tasks/{task['attempt_id']}/complete",
+                    {"lease": task["lease"], "result": None, **more},
+                )
                 assert status == 200, text
                 done += 1
             told = json.loads(text)
@@ -179,7 +193,9 @@ async def page(address: str) -> float:
 
 def processor(pids: list[int]) -> float:
     """Seconds that the processor has worked for these processes."""
-    parts = [pathlib.Path(f"/proc/{pid}/stat").read_text().rpartition(")")[2].split() for pid in pids]
+    parts = [
+        pathlib.Path(f"/proc/{pid}/stat").read_text().rpartition(")")[2].split() for pid in pids
+    ]
     return sum(int(part[11]) + int(part[12]) for part in parts) / os.sysconf("SC_CLK_TCK")
 
 
@@ -190,12 +206,16 @@ def measured(pids: list[int], work: Coroutine[Any, Any, Done]) -> Figure:
     return done / seconds, 1e6 * (processor(pids) - before) / done
 
 
-def bare(folder: pathlib.Path, manner: str, count: int, together: int, server: Server | None) -> Figure:
+def bare(
+    folder: pathlib.Path, manner: str, count: int, together: int, server: Server | None
+) -> Figure:
     """The bare route."""
     (folder / "bare.py").write_text(BARE_SERVER if server else BARE)
     address = f"{host()}:8099"
     place = server.create() if server else str(folder / f"{manner}.db")
-    process = subprocess.Popen([sys.executable, str(folder / "bare.py"), place, manner, *address.split(":")])
+    process = subprocess.Popen(
+        [sys.executable, str(folder / "bare.py"), place, manner, *address.split(":")]
+    )
     try:
         while True:
             try:
@@ -203,33 +223,79 @@ def bare(folder: pathlib.Path, manner: str, count: int, together: int, server: S
                 break
             except OSError:
                 time.sleep(0.1)
-        return measured([process.pid], starts(address, "/row", count, together, lambda number: {"key": f"k{number}", "input": {"n": number}}))
+        return measured(
+            [process.pid],
+            starts(
+                address,
+                "/row",
+                count,
+                together,
+                lambda number: {"key": f"k{number}", "input": {"n": number}},
+            ),
+        )
     finally:
         process.kill()
         process.wait()
 
 
-def turn(folder: pathlib.Path, count: int, together: int, server: Server | None, services: int) -> dict[str, Figure]:
+def turn(
+    folder: pathlib.Path, count: int, together: int, server: Server | None, services: int
+) -> dict[str, Figure]:
     """All figures once."""
-    found = {f"bare, {manner}": bare(folder, manner, count, together, server) for manner in (("async",) if server else ("async", "plain"))}
+    found = {
+        f"bare, {manner}": bare(folder, manner, count, together, server)
+        for manner in (("async",) if server else ("async", "plain"))
+    }
     url = server.create() if server else None
     with contextlib.ExitStack() as stack:
         some = []
         for number in range(services):
             (folder / str(number)).mkdir()
             more = ("--node", str(number)) if url else ()
-            some.append(stack.enter_context(served(folder / str(number), {"one.toml": ONE}, "--log-level", "error", "--rate", "1000000", *more, store=url)))
-        all_of_them, pids = " ".join(one.address for one in some), [one.process.pid for one in some if one.process]
+            some.append(
+                stack.enter_context(
+                    served(
+                        folder / str(number),
+                        {"one.toml": ONE},
+                        "--log-level",
+                        "error",
+                        "--rate",
+                        "1000000",
+                        *more,
+                        store=url,
+                    )
+                )
+            )
+        all_of_them, pids = " ".join(one.address for one in some), [
+            one.process.pid for one in some if one.process
+        ]
 
         def begin(name: str, count: int) -> Coroutine[Any, Any, Done]:
-            return starts(all_of_them, "/v1/sagas", count, together, lambda number: {"definition": "one", "key": f"{name}{number}", "input": {"n": number}})
+            return starts(
+                all_of_them,
+                "/v1/sagas",
+                count,
+                together,
+                lambda number: {
+                    "definition": "one",
+                    "key": f"{name}{number}",
+                    "input": {"n": number},
+                },
+            )
 
         found["POST /v1/sagas"] = measured(pids, begin("k", count))
-        manners: dict[str, tuple[Callable[[str, int, int, int], Coroutine[Any, Any, Done]], int]] = {
-            "each by itself": (tasks, 1), "with the report": (chained, 1), "ten at a time": (tasks, 10), "as sagas.Worker takes short ones": (chained, 10),
-        }  # fmt: skip
+        manners: dict[
+            str, tuple[Callable[[str, int, int, int], Coroutine[Any, Any, Done]], int]
+        ] = {
+            "each by itself": (tasks, 1),
+            "with the report": (chained, 1),
+            "ten at a time": (tasks, 10),
+            "as sagas.Worker takes short ones": (chained, 10),
+        }
         for name, (work, most) in manners.items():
-            asyncio.run(begin(name, count // 2 + 2 * most * together))  # so that there is enough until the last is reported
+            asyncio.run(
+                begin(name, count // 2 + 2 * most * together)
+            )  # so that there is enough until the last is reported
             found[f"tasks, {name}"] = measured(pids, work(all_of_them, count // 2, together, most))
     return found
 
@@ -238,7 +304,15 @@ def listed(folder: pathlib.Path) -> float:
     """The list over 100,000 sagas, in milliseconds."""
     service = Served(folder, {"one.toml": ONE})
     service.start()
-    asyncio.run(starts(service.address, "/v1/sagas", 1, 1, lambda number: {"definition": "one", "key": "first", "input": None}))
+    asyncio.run(
+        starts(
+            service.address,
+            "/v1/sagas",
+            1,
+            1,
+            lambda number: {"definition": "one", "key": "first", "input": None},
+        )
+    )
     service.stop()
     fill(pathlib.Path(service.store), 100_000)
     service.start()
@@ -250,7 +324,9 @@ def listed(folder: pathlib.Path) -> float:
 
 def main() -> None:
     """The command."""
-    parser = argparse.ArgumentParser(description=__doc__, formatter_class=argparse.RawDescriptionHelpFormatter)
+    parser = argparse.ArgumentParser(
+        description=__doc__, formatter_class=argparse.RawDescriptionHelpFormatter
+    )
     parser.add_argument("--store", choices=("sqlite", "postgresql"), default="sqlite")
     parser.add_argument("--services", type=int, default=1)
     parser.add_argument("--turns", type=int, default=3)
@@ -260,14 +336,29 @@ def main() -> None:
     assert environment()
     turns = []
     with contextlib.ExitStack() as stack:
-        server = stack.enter_context(serving({"fsync": "on"})) if words.store == "postgresql" else None
+        server = (
+            stack.enter_context(serving({"fsync": "on"})) if words.store == "postgresql" else None
+        )
         for _ in range(words.turns):
             with tempfile.TemporaryDirectory() as name:
-                turns.append(turn(pathlib.Path(name), words.count, words.clients, server, words.services if server else 1))
-    middle = {name: [statistics.median(values) for values in zip(*(one[name] for one in turns))] for name in turns[0]}
+                turns.append(
+                    turn(
+                        pathlib.Path(name),
+                        words.count,
+                        words.clients,
+                        server,
+                        words.services if server else 1,
+                    )
+                )
+    middle = {
+        name: [statistics.median(values) for values in zip(*(one[name] for one in turns))]
+        for name in turns[0]
+    }
     base = max(rate for name, (rate, _) in middle.items() if name.startswith("bare"))
     for name, (rate, time_each) in middle.items():
-        print(f"{name:39} {rate:8.0f} a second  {rate / base:5.2f}  {time_each:6.0f} us of the processor")
+        print(
+            f"{name:39} {rate:8.0f} a second  {rate / base:5.2f}  {time_each:6.0f} us of the processor"
+        )
     if server is None:
         with tempfile.TemporaryDirectory() as name:
             print(f"{'list of 100,000':39} {listed(pathlib.Path(name)):8.1f} ms")

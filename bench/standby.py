@@ -48,7 +48,9 @@ def prepare(pair: Pair, delay: float) -> str:
         pass
     with psycopg.connect(url, autocommit=True) as link:
         link.execute("CREATE TABLE starts(key text PRIMARY KEY, input text NOT NULL)")
-        link.execute(sql.SQL("ALTER DATABASE {} SET synchronous_commit = remote_apply").format(name))
+        link.execute(
+            sql.SQL("ALTER DATABASE {} SET synchronous_commit = remote_apply").format(name)
+        )
     with psycopg.connect(pair.standby.url("postgres"), autocommit=True) as link:
         link.execute(f"ALTER SYSTEM SET recovery_min_apply_delay = '{int(delay)}ms'".encode())
         link.execute("SELECT pg_reload_conf()")
@@ -92,7 +94,9 @@ async def turn(url: str, count: int, seconds: float) -> Iterator[tuple[str, floa
 
 
 def main() -> None:
-    parser = argparse.ArgumentParser(description=__doc__, formatter_class=argparse.RawTextHelpFormatter)
+    parser = argparse.ArgumentParser(
+        description=__doc__, formatter_class=argparse.RawTextHelpFormatter
+    )
     parser.add_argument("--delay", type=float, default=5, help="milliseconds (default: 5)")
     parser.add_argument("--at", default="1,4,16", help="connections (default: 1,4,16)")
     parser.add_argument("--seconds", type=float, default=3, help="of each way (default: 3)")
@@ -107,8 +111,14 @@ def main() -> None:
                 for name, value in asyncio.run(turn(url, count, options.seconds)):
                     rates.setdefault(name, []).append(value)
             for name, values in rates.items():
-                cells = [f"{value:.0f}" for value in (statistics.median(values), min(values), max(values))]
-                print(f"{name},{options.delay:g} ms away; {count} connections,{','.join(cells)},a second", flush=True)
+                cells = [
+                    f"{value:.0f}"
+                    for value in (statistics.median(values), min(values), max(values))
+                ]
+                print(
+                    f"{name},{options.delay:g} ms away; {count} connections,{','.join(cells)},a second",
+                    flush=True,
+                )
 
 
 if __name__ == "__main__":

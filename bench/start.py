@@ -13,7 +13,9 @@ import time
 from pathlib import Path
 
 ROOT = Path(__file__).resolve().parent.parent
-EXAMPLE = [str(ROOT / "examples" / f"licence.{kind}") for kind in ("toml", "case.json", "answer.json")]
+EXAMPLE = [
+    str(ROOT / "examples" / f"licence.{kind}") for kind in ("toml", "case.json", "answer.json")
+]
 STAMP = ROOT / "out" / "start"
 
 
@@ -28,11 +30,19 @@ def seconds(program: Path, anew: bool) -> float:
 
 def main() -> None:
     """Runs all in turns, and prints a line each."""
-    parser = argparse.ArgumentParser(description=__doc__, formatter_class=argparse.RawDescriptionHelpFormatter)
+    parser = argparse.ArgumentParser(
+        description=__doc__, formatter_class=argparse.RawDescriptionHelpFormatter
+    )
     parser.add_argument("--turns", type=int, default=100, help="how often each is run")
     turns = parser.parse_args().turns
-    chosen = subprocess.run([ROOT / "tests" / "program"], check=True, capture_output=True, text=True).stdout.strip()
-    ways = {"the program": (Path(chosen), False), "./sagas": (ROOT / "sagas", False), "./sagas, anew": (ROOT / "sagas", True)}
+    chosen = subprocess.run(
+        [ROOT / "tests" / "program"], check=True, capture_output=True, text=True
+    ).stdout.strip()
+    ways = {
+        "the program": (Path(chosen), False),
+        "./sagas": (ROOT / "sagas", False),
+        "./sagas, anew": (ROOT / "sagas", True),
+    }
     best = dict.fromkeys(ways, float("inf"))
     for _ in range(turns):
         # (the choice made anew comes last, so that it is kept for the next turn)
@@ -40,7 +50,9 @@ def main() -> None:
             best[name] = min(best[name], seconds(program, anew))
     least = best["the program"]
     for name, took in best.items():
-        print(f"{name}: {took * 1e3:.1f} ms, ratio {took / least:.1f}, {(took - least) * 1e3:.1f} ms more")
+        print(
+            f"{name}: {took * 1e3:.1f} ms, ratio {took / least:.1f}, {(took - least) * 1e3:.1f} ms more"
+        )
 
 
 if __name__ == "__main__":

@@ -25,13 +25,17 @@ class Bookings:
         self.entries = json.loads(path.read_text()) if path.exists() else []
 
     def run(self, trip, name):  # whether the step is booked
-        others = sum(what == "booked" and step == "tour" and of != trip for what, of, step in self.entries)
+        others = sum(
+            what == "booked" and step == "tour" and of != trip for what, of, step in self.entries
+        )
         return (name != "tour" or others < SEATS) and self.note("booked", trip, name)
 
     def undo(self, trip, name):  # whether it is cancelled
         return self.note("cancelled", trip, name)
 
-    def do(self, task):  # whether it is done; what is not answered in time may be, so it is asked again, and nothing is reported before
+    def do(
+        self, task
+    ):  # whether it is done; what is not answered in time may be, so it is asked again, and nothing is reported before
         while True:
             with contextlib.suppress(TimeoutError):
                 return getattr(self, task["task"])(task["saga"], task["name"])
@@ -40,7 +44,9 @@ class Bookings:
         if list(entry) not in self.entries:  # else it was done before
             self.entries.append(list(entry))
             self.path.with_suffix(".new").write_text(json.dumps(self.entries))
-            self.path.with_suffix(".new").replace(self.path)  # all of it or nothing; in a true service, a transaction
+            self.path.with_suffix(".new").replace(
+                self.path
+            )  # all of it or nothing; in a true service, a transaction
         return True
 
 
@@ -48,28 +54,45 @@ class Drive:
     """`sagas drive` as a child process: a line is written to it, and a line comes back."""
 
     def __init__(self, log, *definitions):
-        self.child = subprocess.Popen([PROGRAM, "drive", "--log", log, *definitions], stdin=subprocess.PIPE, stdout=subprocess.PIPE, text=True)
+        self.child = subprocess.Popen(
+            [PROGRAM, "drive", "--log", log, *definitions],
+            stdin=subprocess.PIPE,
+            stdout=subprocess.PIPE,
+            text=True,
+        )
 
     def ask(self, request):
         print(json.dumps(request), file=self.child.stdin, flush=True)
-        return json.loads(self.child.stdout.readline() or sys.exit("booking: sagas drive has ended"))
+        return json.loads(
+            self.child.stdout.readline() or sys.exit("booking: sagas drive has ended")
+        )
 
 
 def perform(task, drive, bookings):
     """Does a task and reports how it went. A plan is adopted already, and asks for nothing."""
     if task["task"] != "plan":
         done = bookings.do(task)
-        print(f"trip {task['saga']}: {task['task']} {task['name']}: {'done' if done else 'failed'}", flush=True)
-        drive.ask({"do": "report", "outcome": "ok" if done else "fail"} | {key: task[key] for key in ("attempt", "saga", "step", "task")})
+        print(
+            f"trip {task['saga']}: {task['task']} {task['name']}: {'done' if done else 'failed'}",
+            flush=True,
+        )
+        drive.ask(
+            {"do": "report", "outcome": "ok" if done else "fail"}
+            | {key: task[key] for key in ("attempt", "saga", "step", "task")}
+        )
 
 
 def main(folder):
     bookings = Bookings(folder / "bookings.json")
     drive = Drive(folder / "trips.log", TOP / "examples" / "booking.toml")
-    for task in drive.ask({"do": "busy"})["busy"]:  # begun before a restart: whether they were done, the records say
+    for task in drive.ask({"do": "busy"})[
+        "busy"
+    ]:  # begun before a restart: whether they were done, the records say
         perform(task, drive, bookings)
     for trip in range(TRIPS):
-        drive.ask({"do": "open", "name": "trip", "saga": trip})  # refused where it was opened before a restart
+        drive.ask(
+            {"do": "open", "name": "trip", "saga": trip}
+        )  # refused where it was opened before a restart
     while (task := drive.ask({"do": "next"}))["task"] != "none":
         perform(task, drive, bookings)
     for trip in range(TRIPS):

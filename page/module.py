@@ -40,7 +40,9 @@ def fail(why: str) -> None:
 
 def kit() -> Path:
     """Where the kit is."""
-    return Path(subprocess.run(["rt", "doc"], check=True, capture_output=True, text=True).stdout.strip()).parent
+    return Path(
+        subprocess.run(["rt", "doc"], check=True, capture_output=True, text=True).stdout.strip()
+    ).parent
 
 
 def made(module: Path, left_out: frozenset[str] = COORDINATOR) -> bytes:
@@ -56,12 +58,50 @@ def made(module: Path, left_out: frozenset[str] = COORDINATOR) -> bytes:
             if ran.returncode:
                 fail(f"{words[0]} failed: {ran.stderr[-2000:]}")
 
-        run("clang", "--target=x86_64-unknown-linux-gnu", "-S", "-emit-llvm", "-Xclang", "-disable-llvm-passes", "-x", "ir", str(module.resolve()), "-o", "module.ll")
+        run(
+            "clang",
+            "--target=x86_64-unknown-linux-gnu",
+            "-S",
+            "-emit-llvm",
+            "-Xclang",
+            "-disable-llvm-passes",
+            "-x",
+            "ir",
+            str(module.resolve()),
+            "-o",
+            "module.ll",
+        )
         text = (folder / "module.ll").read_text(encoding="utf-8")
         (folder / "wasm.ll").write_text(retargeted(text, left_out), encoding="utf-8")
         run("clang", *WORDS, "-c", "-O3", "-x", "ir", "wasm.ll", "-o", "module.o")
-        run("clang", *WORDS, "-c", "-O2", "-fwrapv", "-ffreestanding", "-nostdinc", "-fno-builtin", "-x", "c", str(HERE / "heap.c"), "-o", "heap.o")
+        run(
+            "clang",
+            *WORDS,
+            "-c",
+            "-O2",
+            "-fwrapv",
+            "-ffreestanding",
+            "-nostdinc",
+            "-fno-builtin",
+            "-x",
+            "c",
+            str(HERE / "heap.c"),
+            "-o",
+            "heap.o",
+        )
         run("llvm-ar", "rcsD", "page.a", "module.o", "heap.o")
         linker = str(place / "bin" / "rattle-link")
-        run(linker, "--target", "wasm64-unknown-unknown", "--toolchain", str(place / "toolchain"), "--stack", str(STACK), "-o", "sagas.wasm", "page.a", tool=linker)
+        run(
+            linker,
+            "--target",
+            "wasm64-unknown-unknown",
+            "--toolchain",
+            str(place / "toolchain"),
+            "--stack",
+            str(STACK),
+            "-o",
+            "sagas.wasm",
+            "page.a",
+            tool=linker,
+        )
         return narrowed((folder / "sagas.wasm").read_bytes())

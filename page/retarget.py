@@ -72,19 +72,41 @@ def look(text: str) -> None:
 
 def shuffled(text: str) -> str:
     """Writes out the one instruction of x86."""
-    found = re.search(rf"(?m)^declare <16 x i8> @{re.escape(SHUFFLE)}\(<16 x i8>, <16 x i8>\) #\d+\n", text)
+    found = re.search(
+        rf"(?m)^declare <16 x i8> @{re.escape(SHUFFLE)}\(<16 x i8>, <16 x i8>\) #\d+\n", text
+    )
     if found is None:
         return text
-    lines = ["define internal <16 x i8> @sagas.shuffle(<16 x i8> %bytes, <16 x i8> %mask) #898 {", "start:"]
-    lines += ["  %from = alloca <16 x i8>, align 16", "  store <16 x i8> %bytes, ptr %from, align 16"]
+    lines = [
+        "define internal <16 x i8> @sagas.shuffle(<16 x i8> %bytes, <16 x i8> %mask) #898 {",
+        "start:",
+    ]
+    lines += [
+        "  %from = alloca <16 x i8>, align 16",
+        "  store <16 x i8> %bytes, ptr %from, align 16",
+    ]
     last = "zeroinitializer"
     for i in range(16):
-        lines += [f"  %m{i} = extractelement <16 x i8> %mask, i64 {i}", f"  %z{i} = icmp slt i8 %m{i}, 0", f"  %l{i} = and i8 %m{i}, 15"]
-        lines += [f"  %w{i} = zext i8 %l{i} to i64", f"  %p{i} = getelementptr i8, ptr %from, i64 %w{i}", f"  %b{i} = load i8, ptr %p{i}, align 1"]
-        lines += [f"  %s{i} = select i1 %z{i}, i8 0, i8 %b{i}", f"  %v{i} = insertelement <16 x i8> {last}, i8 %s{i}, i64 {i}"]
+        lines += [
+            f"  %m{i} = extractelement <16 x i8> %mask, i64 {i}",
+            f"  %z{i} = icmp slt i8 %m{i}, 0",
+            f"  %l{i} = and i8 %m{i}, 15",
+        ]
+        lines += [
+            f"  %w{i} = zext i8 %l{i} to i64",
+            f"  %p{i} = getelementptr i8, ptr %from, i64 %w{i}",
+            f"  %b{i} = load i8, ptr %p{i}, align 1",
+        ]
+        lines += [
+            f"  %s{i} = select i1 %z{i}, i8 0, i8 %b{i}",
+            f"  %v{i} = insertelement <16 x i8> {last}, i8 %s{i}, i64 {i}",
+        ]
         last = f"%v{i}"
     text = text.replace(found[0], "\n".join([*lines, f"  ret <16 x i8> {last}", "}", ""]))
-    return text.replace(f"@{SHUFFLE}(", "@sagas.shuffle(") + f"\nattributes #898 = {{ nounwind {NO_LIBRARY}{PROCESSOR} }}\n"
+    return (
+        text.replace(f"@{SHUFFLE}(", "@sagas.shuffle(")
+        + f"\nattributes #898 = {{ nounwind {NO_LIBRARY}{PROCESSOR} }}\n"
+    )
 
 
 def guarded(text: str, name: str, group: int) -> str:
@@ -113,8 +135,15 @@ run:
   ret {result} %r1
 }}
 """
-    attributes = f'attributes #{group} = {{ nounwind {NO_LIBRARY}"wasm-export-name"="{name}" {PROCESSOR} }}'
-    return text.replace(head[0], f'{outer}\ndefine internal {kind}@"rattle::export {name}"({given}) #{inner} {{') + f"\n{attributes}\n"
+    attributes = (
+        f'attributes #{group} = {{ nounwind {NO_LIBRARY}"wasm-export-name"="{name}" {PROCESSOR} }}'
+    )
+    return (
+        text.replace(
+            head[0], f'{outer}\ndefine internal {kind}@"rattle::export {name}"({given}) #{inner} {{'
+        )
+        + f"\n{attributes}\n"
+    )
 
 
 def attributes(line: str) -> str:
@@ -127,7 +156,9 @@ def attributes(line: str) -> str:
 def without(text: str, left_out: frozenset[str]) -> str:
     """The module without these exports."""
     for name in left_out:
-        text, count = re.subn(rf"(?m)^define (?!internal|private)([^\n]*?@{name}\()", r"define internal \1", text)
+        text, count = re.subn(
+            rf"(?m)^define (?!internal|private)([^\n]*?@{name}\()", r"define internal \1", text
+        )
         if count != 1:
             raise Unknown(f"no export {name} to be left out")
     return text
@@ -138,18 +169,30 @@ def retargeted(text: str, left_out: frozenset[str] = frozenset()) -> str:
     try:
         look(text)
         text = without(text, left_out)
-        exports = sorted(set(re.findall(r"(?m)^define (?!internal|private)[^\n]*?@(sagas_\w+)\(", text)))
-        others = set(re.findall(r"(?m)^define (?!internal|private)[^\n]*?@(\w+)\(", text)) - set(exports)
+        exports = sorted(
+            set(re.findall(r"(?m)^define (?!internal|private)[^\n]*?@(sagas_\w+)\(", text))
+        )
+        others = set(re.findall(r"(?m)^define (?!internal|private)[^\n]*?@(\w+)\(", text)) - set(
+            exports
+        )
         if others or not exports:
             raise Unknown(f"exports: {sorted(others)}")
-        text, layouts = re.subn(r'(?m)^target datalayout = ".*"$', f'target datalayout = "{LAYOUT}"', text)
+        text, layouts = re.subn(
+            r'(?m)^target datalayout = ".*"$', f'target datalayout = "{LAYOUT}"', text
+        )
         text, triples = re.subn(r'(?m)^target triple = ".*"$', f'target triple = "{TRIPLE}"', text)
         if (layouts, triples) != (1, 1):
             raise Unknown("no single target")
-        text = shuffled(re.sub(r"(?m)^attributes #\d+ = .*$", lambda found: attributes(found[0]), text))
+        text = shuffled(
+            re.sub(r"(?m)^attributes #\d+ = .*$", lambda found: attributes(found[0]), text)
+        )
         for number, name in enumerate(exports):
             text = guarded(text, name, 900 + number)
     except Unknown as unknown:
         sys.exit(f"page: the module has what this script does not know, {unknown}")
-    guard = ["declare noundef zeroext i1 @__rattle_enter() #899", "declare void @__rattle_leave() #899", "declare void @__rattle_trap() #899"]
+    guard = [
+        "declare noundef zeroext i1 @__rattle_enter() #899",
+        "declare void @__rattle_leave() #899",
+        "declare void @__rattle_trap() #899",
+    ]
     return "\n".join([text, *guard, "attributes #899 = { nounwind }", ""])

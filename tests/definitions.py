@@ -29,7 +29,11 @@ def exported(crate):
     if not library.exists():
         return PROGRAM
     found = EXPORTED.findall(library.read_text(encoding="utf-8"))
-    for_c = {name for path in crate.glob("src/*.rt") for name in FOR_C.findall(path.read_text(encoding="utf-8"))}
+    for_c = {
+        name
+        for path in crate.glob("src/*.rt")
+        for name in FOR_C.findall(path.read_text(encoding="utf-8"))
+    }
     return for_c | {name.strip() for many, one in found for name in (many or one).split(",")}
 
 
@@ -46,9 +50,18 @@ def cited(crate):
     names = exported(crate)
     for path in sorted((crate / "src").rglob("*.rt")):
         text = path.read_text(encoding="utf-8")
-        words = {word.strip(): f"{spec[0]}/specs/{spec[1]}" for spec in CITED.findall(text) for word in spec[2].split(",") if word.strip()}
+        words = {
+            word.strip(): f"{spec[0]}/specs/{spec[1]}"
+            for spec in CITED.findall(text)
+            for word in spec[2].split(",")
+            if word.strip()
+        }
         for head in public_calls(text, names):
-            yield from ((word, file) for word, file in words.items() if re.search(rf"(?<![\w.]){re.escape(word)}(?!\w)", head))
+            yield from (
+                (word, file)
+                for word, file in words.items()
+                if re.search(rf"(?<![\w.]){re.escape(word)}(?!\w)", head)
+            )
 
 
 def entries():
@@ -56,7 +69,9 @@ def entries():
     for page in sorted((ROOT / "docs/dev/definitions").glob("*.md")):
         crate = None
         text = re.sub(r"\n  +", " ", page.read_text(encoding="utf-8"))
-        for heading, words, file in re.findall(r"^## .*?(?:`crates/(\w+)/specs`)?$|^- (`.*?) in `(\w+\.antt)`\. ", text, re.M):
+        for heading, words, file in re.findall(
+            r"^## .*?(?:`crates/(\w+)/specs`)?$|^- (`.*?) in `(\w+\.antt)`\. ", text, re.M
+        ):
             crate = heading or crate
             yield from ((crate, file, word) for word in re.findall(r"`([^`]+)`", words))
 
@@ -65,22 +80,37 @@ def strange_entries(listed):
     """Entries whose file is not there, or does not have the word."""
     for crate, file, word in sorted(listed):
         path = ROOT / "crates" / crate / "specs" / file
-        if not path.exists() or not re.search(rf"(?<!\w){re.escape(word)}(?!\w)", path.read_text(encoding="utf-8")):
+        if not path.exists() or not re.search(
+            rf"(?<!\w){re.escape(word)}(?!\w)", path.read_text(encoding="utf-8")
+        ):
             yield f"crates/{crate}/specs/{file} has no {word}, as docs/dev/definitions says"
 
 
 def strange_promises(crates):
     """Crates without a page of promises, pages without a crate, and calls that a page names as evidence and the crate does not have."""
-    pages = {page.stem: page.read_text(encoding="utf-8") for page in (ROOT / "docs/dev/promises").glob("*.md")}
-    index = re.findall(r"\(dev/promises/(saga_\w+)\.md\)", (ROOT / "docs/PROMISES.md").read_text(encoding="utf-8"))
+    pages = {
+        page.stem: page.read_text(encoding="utf-8")
+        for page in (ROOT / "docs/dev/promises").glob("*.md")
+    }
+    index = re.findall(
+        r"\(dev/promises/(saga_\w+)\.md\)", (ROOT / "docs/PROMISES.md").read_text(encoding="utf-8")
+    )
     for name in sorted(set(pages) ^ crates):
         yield f"{name} has {'no crate' if name in pages else 'no page in docs/dev/promises'}"
     for name in sorted(set(index) ^ set(pages)):
         yield f"{name} stands in {'docs/PROMISES.md' if name in index else 'docs/dev/promises'} alone"
     for name in sorted(set(pages) & crates):
-        source = "".join(path.read_text(encoding="utf-8") for path in sorted((ROOT / "crates" / name / "src").rglob("*.rt")))
-        specs = "".join(path.read_text(encoding="utf-8") for path in sorted((ROOT / "crates" / name / "specs").rglob("*.antt")))
-        for evidence in re.findall(r"^\*\*Evidence\.\*\* (.*?)(?:\n\n|\Z)", pages[name], re.M | re.S):
+        source = "".join(
+            path.read_text(encoding="utf-8")
+            for path in sorted((ROOT / "crates" / name / "src").rglob("*.rt"))
+        )
+        specs = "".join(
+            path.read_text(encoding="utf-8")
+            for path in sorted((ROOT / "crates" / name / "specs").rglob("*.antt"))
+        )
+        for evidence in re.findall(
+            r"^\*\*Evidence\.\*\* (.*?)(?:\n\n|\Z)", pages[name], re.M | re.S
+        ):
             for call in re.findall(r"`(?:\w+::)*(\w+)`", evidence):
                 if not re.search(rf"\b{call}\b", source + specs) and call not in crates:
                     yield f"docs/dev/promises/{name}.md names {call}, which the crate does not have"
@@ -90,7 +120,10 @@ def misplaced_crates():
     """What is wrong with the list of crates: one that is missing or too many, or one that stands before a crate that it stands on."""
     page = (ROOT / "docs/dev/architecture/crates.md").read_text(encoding="utf-8")
     listed = re.findall(r"^\| `(saga_\w+)` \|", page, re.M)
-    lines = [line.partition(":") for line in (ROOT / "crates.txt").read_text(encoding="utf-8").splitlines()]
+    lines = [
+        line.partition(":")
+        for line in (ROOT / "crates.txt").read_text(encoding="utf-8").splitlines()
+    ]
     stands_on = {name.split()[0]: below.split() for name, colon, below in lines if colon}
     for name in sorted(set(stands_on) ^ set(listed)):
         yield f"{name} stands in {'crates.txt' if name in stands_on else 'docs/dev/architecture/crates.md'} alone"
@@ -113,17 +146,32 @@ def other_examples():
 def main():
     listed = set(entries())
     known = {(crate, word) for crate, _, word in listed}
-    crates = [crate for crate in sorted((ROOT / "crates").iterdir()) if crate.is_dir() and crate.name not in SILENT]
+    crates = [
+        crate
+        for crate in sorted((ROOT / "crates").iterdir())
+        if crate.is_dir() and crate.name not in SILENT
+    ]
     promising = {crate.name for crate in crates} - {"saga_tests"}
     words = {found for crate in crates for found in cited(crate)}
     # What is a type or a constant of the code is read there.
-    missing = sorted((file, word) for word, file in words if (file.split("/")[0], word) not in known and "/declared." not in file)
+    missing = sorted(
+        (file, word)
+        for word, file in words
+        if (file.split("/")[0], word) not in known and "/declared." not in file
+    )
     for file, word in missing:
         print(f"docs/dev/definitions has no {word} ({file})")
-    wrong = [*strange_entries(listed), *strange_promises(promising), *misplaced_crates(), *other_examples()]
+    wrong = [
+        *strange_entries(listed),
+        *strange_promises(promising),
+        *misplaced_crates(),
+        *other_examples(),
+    ]
     for line in wrong:
         print(line)
-    print(f"definitions: {len(words)} words of public contracts, {len(missing)} missing; {len(listed)} entries; {len(wrong)} entries, promises, crates or examples wrong")
+    print(
+        f"definitions: {len(words)} words of public contracts, {len(missing)} missing; {len(listed)} entries; {len(wrong)} entries, promises, crates or examples wrong"
+    )
     return 1 if missing or wrong else 0
 
 

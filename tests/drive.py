@@ -55,7 +55,12 @@ class State:
     """What all sections share: the words that the script was given, a folder, and what was found wrong."""
 
     def __init__(self, words, folder):
-        self.program, self.libraries, self.kills, self.seed = words.program, words.libraries, words.kills, words.seed
+        self.program, self.libraries, self.kills, self.seed = (
+            words.program,
+            words.libraries,
+            words.kills,
+            words.seed,
+        )
         self.grows = not words.fixed_shelf
         self.folder = pathlib.Path(folder)
         self.wrong = []
@@ -64,7 +69,10 @@ class State:
 
     def defined(self, *names):
         """The files of definitions."""
-        return [self.folder / f"{name}.toml" if name in DEFINITIONS else EXAMPLES / f"{name}.toml" for name in names]
+        return [
+            self.folder / f"{name}.toml" if name in DEFINITIONS else EXAMPLES / f"{name}.toml"
+            for name in names
+        ]
 
     def fail(self, *why):
         """Notes what is wrong."""
@@ -76,7 +84,9 @@ class State:
             found, wanted = str(found), str(wanted)
             alike = len(os.path.commonprefix([found, wanted]))
             begin = max(0, alike - 100)
-            self.fail(f"{what}: from {alike} on: {found[begin : alike + 200]} instead of {wanted[begin : alike + 200]}")
+            self.fail(
+                f"{what}: from {alike} on: {found[begin : alike + 200]} instead of {wanted[begin : alike + 200]}"
+            )
 
     def command(self, definitions, log):
         return [self.program, "drive", *(["--log", log] if log else []), *definitions]
@@ -84,7 +94,12 @@ class State:
     def ran(self, definitions, log, text, settings=None, seconds=60):
         """A whole run on some input: its status, what it replied and what it said on standard error."""
         done = subprocess.run(
-            self.command(definitions, log), input=text, env=os.environ | (settings or {}), capture_output=True, check=False, timeout=seconds
+            self.command(definitions, log),
+            input=text,
+            env=os.environ | (settings or {}),
+            capture_output=True,
+            check=False,
+            timeout=seconds,
         )
         return done.returncode, done.stdout, done.stderr
 
@@ -92,7 +107,9 @@ class State:
         """Looks whether the audit says yes of the whole lines of a log."""
         whole = log.with_name(f"{log.name}.whole")
         whole.write_bytes(b"".join(whole_lines(log)))
-        done = subprocess.run([self.program, "audit", whole, *definitions], capture_output=True, check=False)
+        done = subprocess.run(
+            [self.program, "audit", whole, *definitions], capture_output=True, check=False
+        )
         if done.returncode != 0 or not done.stdout.startswith(b"yes "):
             self.fail(f"audit of {log.name}: {done.stdout.decode()}{done.stderr.decode()}")
 
@@ -102,7 +119,9 @@ class Driven:
 
     def __init__(self, state, definitions, log=None, settings=None):
         pipes = {"stdin": subprocess.PIPE, "stdout": subprocess.PIPE, "stderr": subprocess.PIPE}
-        self.child = subprocess.Popen(state.command(definitions, log), env=os.environ | (settings or {}), **pipes)
+        self.child = subprocess.Popen(
+            state.command(definitions, log), env=os.environ | (settings or {}), **pipes
+        )
 
     def send(self, *requests):
         """Sends requests together; gives whether they were taken."""
@@ -125,13 +144,21 @@ class Driven:
         """So many replies, while the program waits for more requests; fewer where they do not come within a minute, and it is killed."""
         late = threading.Timer(60, self.child.kill)
         late.start()
-        found = list(itertools.takewhile(lambda reply: reply is not None, (self.reply() for _ in range(count))))
+        found = list(
+            itertools.takewhile(
+                lambda reply: reply is not None, (self.reply() for _ in range(count))
+            )
+        )
         late.cancel()
         return found
 
     def rest(self):
         """All replies that are still to come."""
-        return [json.loads(line) for line in self.child.stdout.read().splitlines(True) if line.endswith(b"\n")]
+        return [
+            json.loads(line)
+            for line in self.child.stdout.read().splitlines(True)
+            if line.endswith(b"\n")
+        ]
 
     def end(self):
         """Ends the requests, and gives the status and the lines on standard error."""
@@ -164,7 +191,11 @@ def line_of(request):
 
 def whole_lines(log):
     """The lines of a file that end with a line feed."""
-    return [line for line in log.read_bytes().splitlines(True) if line.endswith(b"\n")] if log.exists() else []
+    return (
+        [line for line in log.read_bytes().splitlines(True) if line.endswith(b"\n")]
+        if log.exists()
+        else []
+    )
 
 
 def events_of(reply):
@@ -178,7 +209,10 @@ def events_of(reply):
     elif reply.get("task") in ("run", "undo"):
         events = [{"event": "start_" + reply["task"], "saga": reply["saga"], "step": reply["step"]}]
     elif reply.get("task") == "plan":
-        events = [{"event": "start_plan", "saga": reply["saga"]}, {"answer": reply["answer"], "event": "adopt", "saga": reply["saga"]}]
+        events = [
+            {"event": "start_plan", "saga": reply["saga"]},
+            {"answer": reply["answer"], "event": "adopt", "saga": reply["saga"]},
+        ]
     else:
         events = []
     return [written(event).encode() + b"\n" for event in events]
@@ -203,7 +237,9 @@ def aborting(saga):
 
 def report(saga, step, outcome, attempted=None):
     """A report, which names the attempt of a task where one is given."""
-    named = {} if attempted is None else {"attempt": attempted["attempt"], "task": attempted["task"]}
+    named = (
+        {} if attempted is None else {"attempt": attempted["attempt"], "task": attempted["task"]}
+    )
     return named | {"do": "report", "outcome": outcome, "saga": saga, "step": step}
 
 
@@ -221,7 +257,10 @@ def defining(text):
 
 
 def event(word, saga, step=None, phase="going"):
-    return {"event": {"event": word, "saga": saga} | ({} if step is None else {"step": step}), "phase": phase}
+    return {
+        "event": {"event": word, "saga": saga} | ({} if step is None else {"step": step}),
+        "phase": phase,
+    }
 
 
 def opened(saga, definition=0):
@@ -234,7 +273,14 @@ def task(word, saga, step, name, attempt=1):
 
 def stands(saga, name, phase, states, kept, aborted=False, answer=None):
     answered = {} if answer is None else {"answer": answer["answer"]}
-    return answered | {"aborted": aborted, "kept": kept, "name": name, "phase": phase, "saga": saga, "states": states.split()}
+    return answered | {
+        "aborted": aborted,
+        "kept": kept,
+        "name": name,
+        "phase": phase,
+        "saga": saga,
+        "states": states.split(),
+    }
 
 
 def none(settled):
@@ -242,7 +288,14 @@ def none(settled):
 
 
 def plan(saga, cost, kept, leave, links, stand, phase="going"):
-    answer = {"cost": cost, "kept": kept, "kind": "plan", "leave": leave, "links": links, "stand": stand}
+    answer = {
+        "cost": cost,
+        "kept": kept,
+        "kind": "plan",
+        "leave": leave,
+        "links": links,
+        "stand": stand,
+    }
     return {"answer": answer, "phase": phase, "saga": saga, "task": "plan"}
 
 
@@ -276,7 +329,11 @@ UNDONE = [
 ]
 
 CONVERSATIONS = [
-    ("nothing", ["pair"], [(BUSY, {"busy": []}), (NEXT, none(True)), (shown(0), {"refused": "no-such-saga"})]),
+    (
+        "nothing",
+        ["pair"],
+        [(BUSY, {"busy": []}), (NEXT, none(True)), (shown(0), {"refused": "no-such-saga"})],
+    ),
     (
         "commits",
         ["must"],
@@ -455,7 +512,11 @@ def converse(state, name, definitions, pairs):
         before = None if changes else (seen(driven, sagas), log.read_bytes())
         replies.append(driven.ask(request))
         if not changes:
-            state.expect(f"{name}: after the refused {request}", (seen(driven, sagas), log.read_bytes()), before)
+            state.expect(
+                f"{name}: after the refused {request}",
+                (seen(driven, sagas), log.read_bytes()),
+                before,
+            )
         sagas += "open" in str(events_of(wanted))
         state.expect(f"{name}: {str(request)[:80]}", replies[-1], wanted)
         state.expect(f"{name}: the log", log.read_bytes(), HEADER + b"".join(told(replies)))
@@ -463,11 +524,31 @@ def converse(state, name, definitions, pairs):
 
 
 # The keys of each request, those that it may have besides, and the bounds of numbers.
-KEYS = {"open": [], "next": [], "take": ["saga"], "report": ["outcome", "saga", "step"], "abort": ["saga"], "show": ["saga"], "busy": []}
+KEYS = {
+    "open": [],
+    "next": [],
+    "take": ["saga"],
+    "report": ["outcome", "saga", "step"],
+    "abort": ["saga"],
+    "show": ["saga"],
+    "busy": [],
+}
 KEYS |= {"ready": [], "list": [], "status": [], "define": ["definition"]}
-OPTIONAL = {"open": ["def", "name", "saga"], "next": ["most"], "take": ["step"], "report": ["attempt", "task"]}
+OPTIONAL = {
+    "open": ["def", "name", "saga"],
+    "next": ["most"],
+    "take": ["step"],
+    "report": ["attempt", "task"],
+}
 OPTIONAL |= {"ready": ["from"], "list": ["from", "phase"]}
-BOUNDS = {"def": 2**32, "saga": 2**32, "from": 2**32, "step": 65536, "attempt": 65536, "most": 1001}
+BOUNDS = {
+    "def": 2**32,
+    "saga": 2**32,
+    "from": 2**32,
+    "step": 65536,
+    "attempt": 65536,
+    "most": 1001,
+}
 WORDS = {"outcome": ("ok", "fail"), "task": ("run", "undo"), "phase": follower.PHASES}
 
 
@@ -492,7 +573,11 @@ def fault_of(line):
         return "kind"
     if set(value) - {"do", *keys, *OPTIONAL.get(word, [])} or {"def", "name"} <= set(value):
         return "unknown-key"
-    if set(keys) - set(value) or (word == "open" and not {"def", "name"} & set(value)) or ("task" in value) != ("attempt" in value):
+    if (
+        set(keys) - set(value)
+        or (word == "open" and not {"def", "name"} & set(value))
+        or ("task" in value) != ("attempt" in value)
+    ):
         return "missing-key"
     return None if all(is_of_type(key, value[key]) for key in value if key != "do") else "bad-type"
 
@@ -501,19 +586,84 @@ def hostile(state):
     """Each prefix of each request, each request with one byte changed, and objects of random keys and values, in their usual spelling and in
     another one: the fault that has to come."""
     draw = random.Random(state.seed)
-    asked = [named("a", 0), many(64), report(0, 0, "ok", task("run", 0, 0, "a")), BUSY, {"do": "ready", "from": 0}, {"do": "list", "phase": "stuck"}, {"do": "status"}, defining("x")]
-    shortest = [written(request).encode() for request in (opening(0), opening(0) | {"saga": 0}, NEXT, report(0, 0, "ok"), aborting(0), shown(0), *asked)]
+    asked = [
+        named("a", 0),
+        many(64),
+        report(0, 0, "ok", task("run", 0, 0, "a")),
+        BUSY,
+        {"do": "ready", "from": 0},
+        {"do": "list", "phase": "stuck"},
+        {"do": "status"},
+        defining("x"),
+    ]
+    shortest = [
+        written(request).encode()
+        for request in (
+            opening(0),
+            opening(0) | {"saga": 0},
+            NEXT,
+            report(0, 0, "ok"),
+            aborting(0),
+            shown(0),
+            *asked,
+        )
+    ]
     lines = [text[:place] for text in shortest for place in range(len(text))]
-    lines += [text[:place] + byte + text[place + 1 :] for text in shortest for place in range(len(text)) for byte in (b"\0", b"\xff", b"}")]
-    values = [0, 1, 3, 65535, 65536, 2**32 - 1, 2**32, -1, 1.5, "ok", "fail", "run", "going", "0", "", None, True, [], {}, {"do": "next"}]
+    lines += [
+        text[:place] + byte + text[place + 1 :]
+        for text in shortest
+        for place in range(len(text))
+        for byte in (b"\0", b"\xff", b"}")
+    ]
+    values = [
+        0,
+        1,
+        3,
+        65535,
+        65536,
+        2**32 - 1,
+        2**32,
+        -1,
+        1.5,
+        "ok",
+        "fail",
+        "run",
+        "going",
+        "0",
+        "",
+        None,
+        True,
+        [],
+        {},
+        {"do": "next"},
+    ]
     for _ in range(2000):
         word = draw.choice([*KEYS, *KEYS, "close", 7])
-        others = ["def", "definition", "name", "saga", "step", "outcome", "task", "attempt", "most", "from", "phase", "x"]
-        keys = [*KEYS.get(word, []), *OPTIONAL.get(word, []), *draw.sample(others, draw.choice([0, 0, 0, 1]))]
+        others = [
+            "def",
+            "definition",
+            "name",
+            "saga",
+            "step",
+            "outcome",
+            "task",
+            "attempt",
+            "most",
+            "from",
+            "phase",
+            "x",
+        ]
+        keys = [
+            *KEYS.get(word, []),
+            *OPTIONAL.get(word, []),
+            *draw.sample(others, draw.choice([0, 0, 0, 1])),
+        ]
         pairs = [("do", word)] + [(key, draw.choice(values)) for key in keys if draw.random() < 0.9]
         draw.shuffle(pairs)
         lines.append(draw.choice([written, json.dumps])(dict(pairs)).encode())
-    status, replies, _ = state.ran(state.defined("pair"), None, b"".join(line + b"\n" for line in lines))
+    status, replies, _ = state.ran(
+        state.defined("pair"), None, b"".join(line + b"\n" for line in lines)
+    )
     found = [json.loads(reply).get("fault") for reply in replies.splitlines()]
     state.expect("hostile: the end", (status, len(found)), (0, len(lines)))
     for line, one in zip(lines, found):
@@ -537,8 +687,14 @@ def in_pieces(state):
     driven.send(b'sy"}\n')
     state.expect("behind a line's end", (driven.reply(), driven.end()), ({"busy": []}, (0, "")))
     draw = random.Random(state.seed)
-    lines = [b'{"do":"next"%s}\n' % (b" " * draw.choice([0, 1, 50, 5000, 65000])) for _ in range(500)]
-    state.expect("500 long lines", state.ran(state.defined("pair"), None, b"".join(lines)), (0, line_of(none(True)) * 500, b""))
+    lines = [
+        b'{"do":"next"%s}\n' % (b" " * draw.choice([0, 1, 50, 5000, 65000])) for _ in range(500)
+    ]
+    state.expect(
+        "500 long lines",
+        state.ran(state.defined("pair"), None, b"".join(lines)),
+        (0, line_of(none(True)) * 500, b""),
+    )
 
 
 def together(state):
@@ -547,7 +703,14 @@ def together(state):
     whole = Driven(state, state.defined("pair"))
     asked = [{"do": "status"}] * (AT_ONCE // len(line_of({"do": "status"})))
     whole.send(*asked)
-    none_yet = {"definitions": ["pair"], "ended": 0, "events": 0, "opened": 0, "room": 1000, "stuck": 0}
+    none_yet = {
+        "definitions": ["pair"],
+        "ended": 0,
+        "events": 0,
+        "opened": 0,
+        "room": 1000,
+        "stuck": 0,
+    }
     state.expect("a read's bytes", sum(map(len, map(line_of, asked))), AT_ONCE)
     state.expect("a read's bytes: the replies", whole.replies(len(asked)), [none_yet] * len(asked))
     state.expect("a read's bytes: the end", whole.end(), (0, ""))
@@ -558,14 +721,18 @@ def together(state):
     many.replies(len(begin))
     taken = [task("run", saga, 0, "a") for saga in range(8)]
     wanted = [{"busy": taken}] * 4000
-    state.expect("4,000 at once: the replies are many", len(line_of(wanted[0])) * 4000 > 1_048_576, True)
+    state.expect(
+        "4,000 at once: the replies are many", len(line_of(wanted[0])) * 4000 > 1_048_576, True
+    )
     begun = log.read_bytes()
     many.send(*[BUSY] * 3999, aborting(7))
     found = many.replies(4000)
     state.expect("4,000 at once: the replies", found[:-1], wanted[:-1])
     last = {"event": {"event": "abort", "saga": 7}, "phase": "draining"}
     state.expect("4,000 at once: the last", found[-1:], [last])
-    state.expect("4,000 at once: the log", log.read_bytes().removeprefix(begun), b"".join(told([last])))
+    state.expect(
+        "4,000 at once: the log", log.read_bytes().removeprefix(begun), b"".join(told([last]))
+    )
     state.expect("4,000 at once: the end", many.end(), (0, ""))
     return len(asked) + len(begin) + 4000
 
@@ -581,19 +748,39 @@ def said(state):
         log = state.folder / f"said.{name}.once.log"
         for at_once in [text, text[:-1]]:
             log.unlink(missing_ok=True)
-            state.expect(f"{name}, at once", state.ran(state.defined(*definitions), log, at_once), (0, replies, b""))
-            state.expect(f"{name}, without a log", state.ran(state.defined(*definitions), None, at_once), (0, replies, b""))
-        state.expect(f"{name}: the log, at once", log.read_bytes(), (state.folder / f"said.{name}.log").read_bytes())
+            state.expect(
+                f"{name}, at once",
+                state.ran(state.defined(*definitions), log, at_once),
+                (0, replies, b""),
+            )
+            state.expect(
+                f"{name}, without a log",
+                state.ran(state.defined(*definitions), None, at_once),
+                (0, replies, b""),
+            )
+        state.expect(
+            f"{name}: the log, at once",
+            log.read_bytes(),
+            (state.folder / f"said.{name}.log").read_bytes(),
+        )
     in_pieces(state)
     count = hostile(state) + together(state)
     many = line_of(opening(0)) * 1001
     wanted = b"".join(line_of(opened(saga)) for saga in range(1000)) + line_of({"refused": "full"})
     log = state.folder / "said.full.log"
     state.expect("1,001 openings", state.ran(state.defined("must"), log, many), (0, wanted, b""))
-    state.expect("after them", state.ran(state.defined("must"), log, line_of(opening(0))), (0, line_of({"refused": "full"}), b""))
+    state.expect(
+        "after them",
+        state.ran(state.defined("must"), log, line_of(opening(0))),
+        (0, line_of({"refused": "full"}), b""),
+    )
     with log.open("ab") as file:
         file.write(b'{"def":0,"event":"open","saga":1000}\n')
-    state.expect("a log of 1,001", state.ran(state.defined("must"), log, b""), (3, b"", b"sagas: log: no 1000 full\n"))
+    state.expect(
+        "a log of 1,001",
+        state.ran(state.defined("must"), log, b""),
+        (3, b"", b"sagas: log: no 1000 full\n"),
+    )
     return sum(len(pairs) for _, _, pairs in CONVERSATIONS) + len(LINES) + count + 1001, "requests"
 
 
@@ -632,7 +819,11 @@ LOGS = [
 ]
 
 # What a closed stream comes to: none of the three may be taken for the log.
-CLOSED = [("<&-", 4, [b"sagas: cannot read -\n"]), (">&-", 4, [b"sagas: cannot write -\n"]), ("2>&-", 0, [])]
+CLOSED = [
+    ("<&-", 4, [b"sagas: cannot read -\n"]),
+    (">&-", 4, [b"sagas: cannot write -\n"]),
+    ("2>&-", 0, []),
+]
 
 
 def starts(state):
@@ -642,9 +833,13 @@ def starts(state):
     for text, status, line in LOGS:
         log.write_bytes(text)
         found = state.ran(pair, log, b"")
-        state.expect(f"start on {text}", found, (status, b"", f"{line}\n".encode() if line else b""))
+        state.expect(
+            f"start on {text}", found, (status, b"", f"{line}\n".encode() if line else b"")
+        )
         whole = text[: text.rfind(b"\n") + 1] or HEADER
-        state.expect(f"the file after {text}", log.read_bytes() or HEADER, whole if status == 0 else text)
+        state.expect(
+            f"the file after {text}", log.read_bytes() or HEADER, whole if status == 0 else text
+        )
     log.unlink()
     none, bad = state.folder / "none", state.folder / "bad.toml"
     bad.write_text("x")
@@ -658,27 +853,47 @@ def starts(state):
     ]
     for definitions, place, status, line in rows:
         found = state.ran(definitions, place, b"")
-        state.expect(f"start on {str(definitions)[-80:]} {place}", found, (status, b"", f"{line}\n".encode()))
+        state.expect(
+            f"start on {str(definitions)[-80:]} {place}", found, (status, b"", f"{line}\n".encode())
+        )
     log.unlink()
     torn = state.folder / "torn.log"
     unfinished = torn.with_name(f"{torn.name}.definitions.new")
     unfinished.write_bytes(file_of(pair)[:20])
     state.expect("start beside unfinished definitions", state.ran(pair, torn, b""), (0, b"", b""))
-    state.expect("the definitions then", (beside(torn).read_bytes(), unfinished.exists()), (file_of(pair), False))
+    state.expect(
+        "the definitions then",
+        (beside(torn).read_bytes(), unfinished.exists()),
+        (file_of(pair), False),
+    )
     for words in [["drive"], ["drive", "--lines"], ["drive", "--lock", *pair]]:
-        done = subprocess.run([state.program, *words], stdin=subprocess.DEVNULL, capture_output=True, check=False)
+        done = subprocess.run(
+            [state.program, *words], stdin=subprocess.DEVNULL, capture_output=True, check=False
+        )
         state.expect(f"{words}", (done.returncode, done.stdout), (2, b""))
         state.expect(f"a log after {words}", log.exists(), False)
     with open("/dev/full", "wb") as full:
         text = line_of(opening(0)) + line_of(BUSY)
-        done = subprocess.run(state.command(pair, log), input=text, stdout=full, stderr=subprocess.PIPE, check=False)
-    state.expect("a full standard output", (done.returncode, done.stderr), (4, b"sagas: cannot write -\n"))
+        done = subprocess.run(
+            state.command(pair, log), input=text, stdout=full, stderr=subprocess.PIPE, check=False
+        )
+    state.expect(
+        "a full standard output", (done.returncode, done.stderr), (4, b"sagas: cannot write -\n")
+    )
     state.expect("the log then", log.read_bytes(), HEADER + OPEN)
     for stream, status, line in CLOSED:
         log.write_bytes(HEADER + OPEN + RUN[:7])
         words = ["bash", "-c", f'"$0" "$@" {stream}', *state.command(pair, log)]
-        done = subprocess.run(words, input=line_of(NEXT), stdout=subprocess.DEVNULL, stderr=subprocess.PIPE, check=False)
-        state.expect(f"with {stream}", (done.returncode, done.stderr.splitlines(True)[-1:]), (status, line))
+        done = subprocess.run(
+            words,
+            input=line_of(NEXT),
+            stdout=subprocess.DEVNULL,
+            stderr=subprocess.PIPE,
+            check=False,
+        )
+        state.expect(
+            f"with {stream}", (done.returncode, done.stderr.splitlines(True)[-1:]), (status, line)
+        )
         lines = HEADER + OPEN + (RUN if status == 0 else RUN[:7])
         state.expect(f"the log with {stream}", log.read_bytes(), lines)
     return len(LOGS) + len(rows) + 8, "starts"
@@ -707,9 +922,16 @@ def random_report(draw, book):
     busy, outcome = book.busy()["busy"], draw.choice(["ok", "ok", "ok", "fail"])
     if not busy or draw.random() < 0.1:
         other = task(draw.choice(["run", "undo"]), 0, 0, "", draw.randint(1, 3))
-        return report(draw.randrange(len(book.sagas) + 1), draw.randrange(7), outcome, draw.choice([None, other]))
+        return report(
+            draw.randrange(len(book.sagas) + 1),
+            draw.randrange(7),
+            outcome,
+            draw.choice([None, other]),
+        )
     one = draw.choice(busy)
-    wrong = draw.choice([one | {"attempt": one["attempt"] - 1}, one | {"task": draw.choice(["run", "undo"])}])
+    wrong = draw.choice(
+        [one | {"attempt": one["attempt"] - 1}, one | {"task": draw.choice(["run", "undo"])}]
+    )
     return report(one["saga"], one["step"], outcome, draw.choice([None, one, one, one, wrong]))
 
 
@@ -718,21 +940,34 @@ def random_request(draw, book):
     number, sagas, definitions = draw.random(), len(book.sagas), book.definitions
     if sagas == 0 or number < 0.06:
         opening_of_one = opening(draw.randrange(len(definitions) + (number < 0.005)))
-        return draw.choice([opening_of_one, named(draw.choice(definitions)["name"], sagas), named("none", 0), opening_of_one | {"saga": draw.choice([0, sagas])}])
+        return draw.choice(
+            [
+                opening_of_one,
+                named(draw.choice(definitions)["name"], sagas),
+                named("none", 0),
+                opening_of_one | {"saga": draw.choice([0, sagas])},
+            ]
+        )
     if number < 0.36:
         return NEXT
     if number < 0.46:
         return many(draw.choice([1, 2, 3, 64]))
     if number < 0.55:
         step = draw.randrange(-1, 6)
-        return {"do": "take", "saga": draw.randrange(sagas + 1)} | ({} if step < 0 else {"step": step})
+        return {"do": "take", "saga": draw.randrange(sagas + 1)} | (
+            {} if step < 0 else {"step": step}
+        )
     if number < 0.9:
         return random_report(draw, book)
     if number < 0.93:
         return aborting(draw.randrange(sagas + 1))
     if number < 0.95:
-        return defining(draw.choice(["x", "", 'format = 1\nname = "more"\nstep = [{ name = "x" }]\n']))
-    return draw.choice([b"{\n", b'{"do":"close"}\n', b'{"do":"open","def":0,"x":1}\n', b'{"do":"next","most":0}\n'])
+        return defining(
+            draw.choice(["x", "", 'format = 1\nname = "more"\nstep = [{ name = "x" }]\n'])
+        )
+    return draw.choice(
+        [b"{\n", b'{"do":"close"}\n', b'{"do":"open","def":0,"x":1}\n', b'{"do":"next","most":0}\n']
+    )
 
 
 def random_conversation(state, seed):
@@ -741,7 +976,10 @@ def random_conversation(state, seed):
     name = f"random {seed}"
     folder = state.folder / f"random{seed}"
     folder.mkdir()
-    definitions = [random_definition(draw, folder / "drawn.toml"), *state.defined(*draw.sample(["trip", "order", "server", "licence", "pair"], 2))]
+    definitions = [
+        random_definition(draw, folder / "drawn.toml"),
+        *state.defined(*draw.sample(["trip", "order", "server", "licence", "pair"], 2)),
+    ]
     log = folder / "log"
     driven = Driven(state, definitions, log)
     pairs, book = [], follower.Book(definitions, logged=True)
@@ -751,7 +989,11 @@ def random_conversation(state, seed):
         if reply is None:
             break
         pairs.append((request, reply))
-        wanted = {"fault": fault_of(request)} if isinstance(request, bytes) else book.replied(request, reply)
+        wanted = (
+            {"fault": fault_of(request)}
+            if isinstance(request, bytes)
+            else book.replied(request, reply)
+        )
         state.expect(f"{name}: {request}", reply, wanted)
         for question, wanted in book.questions(draw):
             answered = driven.ask(question)
@@ -772,14 +1014,24 @@ def random_conversation(state, seed):
     state.expect(f"{name}: the other log", (folder / "copy").read_bytes(), log.read_bytes())
     text = b"".join(line_of(request) for request, _ in pairs)
     replies = b"".join(line_of(reply) for _, reply in pairs)
-    state.expect(f"{name}: at once, without a log", state.ran(definitions, None, text), (0, replies, b""))
+    state.expect(
+        f"{name}: at once, without a log", state.ran(definitions, None, text), (0, replies, b"")
+    )
     return len(pairs)
 
 
 def random_ones(state):
     """Random conversations: the log has just what was told, it is legal, and another start goes on with the same book."""
     with concurrent.futures.ThreadPoolExecutor(PROCESSORS) as pool:
-        return sum(pool.map(lambda seed: random_conversation(state, seed), range(state.seed, state.seed + 30))), "requests"
+        return (
+            sum(
+                pool.map(
+                    lambda seed: random_conversation(state, seed),
+                    range(state.seed, state.seed + 30),
+                )
+            ),
+            "requests",
+        )
 
 
 # ---- lines that are shown before their replies
@@ -792,13 +1044,26 @@ def ran_with_lines(state, definitions, text, begun=None):
     known = [] if begun is None else ["--from", f"/dev/fd/{out}"]
     command = [state.program, "drive", "--lines", *known, *definitions]
     with open(out, "rb"), concurrent.futures.ThreadPoolExecutor(1) as pool:
-        done = pool.submit(subprocess.run, command, input=text, capture_output=True, check=False, timeout=60, pass_fds=[out])
+        done = pool.submit(
+            subprocess.run,
+            command,
+            input=text,
+            capture_output=True,
+            check=False,
+            timeout=60,
+            pass_fds=[out],
+        )
         with open(into, "wb") as log:
             log.write(begun or b"")
         run = done.result()
     printed = run.stdout.splitlines(True)
     lines = b"".join(line[1:] for line in printed if line.startswith(b"+"))
-    return run.returncode, lines, b"".join(line for line in printed if not line.startswith(b"+")), run.stderr
+    return (
+        run.returncode,
+        lines,
+        b"".join(line for line in printed if not line.startswith(b"+")),
+        run.stderr,
+    )
 
 
 def drawn_lines(draw, book, driven, added):
@@ -822,17 +1087,23 @@ def drawn_lines(draw, book, driven, added):
 def with_places(asked, replies, more):
     """The replies to all requests: those to the others, and those to requests for a definition, over a shelf with so many more."""
     others = iter(replies.splitlines(True))
-    placed = [reply | {"def": reply["def"] + more} if reply and "def" in reply else reply for _, reply in asked]
+    placed = [
+        reply | {"def": reply["def"] + more} if reply and "def" in reply else reply
+        for _, reply in asked
+    ]
     return b"".join(next(others) if reply is None else line_of(reply) for reply in placed)
 
 
 def lines_of_a_conversation(state, seed):
     """Random requests: with lines they have the replies and the log that they have with a file, from nothing and from each of some
-    beginnings of the log. A definition that a request puts on the shelf serves as one that was there from the start."""
+    beginnings of the log. A definition that a request puts on the shelf serves as one that was there from the start.
+    """
     draw = random.Random(seed)
     name, log = f"lines {seed}", state.folder / f"lines{seed}"
     definitions = state.defined(*draw.sample(["trip", "order", "server", "licence", "pair"], 2))
-    added = [random_definition(draw, state.folder / f"lines{seed}.{place}.toml") for place in range(3)]
+    added = [
+        random_definition(draw, state.folder / f"lines{seed}.{place}.toml") for place in range(3)
+    ]
     longer = [*definitions, *added] if state.grows else definitions
     driven = Driven(state, longer, log)
     asked = drawn_lines(draw, follower.Book(definitions, grows=state.grows), driven, added)
@@ -848,15 +1119,30 @@ def lines_of_a_conversation(state, seed):
         left = begun or b""
         if said:  # a plan that its last line begins is made anew
             left = b"".join(whole[: count - 1])
-        wanted = (status, file.read_bytes().removeprefix(left), with_places(asked, replies, len(shelf) - len(definitions)), said)
-        state.expect(f"{name}: from {count} lines", ran_with_lines(state, shelf, text, begun), wanted)
+        wanted = (
+            status,
+            file.read_bytes().removeprefix(left),
+            with_places(asked, replies, len(shelf) - len(definitions)),
+            said,
+        )
+        state.expect(
+            f"{name}: from {count} lines", ran_with_lines(state, shelf, text, begun), wanted
+        )
     return 5 * len(asked)
 
 
 def lines(state):
     """What is shown of a log, and a log that is only read, which comes by a pipe."""
     with concurrent.futures.ThreadPoolExecutor(PROCESSORS) as pool:
-        return sum(pool.map(lambda seed: lines_of_a_conversation(state, seed), range(state.seed, state.seed + 12))), "requests with lines"
+        return (
+            sum(
+                pool.map(
+                    lambda seed: lines_of_a_conversation(state, seed),
+                    range(state.seed, state.seed + 12),
+                )
+            ),
+            "requests with lines",
+        )
 
 
 # ---- the room of a log
@@ -876,7 +1162,11 @@ def large(state, name, steps, needs, first="", tries=""):
     for step in range(1, steps):
         count = min(step, -(-needs // (steps - step)))
         needs -= count
-        lines.append(f'[[step]]\nname = "s{step}"\n{each}needs = [' + ", ".join(f'"s{need}"' for need in range(step - count, step)) + "]\n")
+        lines.append(
+            f'[[step]]\nname = "s{step}"\n{each}needs = ['
+            + ", ".join(f'"s{need}"' for need in range(step - count, step))
+            + "]\n"
+        )
     path = state.folder / f"{name}.toml"
     path.write_text("".join(lines), encoding="utf-8")
     return path
@@ -887,7 +1177,11 @@ class Followed:
 
     def __init__(self, state, name, definitions):
         self.state, self.name, self.definitions = state, name, definitions
-        self.log, self.book, self.pairs = state.folder / f"{name}.log", follower.Book(definitions, logged=True), []
+        self.log, self.book, self.pairs = (
+            state.folder / f"{name}.log",
+            follower.Book(definitions, logged=True),
+            [],
+        )
         self.start()
 
     def start(self):
@@ -910,7 +1204,11 @@ class Followed:
             pass
         status, log = self.driven.ask({"do": "status"}), self.log.read_bytes()
         self.ask(opening(definition))
-        self.state.expect(f"{self.name}: after a refusal", (self.driven.ask({"do": "status"}), self.log.read_bytes()), (status, log))
+        self.state.expect(
+            f"{self.name}: after a refusal",
+            (self.driven.ask({"do": "status"}), self.log.read_bytes()),
+            (status, log),
+        )
         return len(self.book.sagas) - before
 
     def abort(self, saga):
@@ -921,49 +1219,92 @@ class Followed:
     def end(self):
         """Ends the program; the log is what was told, and legal."""
         self.state.expect(f"{self.name}: the end", self.driven.end(), (0, ""))
-        self.state.expect(f"{self.name}: the log", self.log.read_bytes(), HEADER + b"".join(told(reply for _, reply in self.pairs)))
+        self.state.expect(
+            f"{self.name}: the log",
+            self.log.read_bytes(),
+            HEADER + b"".join(told(reply for _, reply in self.pairs)),
+        )
         self.state.audited(self.log, self.definitions)
 
 
 def room(state):
     """Sagas are opened as long as the log has room for their ends: until it has none, and again once one is ended, also after a kill and another
-    start; lines that are shown are counted as those of a file, and without a log there is no such limit."""
-    definitions = [large(state, "long", 256, 255), large(state, "must", 256, 255, 'skip = "never"\n'), *state.defined("pair")]
+    start; lines that are shown are counted as those of a file, and without a log there is no such limit.
+    """
+    definitions = [
+        large(state, "long", 256, 255),
+        large(state, "must", 256, 255, 'skip = "never"\n'),
+        *state.defined("pair"),
+    ]
     one = Followed(state, "room", definitions)
     state.expect("room: how many are opened", one.fill(0), follower.ROOM // one.book.mosts[0])
-    one.ask(opening(9), named("none", 0), opening(0) | {"saga": 0}, opening(2), opening(1), named("long", len(one.book.sagas) + 1))
+    one.ask(
+        opening(9),
+        named("none", 0),
+        opening(0) | {"saga": 0},
+        opening(2),
+        opening(1),
+        named("long", len(one.book.sagas) + 1),
+    )
     state.expect("room: one that is aborted", (one.abort(0), one.fill(0)), ("ended", 1))
     for first in range(0, 256, 64):
         steps = range(first, first + 64)
-        one.ask(*(request for step in steps for request in ({"do": "take", "saga": 1, "step": step}, report(1, step, "ok"))))
+        one.ask(
+            *(
+                request
+                for step in steps
+                for request in ({"do": "take", "saga": 1, "step": step}, report(1, step, "ok"))
+            )
+        )
     state.expect("room: one that is run", one.fill(0), 1)
     stuck = len(one.book.sagas)
-    state.expect("room: one that is stuck has not ended", (one.abort(2), one.fill(1), one.abort(stuck), one.fill(0)), ("ended", 1, "stuck", 0))
+    state.expect(
+        "room: one that is stuck has not ended",
+        (one.abort(2), one.fill(1), one.abort(stuck), one.fill(0)),
+        ("ended", 1, "stuck", 0),
+    )
     one.driven.kill()
     begun, before = one.log.read_bytes(), len(one.pairs)
     one.start()
     state.expect("room: after a kill", (one.fill(0), one.abort(3), one.fill(0)), (0, "ended", 1))
     one.end()
     shown_from(state, one, begun, before)
-    return len(one.pairs) + edges(state) + crowd(state) + full(state) + unlimited(state, definitions), "requests of full logs"
+    return (
+        len(one.pairs) + edges(state) + crowd(state) + full(state) + unlimited(state, definitions),
+        "requests of full logs",
+    )
 
 
 def shown_from(state, one, begun, before):
     """The same requests with lines that are shown, from nothing and from the log of a kill: the same replies, and the same log."""
     for known, first in [(None, 0), (begun, before)]:
-        asked, replies = (b"".join(line_of(pair[place]) for pair in one.pairs[first:]) for place in (0, 1))
+        asked, replies = (
+            b"".join(line_of(pair[place]) for pair in one.pairs[first:]) for place in (0, 1)
+        )
         wanted = one.log.read_bytes().removeprefix(known or b"")
-        state.expect(f"room: lines behind {first} requests", ran_with_lines(state, one.definitions, asked, known), (0, wanted, replies, b""))
+        state.expect(
+            f"room: lines behind {first} requests",
+            ran_with_lines(state, one.definitions, asked, known),
+            (0, wanted, replies, b""),
+        )
 
 
 def edges(state):
     """The last byte of the room is used, and no more; a log has room for four sagas of the greatest definition that there is."""
     for number, (first, second, fits) in enumerate(EDGES):
-        one = Followed(state, f"edge{number}", [large(state, f"first{number}", *first), large(state, f"second{number}", *second)])
+        one = Followed(
+            state,
+            f"edge{number}",
+            [large(state, f"first{number}", *first), large(state, f"second{number}", *second)],
+        )
         one.ask(opening(0), opening(0), opening(0), opening(0))
         state.expect(f"room: the edge {number}", one.ask(opening(1)) != LOG_FULL, fits)
         one.end()
-    greatest = Followed(state, "greatest", [large(state, "greatest", 1024, 8192, tries="tries = 9\nundo_tries = 9\n")])
+    greatest = Followed(
+        state,
+        "greatest",
+        [large(state, "greatest", 1024, 8192, tries="tries = 9\nundo_tries = 9\n")],
+    )
     state.expect("room: of the greatest definition", greatest.fill(0), 4)
     greatest.end()
     return 5 * len(EDGES) + 5
@@ -975,7 +1316,10 @@ ITEMS = 50
 
 def crowded(state):
     """The definition of such a saga."""
-    items = "".join(f'[[step]]\nname = "item{item}"\nneeds = ["start"]\nskip = 1_000_000\n' for item in range(ITEMS))
+    items = "".join(
+        f'[[step]]\nname = "item{item}"\nneeds = ["start"]\nskip = 1_000_000\n'
+        for item in range(ITEMS)
+    )
     names = ", ".join(f'"item{item}"' for item in range(ITEMS))
     path = state.folder / "crowd.toml"
     text = f'format = 2\nname = "crowd"\n[[step]]\nname = "start"\nundo = 1\nkeep = 900_000\n{items}[[step]]\nname = "join"\nneeds = [{names}]\n'
@@ -987,21 +1331,43 @@ def failing(saga):
     """The requests by which a saga of a crowd ends in the worst way: each item but one fails, one after the other, each failure is planned, it is aborted,
     and the compensation of its start fails too."""
     take, planned = {"do": "take", "saga": saga}, [{"do": "take", "saga": saga}]
-    failed = [[take | {"step": item}, report(saga, item, "fail"), *planned] for item in range(1, ITEMS)]
+    failed = [
+        [take | {"step": item}, report(saga, item, "fail"), *planned] for item in range(1, ITEMS)
+    ]
     undone = [aborting(saga), *planned, take | {"step": 0}, report(saga, 0, "fail"), *planned]
-    return [take | {"step": 0}, report(saga, 0, "ok"), *(request for part in failed for request in part), *undone]
+    return [
+        take | {"step": 0},
+        report(saga, 0, "ok"),
+        *(request for part in failed for request in part),
+        *undone,
+    ]
 
 
 def crowd(state):
     """A thousand sagas of 52 steps are open in one log. All of them fail in the worst way, in turn, and end: the log takes every line."""
     definition, log = crowded(state), state.folder / "crowd.log"
-    requests = [line_of(opening(0)) * 1000, *(line_of(request) for saga in range(1000) for request in failing(saga)), line_of({"do": "status"})]
+    requests = [
+        line_of(opening(0)) * 1000,
+        *(line_of(request) for saga in range(1000) for request in failing(saga)),
+        line_of({"do": "status"}),
+    ]
     status, replies, wrong = state.ran([definition], log, b"".join(requests), seconds=600)
     told = replies.splitlines()
     state.expect("crowd: the end", (status, wrong), (0, b""))
-    state.expect("crowd: refused", [line for line in told if line.startswith((b'{"refused"', b'{"fault"'))][:1], [])
+    state.expect(
+        "crowd: refused",
+        [line for line in told if line.startswith((b'{"refused"', b'{"fault"'))][:1],
+        [],
+    )
     events = 1000 * (1 + 2 + 2 * (ITEMS - 1) + 3 + 2 * (ITEMS + 1))
-    wanted = {"definitions": ["crowd"], "ended": 1000, "events": events, "opened": 1000, "room": 0, "stuck": 0}
+    wanted = {
+        "definitions": ["crowd"],
+        "ended": 1000,
+        "events": events,
+        "opened": 1000,
+        "room": 0,
+        "stuck": 0,
+    }
     state.expect("crowd: how all stand", json.loads(told[-1]), wanted)
     state.audited(log, [definition])
     return len(told)
@@ -1016,12 +1382,19 @@ PLANS = 8192
 def filled(state, log, left):
     """A log of two sagas, of which plans of the first were begun and dropped, with blanks before the first event, until so many bytes are left of the
     most that a log may have. Gives its bytes."""
-    begun = b"".join(event.encode() + b"\n" for event in map(written, [OPENED | {"saga": 0}, OPENED | {"saga": 1}, {"event": "abort", "saga": 0}]))
+    begun = b"".join(
+        event.encode() + b"\n"
+        for event in map(
+            written, [OPENED | {"saga": 0}, OPENED | {"saga": 1}, {"event": "abort", "saga": 0}]
+        )
+    )
     rest = begun + (START + DROP) * PLANS
     with log.open("wb") as file:
         file.write(HEADER)
         for first in range(0, follower.MAX_LOG - left - len(HEADER) - len(rest), 1_048_576):
-            file.write(b" " * min(1_048_576, follower.MAX_LOG - left - len(HEADER) - len(rest) - first))
+            file.write(
+                b" " * min(1_048_576, follower.MAX_LOG - left - len(HEADER) - len(rest) - first)
+            )
         file.write(rest)
     state.expect("full: the log's bytes", log.stat().st_size, follower.MAX_LOG - left)
     return log.stat().st_size
@@ -1045,11 +1418,21 @@ def full(state):
         before = filled(state, log, left)
         beside(log).unlink(missing_ok=True)
         one = Driven(state, pair, log)
-        state.expect(f"full: an abort where {left} bytes are left", one.ask(aborting(1)), aborted if more else None)
+        state.expect(
+            f"full: an abort where {left} bytes are left",
+            one.ask(aborting(1)),
+            aborted if more else None,
+        )
         state.expect(f"full: the next task where {left} bytes were left", one.ask(NEXT), None)
         state.expect(f"full: the end where {left} bytes were left", one.end(), (4, wrong))
-        state.expect(f"full: what was written where {left} bytes were left", behind(log, before), line if more else b"")
-        state.expect(f"full: a start where {left} bytes were left", state.ran(pair, log, b""), (0, b"", b""))
+        state.expect(
+            f"full: what was written where {left} bytes were left",
+            behind(log, before),
+            line if more else b"",
+        )
+        state.expect(
+            f"full: a start where {left} bytes were left", state.ran(pair, log, b""), (0, b"", b"")
+        )
     log.unlink()
     return 4
 
@@ -1058,7 +1441,11 @@ def unlimited(state, definitions):
     """Without a log sagas of any size are opened, a thousand of them."""
     asked = line_of(opening(0)) * 1001
     wanted = b"".join(line_of(opened(saga)) for saga in range(1000)) + line_of({"refused": "full"})
-    state.expect("room: without a log", state.ran([large(state, "whole", 1024, 8192), *definitions], None, asked), (0, wanted, b""))
+    state.expect(
+        "room: without a log",
+        state.ran([large(state, "whole", 1024, 8192), *definitions], None, asked),
+        (0, wanted, b""),
+    )
     return 1001
 
 
@@ -1076,12 +1463,19 @@ class Disk:
 
     def note(self, kept):
         """So many bytes are on the disk; of a log that is there its name is, too."""
-        self.known.write_text(f"kept {kept:12} named {int(self.log.exists())} beside {int(beside(self.log).exists())} early 0\n")
+        self.known.write_text(
+            f"kept {kept:12} named {int(self.log.exists())} beside {int(beside(self.log).exists())} early 0\n"
+        )
         self.image.unlink(missing_ok=True)
 
     def settings(self, stop=0):
         """What lets a program note it, and end before a call."""
-        return {"LD_PRELOAD": str(self.library), "LOG": str(self.log), "DISK": str(self.known), "STOP": str(stop)}
+        return {
+            "LD_PRELOAD": str(self.library),
+            "LOG": str(self.log),
+            "DISK": str(self.known),
+            "STOP": str(stop),
+        }
 
     def beside_wrong(self, wanted):
         """What is wrong with the file of definitions, which is there as a whole or not at all, and is on the disk before an event."""
@@ -1093,11 +1487,14 @@ class Disk:
 
     def may_be(self):
         """All that the log may be if power goes off now: what is on the disk, with each beginning of what was not synced; the same of
-        what it was before a cut that was not synced; and no file, where its name is not on the disk."""
+        what it was before a cut that was not synced; and no file, where its name is not on the disk.
+        """
         words = self.known.read_text().split()
         kept, named = int(words[1]), words[3] == "1"
         files = [file.read_bytes() for file in (self.log, self.image) if file.exists()]
-        return [text[:end] for text in files for end in range(kept, len(text) + 1)] + ([] if named else [None])
+        return [text[:end] for text in files for end in range(kept, len(text) + 1)] + (
+            [] if named else [None]
+        )
 
     def leave(self, text):
         """Power went off, and that is left, all of it on the disk."""
@@ -1145,14 +1542,18 @@ class Load:
     def start(self):
         """Starts the program on what is in the log, and takes up what was begun."""
         before = whole_lines(self.log)
-        while before and b'"start_plan"' in before[-1]:  # its adopt was cut off: the plan is made anew
+        while (
+            before and b'"start_plan"' in before[-1]
+        ):  # its adopt was cut off: the plan is made anew
             before.pop()
         cut = self.log.exists() and self.log.read_bytes()[sum(map(len, before)) :]
         self.base = [line for line in before if line != HEADER]
         self.told = []
         self.line = f"sagas: log: cut line taken away: {len(cut)} bytes\n" if cut else ""
         self.sagas = sum(b'"open"' in line for line in self.base)
-        self.child = Driven(self.state, self.definitions, self.log, self.disk and self.disk.settings())
+        self.child = Driven(
+            self.state, self.definitions, self.log, self.disk and self.disk.settings()
+        )
         self.tasks = []
         self.settled = False
         self.started = False
@@ -1161,7 +1562,10 @@ class Load:
         """Requests that are sent together."""
         if not self.started:
             return [BUSY]
-        requests = [opening((self.sagas + number) % len(self.definitions)) for number in range(min(3, OF_A_BOOK - self.sagas))]
+        requests = [
+            opening((self.sagas + number) % len(self.definitions))
+            for number in range(min(3, OF_A_BOOK - self.sagas))
+        ]
         requests += [report(one["saga"], one["step"], outcome_of(one)) for one in self.tasks]
         requests += [NEXT] * self.draw.randint(1, 6)
         return requests
@@ -1176,7 +1580,11 @@ class Load:
                 self.tasks.append(reply)
             elif "step" in reply.get("event", {}):
                 ended = reply["event"]
-                self.tasks = [one for one in self.tasks if (one["saga"], one["step"]) != (ended["saga"], ended["step"])]
+                self.tasks = [
+                    one
+                    for one in self.tasks
+                    if (one["saga"], one["step"]) != (ended["saga"], ended["step"])
+                ]
             elif "def" in reply.get("event", {}):
                 self.sagas += 1
             elif reply.get("task") == "none":
@@ -1206,7 +1614,9 @@ class Load:
 
     def look(self, sure):
         """These events are in the log, in their order: those told, behind what was there at the start; and the log is legal."""
-        self.state.expect("kills: the log after a kill", whole_lines(self.log)[1:][: len(sure)], sure)
+        self.state.expect(
+            "kills: the log after a kill", whole_lines(self.log)[1:][: len(sure)], sure
+        )
         self.state.audited(self.log, self.definitions)
 
     def end(self):
@@ -1251,8 +1661,12 @@ def kills(state):
         count, books = count + found, books + 1
         if book is None or whole is None:
             break
-        for saga, (now, then, story, wanted) in enumerate(zip(book[0], whole[0], book[1], whole[1])):
-            if saga % (len(CHAINS) + 1) < len(CHAINS):  # of a chain each step waits for the one before, so there is one story
+        for saga, (now, then, story, wanted) in enumerate(
+            zip(book[0], whole[0], book[1], whole[1])
+        ):
+            if saga % (len(CHAINS) + 1) < len(
+                CHAINS
+            ):  # of a chain each step waits for the one before, so there is one story
                 state.expect(f"kills: saga {saga}", (now, story), (then, wanted))
             elif now["phase"] not in ("ended", "stuck"):
                 state.fail(f"kills: saga {saga}: {now}")
@@ -1314,7 +1728,11 @@ def power_at(state, case, stop):
     before = settled_lines(disk.log)
     sure = before if kept == len(text or b"") else []
     replies, was_stopped = stopped(state, disk, requests, stop)
-    state.expect(f"power: {name} at call {stop}: the file of definitions", disk.beside_wrong(file_of(state.defined("pair"))), "")
+    state.expect(
+        f"power: {name} at call {stop}: the file of definitions",
+        disk.beside_wrong(file_of(state.defined("pair"))),
+        "",
+    )
     sure = before + told(replies) if replies else sure
     count = left_whole(state, disk, f"power: {name} at call {stop}", sure)
     return count if was_stopped else 0
@@ -1372,7 +1790,13 @@ def cuts(state):
     """A log cut at each byte, and with each byte changed: refused and left as it was, or taken up to its last whole line."""
     pair = state.defined("pair")
     whole = state.folder / "cuts.log"
-    pairs = UNDONE + [(report(0, 0, "fail"), None), (NEXT, None), (opening(0), None), (NEXT, None), (aborting(1), None)]
+    pairs = UNDONE + [
+        (report(0, 0, "fail"), None),
+        (NEXT, None),
+        (opening(0), None),
+        (NEXT, None),
+        (aborting(1), None),
+    ]
     status, _, _ = state.ran(pair, whole, b"".join(line_of(request) for request, _ in pairs))
     state.expect("cuts: the log", status, 0)
     text = whole.read_bytes()
@@ -1393,7 +1817,11 @@ def cuts(state):
         books[end] = (found[1], whole.read_bytes())
         left = taken(end)
         wanted = (0, noted(end - left), True)
-        state.expect(f"cuts: {end} bytes", (found[0], found[2], books[end][1].startswith(text[:left])), wanted)
+        state.expect(
+            f"cuts: {end} bytes",
+            (found[0], found[2], books[end][1].startswith(text[:left])),
+            wanted,
+        )
         gone_on(state, pair, whole)
 
     def tried(number, changed):
@@ -1405,14 +1833,28 @@ def cuts(state):
         place.unlink()
         if text.startswith(changed[:end]) and (end > 0 or HEADER.startswith(changed)):
             note = noted(len(changed) - taken(end))
-            state.expect(f"cuts: {changed[-60:]}", (found, after), ((0, books[end][0], note), books[end][1]))
+            state.expect(
+                f"cuts: {changed[-60:]}", (found, after), ((0, books[end][0], note), books[end][1])
+            )
             return
         line = found[2].decode()
-        named = line == "sagas: log: no-header\n" or line.startswith(("sagas: log: line ", "sagas: log: no ")) and line.count("\n") == 1
-        state.expect(f"cuts: {line}: {changed[:80]}", (found[0], found[1], named, after), (3, b"", True, changed))
+        named = (
+            line == "sagas: log: no-header\n"
+            or line.startswith(("sagas: log: line ", "sagas: log: no "))
+            and line.count("\n") == 1
+        )
+        state.expect(
+            f"cuts: {line}: {changed[:80]}",
+            (found[0], found[1], named, after),
+            (3, b"", True, changed),
+        )
 
     texts = [text[:place] for place in range(len(text))]
-    texts += [text[:place] + byte + text[place + 1 :] for place in range(len(text)) for byte in (b"\0", b"\xff", b"}")]
+    texts += [
+        text[:place] + byte + text[place + 1 :]
+        for place in range(len(text))
+        for byte in (b"\0", b"\xff", b"}")
+    ]
     with concurrent.futures.ThreadPoolExecutor(PROCESSORS) as pool:
         list(pool.map(tried, range(len(texts)), texts))
     return len(texts), "texts"
@@ -1430,7 +1872,14 @@ def calls_of(path):
 def story(state, log, settings, at_once):
     """A saga of `pair` is driven until the program ends, or no task is left; gives the replies, the status and the lines."""
     driven = Driven(state, state.defined("pair"), log, settings)
-    requests = [request for request, _ in UNDONE] + [report(0, 0, "ok"), opening(0), NEXT, aborting(1), report(1, 0, "fail"), NEXT]
+    requests = [request for request, _ in UNDONE] + [
+        report(0, 0, "ok"),
+        opening(0),
+        NEXT,
+        aborting(1),
+        report(1, 0, "fail"),
+        NEXT,
+    ]
     replies = []
     if at_once:
         driven.send(*requests)
@@ -1465,7 +1914,13 @@ def refused_once(state, kind, number, error, at_once, cut):
     told_by = log.with_name(f"{log.name}.told")
     log.write_bytes(cut)
     library = state.libraries / "unwritten.so"
-    settings = {"LD_PRELOAD": str(library), "FAIL": kind, "NUMBER": str(number), "ERROR": str(error), "TOLD": str(told_by)}
+    settings = {
+        "LD_PRELOAD": str(library),
+        "FAIL": kind,
+        "NUMBER": str(number),
+        "ERROR": str(error),
+        "TOLD": str(told_by),
+    }
     replies, status, said_then = story(state, log, settings, at_once)
     refusals, early = calls_of(told_by)
     if refusals < 0:
@@ -1473,7 +1928,9 @@ def refused_once(state, kind, number, error, at_once, cut):
     state.expect(f"{name}: replies before a sync", early, 0)
     note = f"sagas: log: cut line taken away: {len(cut) - cut.rfind(LF) - 1} bytes\n" if cut else ""
     if refusals != 0:
-        state.expect(name, (refusals > 0, status, said_then), (True, 4, refusal(log, kind, number, error)))
+        state.expect(
+            name, (refusals > 0, status, said_then), (True, 4, refusal(log, kind, number, error))
+        )
         if cut and not replies and log.read_bytes() == cut:
             return True
     else:
@@ -1484,8 +1941,14 @@ def refused_once(state, kind, number, error, at_once, cut):
     driven = Driven(state, state.defined("pair"), log)
     driven.ask(BUSY)
     status, line = driven.end()
-    state.expect(f"{name}: another start", (status, line if not line.startswith("sagas: log: cut line taken away: ") else ""), (0, ""))
-    left = kept[:-1] if kept and b'"start_plan"' in kept[-1] else kept  # a plan that its last line begins is made anew
+    state.expect(
+        f"{name}: another start",
+        (status, line if not line.startswith("sagas: log: cut line taken away: ") else ""),
+        (0, ""),
+    )
+    left = (
+        kept[:-1] if kept and b'"start_plan"' in kept[-1] else kept
+    )  # a plan that its last line begins is made anew
     state.expect(f"{name}: the log after it", whole_lines(log)[1:], left)
     state.audited(log, state.defined("pair"))
     return refusals != 0
@@ -1502,8 +1965,17 @@ def writes(state):
     """Each write, sync and cut of the log's file, the sync of its folder and each read of requests is refused in turn, with one request at
     a time and with all at once."""
     refused = 0
-    cases = [(kind, error, at_once, b"") for kind in ("write", "half", "sync") for error in (errno.ENOSPC, errno.EIO) for at_once in (False, True)]
-    cases += [("read", error, at_once, b"") for error in (errno.EIO, errno.ENOMEM) for at_once in (False, True)]
+    cases = [
+        (kind, error, at_once, b"")
+        for kind in ("write", "half", "sync")
+        for error in (errno.ENOSPC, errno.EIO)
+        for at_once in (False, True)
+    ]
+    cases += [
+        ("read", error, at_once, b"")
+        for error in (errno.EIO, errno.ENOMEM)
+        for at_once in (False, True)
+    ]
     cases += [("folder", errno.EIO, False, b""), ("truncate", errno.EIO, False, HEADER + OPEN[:7])]
 
     def tried(case):
@@ -1533,8 +2005,15 @@ def memory_once(state, number, the_rest, wanted):
     name = f"memory: growth {number}{' and the rest' if the_rest else ''}"
     log = state.folder / f"memory.{number}.{the_rest}"
     told_by = log.with_name(f"{log.name}.told")
-    settings = {"LD_PRELOAD": str(state.libraries / "refusing.so"), "COUNT": "all", "REFUSE": str(number), "TOLD": str(told_by)}
-    driven = Driven(state, state.defined("pair"), log, settings | ({"REST": "1"} if the_rest else {}))
+    settings = {
+        "LD_PRELOAD": str(state.libraries / "refusing.so"),
+        "COUNT": "all",
+        "REFUSE": str(number),
+        "TOLD": str(told_by),
+    }
+    driven = Driven(
+        state, state.defined("pair"), log, settings | ({"REST": "1"} if the_rest else {})
+    )
     replies, faults = [], 0
     for request, reply in wanted:
         before = events_in(log)
@@ -1554,7 +2033,9 @@ def memory_once(state, number, the_rest, wanted):
     if refusals < 0:
         return state.fail(f"{name}: status {status}: {line}") or False
     started = line != "sagas: out of memory\n"
-    state.expect(f"{name}: the end", (status, line), (0, "") if started else (4, "sagas: out of memory\n"))
+    state.expect(
+        f"{name}: the end", (status, line), (0, "") if started else (4, "sagas: out of memory\n")
+    )
     if not started and replies:
         state.fail(f"{name}: it ended after replies")
     if refusals == 0 and faults:
@@ -1571,12 +2052,20 @@ TOGETHER = 12
 
 def many_refused_once(state, number, the_rest):
     """A run in which a growth of memory is refused, or all from it on, while many tasks are asked for at once: those that have begun are
-    told, and each once. Gives whether there was such a growth, and whether it came in the middle."""
+    told, and each once. Gives whether there was such a growth, and whether it came in the middle.
+    """
     name = f"memory: many tasks, growth {number}{' and the rest' if the_rest else ''}"
     log = state.folder / f"many.{number}.{the_rest}"
     told_by = log.with_name(f"{log.name}.told")
-    settings = {"LD_PRELOAD": str(state.libraries / "refusing.so"), "COUNT": "all", "REFUSE": str(number), "TOLD": str(told_by)}
-    driven = Driven(state, state.defined("pair"), log, settings | ({"REST": "1"} if the_rest else {}))
+    settings = {
+        "LD_PRELOAD": str(state.libraries / "refusing.so"),
+        "COUNT": "all",
+        "REFUSE": str(number),
+        "TOLD": str(told_by),
+    }
+    driven = Driven(
+        state, state.defined("pair"), log, settings | ({"REST": "1"} if the_rest else {})
+    )
     opened_ones, tasks, faults, cut = 0, [], 0, False
     while opened_ones < TOGETHER or tasks[-1:] != [task("run", TOGETHER - 1, 0, "a")]:
         before = events_in(log)
@@ -1594,7 +2083,11 @@ def many_refused_once(state, number, the_rest):
     status, line = driven.end()
     refusals, _ = calls_of(told_by)
     if status == 0:
-        state.expect(f"{name}: tasks", tasks, [task("run", saga, 0, "a") for saga in range(len(tasks) if faults else TOGETHER)])
+        state.expect(
+            f"{name}: tasks",
+            tasks,
+            [task("run", saga, 0, "a") for saga in range(len(tasks) if faults else TOGETHER)],
+        )
         state.expect(f"{name}: the log", events_in(log).splitlines(True)[opened_ones:], told(tasks))
     else:
         state.expect(f"{name}: the end", (status, line, tasks), (4, "sagas: out of memory\n", []))
@@ -1609,7 +2102,12 @@ def many_refused(state):
     with concurrent.futures.ThreadPoolExecutor(PROCESSORS) as pool:
         for the_rest in (False, True):
             for first in range(0, 5000, 64):
-                tried = list(pool.map(lambda number: many_refused_once(state, number, the_rest), range(first, first + 64)))
+                tried = list(
+                    pool.map(
+                        lambda number: many_refused_once(state, number, the_rest),
+                        range(first, first + 64),
+                    )
+                )
                 refused += sum(met for met, _ in tried)
                 cut = cut or any(of_one for _, of_one in tried)
                 if not all(met for met, _ in tried):
@@ -1620,7 +2118,15 @@ def many_refused(state):
 
 def memory(state):
     """Each growth of memory is refused in turn, alone and with all behind it."""
-    requests = [request for request, _ in UNDONE] + [report(0, 0, "ok"), opening(0), NEXT, aborting(1), report(1, 0, "fail"), NEXT, b"{\n"]
+    requests = [request for request, _ in UNDONE] + [
+        report(0, 0, "ok"),
+        opening(0),
+        NEXT,
+        aborting(1),
+        report(1, 0, "fail"),
+        NEXT,
+        b"{\n",
+    ]
     requests += [opening(0), {"do": "ready"}, {"do": "list"}, {"do": "status"}, shown(0)]
     _, replies, _ = state.ran(state.defined("pair"), None, b"".join(map(line_of, requests)))
     wanted = list(zip(requests, map(json.loads, replies.splitlines())))
@@ -1628,7 +2134,12 @@ def memory(state):
     with concurrent.futures.ThreadPoolExecutor(PROCESSORS) as pool:
         for the_rest in (False, True):
             for first in range(0, 5000, 64):
-                met = list(pool.map(lambda number: memory_once(state, number, the_rest, wanted), range(first, first + 64)))
+                met = list(
+                    pool.map(
+                        lambda number: memory_once(state, number, the_rest, wanted),
+                        range(first, first + 64),
+                    )
+                )
                 refused += sum(met)
                 if not all(met):
                     break
@@ -1654,7 +2165,11 @@ def lock(state):
     state.expect("lock: the log", log.read_bytes(), before)
     state.expect("lock: the first goes on", driven.ask(NEXT), task("run", 0, 0, "a"))
     state.expect("lock: the end of the first", driven.end(), (0, ""))
-    state.expect("lock: after it", state.ran(pair, log, line_of(BUSY)), (0, line_of({"busy": [task("run", 0, 0, "a")]}), b""))
+    state.expect(
+        "lock: after it",
+        state.ran(pair, log, line_of(BUSY)),
+        (0, line_of({"busy": [task("run", 0, 0, "a")]}), b""),
+    )
     with log.open("rb") as file:
         fcntl.flock(file, fcntl.LOCK_SH)
         state.expect("lock: of a reader", state.ran(pair, log, b""), LOCKED)
@@ -1663,7 +2178,12 @@ def lock(state):
 
 def run_of(state, log, definitions):
     """Runs definitions with a log; gives status, output and errors."""
-    done = subprocess.run([state.program, "run", "--log", log, *definitions], capture_output=True, check=False, timeout=60)
+    done = subprocess.run(
+        [state.program, "run", "--log", log, *definitions],
+        capture_output=True,
+        check=False,
+        timeout=60,
+    )
     return done.returncode, done.stdout, done.stderr
 
 
@@ -1671,7 +2191,9 @@ def refused_runs(state, pair, log):
     """A run whose log a drive or a reader holds is refused, by its path or by a link, before anything is run or written."""
     driven = Driven(state, pair, log)
     # (its first answer says that it holds the log)
-    state.expect("lock: the drive before the runs", driven.ask(BUSY), {"busy": [task("run", 0, 0, "a")]})
+    state.expect(
+        "lock: the drive before the runs", driven.ask(BUSY), {"busy": [task("run", 0, 0, "a")]}
+    )
     before = log.read_bytes()
     for name, path in [("its path", log), ("a link", state.folder / "link.log")]:
         state.expect(f"lock: a run by {name}", run_of(state, path, pair), LOCKED)
@@ -1680,7 +2202,11 @@ def refused_runs(state, pair, log):
     bad.write_text("x")
     state.expect("lock: a run of a text that is no definition", run_of(state, log, [bad]), LOCKED)
     none = state.folder / "none"
-    state.expect("lock: a run without a file", run_of(state, log, [none]), (4, b"", f"sagas: cannot read {none}\n".encode()))
+    state.expect(
+        "lock: a run without a file",
+        run_of(state, log, [none]),
+        (4, b"", f"sagas: cannot read {none}\n".encode()),
+    )
     state.expect("lock: the drive goes on", driven.ask(BUSY), {"busy": [task("run", 0, 0, "a")]})
     state.expect("lock: the end of the drive", driven.end(), (0, ""))
     with log.open("rb") as file:
@@ -1689,7 +2215,9 @@ def refused_runs(state, pair, log):
     state.expect("lock: the log after the runs", log.read_bytes(), before)
     status, report, errors = run_of(state, log, pair)
     state.expect("lock: a run after them", (status, errors), (0, b""))
-    state.expect("lock: its log", run_of(state, state.folder / "other.log", pair), (status, report, b""))
+    state.expect(
+        "lock: its log", run_of(state, state.folder / "other.log", pair), (status, report, b"")
+    )
     state.expect("lock: the file", log.read_bytes(), (state.folder / "other.log").read_bytes())
     return 5
 
@@ -1716,7 +2244,9 @@ def held_by_a_run(state, pair, log):
     before = log.read_bytes() + b"{"
     log.write_bytes(before)
     out, into = full_pipe()
-    child = subprocess.Popen([state.program, "run", "--log", log, *pair], stdout=into, stderr=subprocess.PIPE)
+    child = subprocess.Popen(
+        [state.program, "run", "--log", log, *pair], stdout=into, stderr=subprocess.PIPE
+    )
     os.close(into)
     patience = time.monotonic() + 60
     while not is_held(log) and child.poll() is None and time.monotonic() < patience:
@@ -1728,7 +2258,9 @@ def held_by_a_run(state, pair, log):
         report.read()
     state.expect("lock: the end of the run", (child.wait(60), child.stderr.read()), (0, b""))
     child.stderr.close()
-    state.expect("lock: the log of the run", log.read_bytes(), (state.folder / "other.log").read_bytes())
+    state.expect(
+        "lock: the log of the run", log.read_bytes(), (state.folder / "other.log").read_bytes()
+    )
     return 2
 
 
@@ -1779,7 +2311,9 @@ main(process.argv[2]);
 def serve(state, service, folder, lines=None):
     """Runs the service in a folder, and kills it, with its child, once it has printed so many lines; gives what it printed."""
     settings = os.environ | {"SAGAS": str(state.program), "PYTHONDONTWRITEBYTECODE": "1"}
-    child = subprocess.Popen([*service, folder], env=settings, stdout=subprocess.PIPE, text=True, start_new_session=True)
+    child = subprocess.Popen(
+        [*service, folder], env=settings, stdout=subprocess.PIPE, text=True, start_new_session=True
+    )
     printed = []
     for line in child.stdout:
         printed.append(line)
@@ -1827,7 +2361,10 @@ def service(state):
         folder.mkdir()
         printed = serve(state, one, folder)
         wanted = (printed[-2:], sorted(json.loads((folder / "bookings.json").read_text())))
-        ended = ["trip 0: ended: committed committed committed\n", "trip 1: ended: committed undone failed\n"]
+        ended = [
+            "trip 0: ended: committed committed committed\n",
+            "trip 1: ended: committed undone failed\n",
+        ]
         state.expect(f"{one[1].name}: the end", (printed[-2:], len(wanted[1])), (ended, 6))
         late(state, answers_late, wanted)
         runs += [(one, lines, wanted) for lines in range(1, len(printed) - 1)]
@@ -1853,9 +2390,20 @@ SECTIONS = {
 
 def main():
     parser = argparse.ArgumentParser(description=__doc__.splitlines()[0])
-    parser.add_argument("--program", type=pathlib.Path, default=ROOT / "crates/saga_tool/out/saga_tool", help="the program `sagas`")
-    parser.add_argument("--fixed-shelf", action="store_true", help="the program adds no definitions while it runs")
-    parser.add_argument("--libraries", type=pathlib.Path, help="the folder of the preloaded libraries; without it nothing is refused, and power stays on")
+    parser.add_argument(
+        "--program",
+        type=pathlib.Path,
+        default=ROOT / "crates/saga_tool/out/saga_tool",
+        help="the program `sagas`",
+    )
+    parser.add_argument(
+        "--fixed-shelf", action="store_true", help="the program adds no definitions while it runs"
+    )
+    parser.add_argument(
+        "--libraries",
+        type=pathlib.Path,
+        help="the folder of the preloaded libraries; without it nothing is refused, and power stays on",
+    )
     parser.add_argument("--only", choices=SECTIONS, help="one section alone")
     parser.add_argument("--kills", type=int, default=50, help="how many kills")
     parser.add_argument("--seed", type=int, default=1, help="the first seed")
@@ -1863,13 +2411,18 @@ def main():
     bad = 0
     counts = []
     for name, section in SECTIONS.items():
-        if words.only not in (None, name) or (name in ("power", "writes", "memory") and not words.libraries):
+        if words.only not in (None, name) or (
+            name in ("power", "writes", "memory") and not words.libraries
+        ):
             continue
         with tempfile.TemporaryDirectory() as folder:
             state = State(words, folder)
             begin = time.monotonic()
             count, what = section(state)
-            print(f"{name}: {count:,} {what}, {len(state.wrong)} wrong, {time.monotonic() - begin:.1f} s", flush=True)
+            print(
+                f"{name}: {count:,} {what}, {len(state.wrong)} wrong, {time.monotonic() - begin:.1f} s",
+                flush=True,
+            )
         for line in state.wrong[:8]:
             print(f"wrong: {line}")
         counts.append(count)

@@ -22,7 +22,9 @@ from pathlib import Path
 from refusing import TOP, build, path_of, refused, run
 
 # A line about a fault; its last word, or words, name the fault.
-FAULT = re.compile(rb"sagas: (?:definition|case|answer|log|script)(?: 0)?: ((?:line \d+: )?[a-z]+(?:-[a-z]+)*|busy \d+|line \d+)\n")
+FAULT = re.compile(
+    rb"sagas: (?:definition|case|answer|log|script)(?: 0)?: ((?:line \d+: )?[a-z]+(?:-[a-z]+)*|busy \d+|line \d+)\n"
+)
 
 # How many places of a text one task goes through.
 PLACES = 64
@@ -67,13 +69,23 @@ def judged(short: Path) -> Iterator[Judged]:
     examples = TOP / "examples"
     for name in ("order", "trip", "server", "licence"):
         definition, case = f"{examples}/{name}.toml", f"{examples}/{name}.case.json"
-        files = [("definition", definition), ("case", case), ("answer", f"{examples}/{name}.answer.json")]
+        files = [
+            ("definition", definition),
+            ("case", case),
+            ("answer", f"{examples}/{name}.answer.json"),
+        ]
         files += [("script", str(path)) for path in sorted(examples.glob(f"{name}*.script"))]
         files += [("log", str(path)) for path in sorted(examples.glob(f"{name}*.log"))]
         for kind, path in files:
-            yield Judged(f"{kind} {Path(path).name}", Path(path).read_bytes(), words_of(kind, definition, case))
+            yield Judged(
+                f"{kind} {Path(path).name}",
+                Path(path).read_bytes(),
+                words_of(kind, definition, case),
+            )
     for kind, text in SHORT.items():
-        yield Judged(f"shortest {kind}", text, words_of(kind, str(short / "definition"), str(short / "case")))
+        yield Judged(
+            f"shortest {kind}", text, words_of(kind, str(short / "definition"), str(short / "case"))
+        )
 
 
 def variants(text: bytes, places: range) -> Iterator[tuple[str, bytes]]:
@@ -90,7 +102,9 @@ def outcome(status: int, out: bytes, err: bytes) -> str | None:
     if status in (0, 1) and out and not err:
         return "an answer" if status == 0 else "no"
     fault = FAULT.fullmatch(err)
-    return fault[1].decode().split(": ")[-1].split()[0] if status == 3 and not out and fault else None
+    return (
+        fault[1].decode().split(": ")[-1].split()[0] if status == 3 and not out and fault else None
+    )
 
 
 def go_through(asked: Judged, places: range) -> tuple[collections.Counter[str], list[str]]:
@@ -106,7 +120,9 @@ def go_through(asked: Judged, places: range) -> tuple[collections.Counter[str], 
             found = run(words, room)
             name = outcome(found.status, found.out, found.err)
             if name is None:
-                wrong.append(f"{asked.name} {what}: status {found.status}: {found.out[:80]!r} {found.err[:160]!r}")
+                wrong.append(
+                    f"{asked.name} {what}: status {found.status}: {found.out[:80]!r} {found.err[:160]!r}"
+                )
             else:
                 counts[name] += 1
     return counts, wrong
@@ -145,7 +161,9 @@ MADE: dict[str, Callable[[int], str]] = {
     "word in json": lambda n: '{"kind":"' + "\\u0061" * n + '"}',
     "keys in json": lambda n: '{"kind":"plan"' + numbered(n, lambda i: f',"k{i}":0') + "}",
     "states in json": lambda n: '{"states":[' + '"waiting",' * n + '"failed"]}',
-    "amounts in json": lambda n: '{"cost":0,"kept":[],"kind":"plan","links":[],"stand":[],"leave":[' + "7," * n + "7]}",
+    "amounts in json": lambda n: '{"cost":0,"kept":[],"kind":"plan","links":[],"stand":[],"leave":['
+    + "7," * n
+    + "7]}",
     "chain in json": lambda n: BLOCKED + "7," * n + "7]}",
     "digits in json": lambda n: BLOCKED + "7" * n + "]}",
     "small objects": lambda n: "[" + '{"a":0},' * n + "0]",
@@ -213,18 +231,32 @@ def grow(library: Path, kind: str, name: str, count: int, comes: str) -> tuple[s
             text = MADE[name](many).encode()
             (room / "text").write_bytes(text)
             said = comes.replace("{}", str(many)).replace("{+}", str(many + 1))
-            wanted = (1, f"{said}\n", "") if said.startswith("no ") else (3, "", f"sagas: {kind}: {said}\n")
-            found, told = refused(library, None, [str(room / "text") if word == "{}" else word for word in words], room)
+            wanted = (
+                (1, f"{said}\n", "")
+                if said.startswith("no ")
+                else (3, "", f"sagas: {kind}: {said}\n")
+            )
+            found, told = refused(
+                library,
+                None,
+                [str(room / "text") if word == "{}" else word for word in words],
+                room,
+            )
             what = f"{name}, {len(text)} bytes"
             if (found.status, found.out.decode(), found.err.decode()) != wanted:
-                wrong.append(f"{what}: status {found.status}: {found.out[:80]!r} {found.err[:80]!r}")
+                wrong.append(
+                    f"{what}: status {found.status}: {found.out[:80]!r} {found.err[:80]!r}"
+                )
             held = told.held / len(text) if told else 0.0
             if not 0 < held <= (TIMES_OF_SMALL if name in SMALL else TIMES[kind]):
                 wrong.append(f"{what}: {held:.0f} times as many held")
             took.append(found.seconds)
     if took[1] > 10 * took[0] + 0.05:
         wrong.append(f"{name}: {took[0]:.3f} and {took[1]:.3f} seconds")
-    return f"{f'{kind}: {name}':32} {len(text):9} bytes {took[1]:6.3f} s, at half {took[0]:6.3f} s; held {held:4.0f} times the text", wrong
+    return (
+        f"{f'{kind}: {name}':32} {len(text):9} bytes {took[1]:6.3f} s, at half {took[0]:6.3f} s; held {held:4.0f} times the text",
+        wrong,
+    )
 
 
 def main() -> int:
@@ -232,22 +264,31 @@ def main() -> int:
     path_of("program")
     texts = 0
     wrong: list[str] = []
-    with tempfile.TemporaryDirectory(prefix="hostile-") as folder, ProcessPoolExecutor(os.cpu_count()) as pool:
+    with tempfile.TemporaryDirectory(prefix="hostile-") as folder, ProcessPoolExecutor(
+        os.cpu_count()
+    ) as pool:
         for kind, text in SHORT.items():
             (Path(folder) / kind).write_bytes(text)
         library = build(Path(folder))
         all_judged = list(judged(Path(folder)))
         parts = [
-            [pool.submit(go_through, asked, range(at, min(at + PLACES, len(asked.text) + 1))) for at in range(0, len(asked.text) + 1, PLACES)]
+            [
+                pool.submit(go_through, asked, range(at, min(at + PLACES, len(asked.text) + 1)))
+                for at in range(0, len(asked.text) + 1, PLACES)
+            ]
             for asked in all_judged
         ]
         grown = [pool.submit(grow, library, *row) for row in GROWN]
         for asked, tasks in zip(all_judged, parts):
             found = [task.result() for task in tasks]
-            counts: collections.Counter[str] = sum((part[0] for part in found), collections.Counter())
+            counts: collections.Counter[str] = sum(
+                (part[0] for part in found), collections.Counter()
+            )
             texts += counts.total()
             wrong += [line for part in found for line in part[1]]
-            print(f"{asked.name:28} {', '.join(f'{count} {name}' for name, count in counts.most_common())}")
+            print(
+                f"{asked.name:28} {', '.join(f'{count} {name}' for name, count in counts.most_common())}"
+            )
         for task in grown:
             line, faults = task.result()
             texts += 2

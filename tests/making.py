@@ -23,13 +23,22 @@ def chain(steps: int) -> str:
 def greatest(steps: int) -> str:
     """A definition of steps that cost the most, and cannot be run or kept."""
     price = 'run = "never"\nundo = 1000000000\nskip = 1000000000\nkeep = "never"\n'
-    return 'format = 1\nname = "greatest"\n' + "".join(f'\n[[step]]\nname = "s{step}"\n{price}' for step in range(steps))
+    return 'format = 1\nname = "greatest"\n' + "".join(
+        f'\n[[step]]\nname = "s{step}"\n{price}' for step in range(steps)
+    )
 
 
 def greatest_plan(steps: int, first: int = 2_000_000_000) -> str:
     """The plan of such steps, all committed; with another amount for leaving out the first."""
     amounts = [2_000_000_000] * steps
-    plan = {"cost": sum(amounts), "kept": [], "kind": "plan", "leave": [first, *amounts[1:]], "links": [], "stand": amounts}
+    plan = {
+        "cost": sum(amounts),
+        "kept": [],
+        "kind": "plan",
+        "leave": [first, *amounts[1:]],
+        "links": [],
+        "stand": amounts,
+    }
     return json.dumps(plan, separators=(",", ":")) + "\n"
 
 
@@ -53,18 +62,31 @@ def named(name: str, needs: int, steps: int = 1024, lines: str = "") -> str:
 
 def alike(steps: int, lines: str) -> str:
     """A definition of so many steps without needs, each of which has these lines."""
-    return 'format = 1\nname = "alike"\n' + "".join(f'\n[[step]]\nname = "s{step}"\n{lines}\n' for step in range(steps))
+    return 'format = 1\nname = "alike"\n' + "".join(
+        f'\n[[step]]\nname = "s{step}"\n{lines}\n' for step in range(steps)
+    )
 
 
 def backward(steps: int) -> str:
     """A definition of steps in a chain, each of which needs the one behind it in the file."""
     needs = [f'needs = ["s{step}"]\n' for step in range(1, steps)] + [""]
-    return 'format = 1\nname = "backward"\n' + "".join(f'\n[[step]]\nname = "s{step}"\n{need}' for step, need in enumerate(needs))
+    return 'format = 1\nname = "backward"\n' + "".join(
+        f'\n[[step]]\nname = "s{step}"\n{need}' for step, need in enumerate(needs)
+    )
 
 
-def plan_of(cost: int, kept: list[int], leave: list[int], stand: list[int], links: list[int]) -> str:
+def plan_of(
+    cost: int, kept: list[int], leave: list[int], stand: list[int], links: list[int]
+) -> str:
     """The text of a plan as the program writes it."""
-    plan = {"cost": cost, "kept": kept, "kind": "plan", "leave": leave, "links": links, "stand": stand}
+    plan = {
+        "cost": cost,
+        "kept": kept,
+        "kind": "plan",
+        "leave": leave,
+        "links": links,
+        "stand": stand,
+    }
     return json.dumps(plan, separators=(",", ":")) + "\n"
 
 
@@ -102,7 +124,10 @@ def log(deeds: str, *answers: str, header: bool = False) -> str:
 
 def committed(sagas: int, steps: int) -> str:
     """Deeds of so many sagas, each of so many steps without needs, which are all committed one after the other."""
-    of_each = [[f"{saga}:{word} {step}" for step in range(steps) for word in ("start_run", "commit")] for saga in range(sagas)]
+    of_each = [
+        [f"{saga}:{word} {step}" for step in range(steps) for word in ("start_run", "commit")]
+        for saga in range(sagas)
+    ]
     return ",".join(deed for saga, deeds in enumerate(of_each) for deed in [f"{saga}:open", *deeds])
 
 
@@ -137,12 +162,18 @@ def up_to(deeds: str, count: int) -> str:
 
 def asked(talk: str, first: int = 0) -> str:
     """The requests of a talk, whose replies stand below them, each by four spaces further in; from the one of that number on."""
-    return "".join(f"{line}\n" for line in [line for line in talk.splitlines() if not line.startswith("    ")][first:])
+    return "".join(
+        f"{line}\n"
+        for line in [line for line in talk.splitlines() if not line.startswith("    ")][first:]
+    )
 
 
 def answered(talk: str, first: int = 0) -> str:
     """The replies of a talk, likewise."""
-    return "".join(f"{line[4:]}\n" for line in [line for line in talk.splitlines() if line.startswith("    ")][first:])
+    return "".join(
+        f"{line[4:]}\n"
+        for line in [line for line in talk.splitlines() if line.startswith("    ")][first:]
+    )
 
 
 def replied(**value) -> str:
@@ -157,14 +188,20 @@ def opened(saga: int) -> str:
 
 def ready(*sagas: int, steps: int = 60, more: int | None = None) -> str:
     """The reply that the actions of all steps of these sagas may begin, whose definition is `alike`."""
-    tasks = [{"attempt": 1, "name": f"s{step}", "saga": saga, "step": step, "task": "run"} for saga in sagas for step in range(steps)]
+    tasks = [
+        {"attempt": 1, "name": f"s{step}", "saga": saga, "step": step, "task": "run"}
+        for saga in sagas
+        for step in range(steps)
+    ]
     return replied(ready=tasks, **({} if more is None else {"more": more}))
 
 
 def ended(sagas: int, steps: int) -> str:
     """The report of a run of so many sagas, whose definition is `alike`, of which nothing failed."""
     of_steps = "".join(f"{step:4} committed s{step}\n" for step in range(steps))
-    of_sagas = "".join(f"saga {saga} alike ended\n{of_steps}plans 0 cost none\n" for saga in range(sagas))
+    of_sagas = "".join(
+        f"saga {saga} alike ended\n{of_steps}plans 0 cost none\n" for saga in range(sagas)
+    )
     return f"{of_sagas}sagas {sagas} ended {sagas} stuck 0 events {sagas * (1 + 2 * steps)}\n"
 
 

@@ -47,18 +47,34 @@ def history(*events: str) -> str:
 
 
 PLAN = LEAVING.format(3, "1,2,0", "0,0", "1,2,0")
-GONE = ("open", "start_run 0", "commit 0", "start_run 1", "commit 1", "start_run 2", "fail 2", "start_plan", f"adopt {PLAN}")
+GONE = (
+    "open",
+    "start_run 0",
+    "commit 0",
+    "start_run 1",
+    "commit 1",
+    "start_run 2",
+    "fail 2",
+    "start_plan",
+    f"adopt {PLAN}",
+)
 BACK = ("start_undo 1", "undone 1", "start_undo 0", "undone 0")
 HEADER = '{"format":2}\n'
 
 # The files that the rows name.
 FILES = {
     "trip": definition('format = 1\nname = "trip"'),
-    "costly": definition('format = 1\nname = "trip"').replace("undo = 1", "undo = 70000").replace("keep = 5", "keep = 900000"),
-    "free": definition('format = 1\nname = "trip"').replace("undo = 1", "undo = 0").replace("undo = 2", "undo = 0"),
+    "costly": definition('format = 1\nname = "trip"')
+    .replace("undo = 1", "undo = 70000")
+    .replace("keep = 5", "keep = 900000"),
+    "free": definition('format = 1\nname = "trip"')
+    .replace("undo = 1", "undo = 0")
+    .replace("undo = 2", "undo = 0"),
     "stubborn": definition('format = 2\nname = "stubborn"', b=", tries = 3, undo_tries = 3"),
     "forced": definition('format = 1\nname = "forced"', c=', skip = "never"'),
-    "ring": definition('format = 1\nname = "ring"').replace('name = "a"', 'name = "a", needs = ["c"]'),
+    "ring": definition('format = 1\nname = "ring"').replace(
+        'name = "a"', 'name = "a", needs = ["c"]'
+    ),
     "case": '{"states":["committed","committed","failed"]}\n',
     "answer": f"{PLAN}\n",
     "chain": '{"chain":[2],"kind":"blocked"}\n',
@@ -76,7 +92,9 @@ FILES = {
     "cut": HEADER + history(*GONE) + '{"event":"start_un',
     "planning": HEADER + history(*GONE[:8]),
     "broken": HEADER + history(*GONE[:3]) + "{}\n",
-    "many": "".join(history(*GONE, *BACK).replace('"saga":0', f'"saga":{saga}') for saga in range(3)),
+    "many": "".join(
+        history(*GONE, *BACK).replace('"saga":0', f'"saga":{saga}') for saga in range(3)
+    ),
 }
 FILES["parts"] = "---\n".join(FILES[name] for name in ("trip", "case", "answer"))
 
@@ -94,11 +112,33 @@ def said(outcome: str, step: int) -> bytes:
 NEXT, BUSY, SHOW = asked(do="next"), asked(do="busy"), asked(do="show", saga=0)
 
 # Requests of each kind, on the trip.
-TALK = b"".join([
-    asked(do="open", **{"def": 0}), NEXT, BUSY, said("ok", 0), asked(do="take", saga=0, step=1), said("ok", 1), SHOW, NEXT, said("fail", 2), NEXT,
-    NEXT, said("ok", 1), asked(do="open", **{"def": 0}), asked(do="abort", saga=1), NEXT, BUSY, asked(do="show", saga=7), b"{\n",
-    SHOW, asked(do="open", **{"def": 0}), asked(do="ready"), asked(do="list", phase="going"), asked(do="status"),
-])  # fmt: skip
+TALK = b"".join(
+    [
+        asked(do="open", **{"def": 0}),
+        NEXT,
+        BUSY,
+        said("ok", 0),
+        asked(do="take", saga=0, step=1),
+        said("ok", 1),
+        SHOW,
+        NEXT,
+        said("fail", 2),
+        NEXT,
+        NEXT,
+        said("ok", 1),
+        asked(do="open", **{"def": 0}),
+        asked(do="abort", saga=1),
+        NEXT,
+        BUSY,
+        asked(do="show", saga=7),
+        b"{\n",
+        SHOW,
+        asked(do="open", **{"def": 0}),
+        asked(do="ready"),
+        asked(do="list", phase="going"),
+        asked(do="status"),
+    ]
+)
 
 # Commands: a name, and words, of which `{x}` is the path of the file x. Behind `<` stands the file of standard input, or the talk.
 ROWS = [
@@ -134,7 +174,7 @@ ROWS = [
     ("drive,not-legal", "drive --log {going} {free} < talk"),
     ("drive,faulty", "drive --log {broken} {trip} < talk"),
     ("--help", "--help"),
-]  # fmt: skip
+]
 
 NO_MEMORY = b'{"fault":"out-of-memory"}'
 NOTE = re.compile(rb"sagas: log: cut line taken away: \d+ bytes\n")
@@ -158,7 +198,12 @@ class Command:
         paths = {name: str(room / name) for name in ("made", *FILES)}
         named = words.format(**paths).split()
         log = Path(named[named.index("--log") + 1]) if "--log" in named else None
-        return Command([path_of("program"), *named], room / stdin.strip("{} ") if stdin else Path(os.devnull), log, room)
+        return Command(
+            [path_of("program"), *named],
+            room / stdin.strip("{} ") if stdin else Path(os.devnull),
+            log,
+            room,
+        )
 
     def laid(self) -> None:
         """Writes the files anew that a run may have changed."""
@@ -183,20 +228,29 @@ def stands(log: bytes, command: Command) -> bool:
     """Whether an audit says yes to the log of a run."""
     path = command.room / "audited"
     path.write_bytes(log)
-    definitions = [word for word in command.words if Path(word).name in ("trip", "stubborn", "forced")]
-    return run([path_of("program"), "audit", str(path), *definitions], command.room).out.startswith(b"yes ")
+    definitions = [
+        word for word in command.words if Path(word).name in ("trip", "stubborn", "forced")
+    ]
+    return run([path_of("program"), "audit", str(path), *definitions], command.room).out.startswith(
+        b"yes "
+    )
 
 
 def stopped_rightly(command: Command, found: Run, whole: bytes | None) -> bool:
     """Whether a run that stopped has whole events: its report tells of as many as its log has, which is legal; no step is busy and no saga
-    planning. With one worker they are the first events of the whole run, but for a plan that was dropped."""
+    planning. With one worker they are the first events of the whole run, but for a plan that was dropped.
+    """
     report, log = STOPPED.search(found.out), command.written()
     if not report or re.search(rb"running|undoing|planning", found.out):
         return False
     if log is None:
         return True
     events = log.decode().removeprefix(HEADER).splitlines()
-    kept = events[:-1] if events and '"drop_plan"' in events[-1] and '"start_plan"' in events[-2] else events
+    kept = (
+        events[:-1]
+        if events and '"drop_plan"' in events[-1] and '"start_plan"' in events[-2]
+        else events
+    )
     alone = "--workers" not in command.words
     first = (whole or b"").decode().removeprefix(HEADER).splitlines()[: len(kept)]
     return len(events) == int(report[2]) and (not alone or kept == first) and stands(log, command)
@@ -216,8 +270,12 @@ def told_rightly(command: Command, found: Run, whole: Run, before: bytes) -> boo
     events = [reply["event"] for reply in map(json.loads, replies) if "event" in reply]
     added = [json.loads(line) for line in log.removeprefix(before or HEADER.encode()).splitlines()]
     begun = ("start_run", "start_undo", "start_plan", "adopt")
-    tasks = sum({"run": 1, "undo": 1, "plan": 2}.get(json.loads(reply).get("task"), 0) for reply in replies)
-    return [line for line in added if line["event"] not in begun] == events and len(added) == len(events) + tasks
+    tasks = sum(
+        {"run": 1, "undo": 1, "plan": 2}.get(json.loads(reply).get("task"), 0) for reply in replies
+    )
+    return [line for line in added if line["event"] not in begun] == events and len(added) == len(
+        events
+    ) + tasks
 
 
 def is_right(command: Command, found: Run, whole: Run, log: bytes | None) -> bool:
@@ -233,7 +291,11 @@ def is_right(command: Command, found: Run, whole: Run, log: bytes | None) -> boo
     start = FILES.get(command.log.name, "").encode() if command.log else b""
     note = NOTE.match(found.err)
     starts = (kept_of(command),) if note else (None, start, HEADER.encode())
-    return found.err[note.end() if note else 0 :] == b"sagas: out of memory\n" and not found.out and command.written() in starts
+    return (
+        found.err[note.end() if note else 0 :] == b"sagas: out of memory\n"
+        and not found.out
+        and command.written() in starts
+    )
 
 
 def commanded(library: Path, row: str, the_rest: bool) -> tuple[int, str]:
@@ -251,7 +313,10 @@ def commanded(library: Path, row: str, the_rest: bool) -> tuple[int, str]:
             command.laid()
             found, told = refused(library, number, command.words, room, command.stdin, **more)
             if told is None or not is_right(command, found, whole, log):
-                return number, f"growth {number}: status {found.status}: {found.err[:200]!r} {found.out[-300:]!r} {command.written()!r}"
+                return (
+                    number,
+                    f"growth {number}: status {found.status}: {found.err[:200]!r} {found.out[-300:]!r} {command.written()!r}",
+                )
             if told.refused == 0:
                 return number, ""
     return MOST, "growths without end"
@@ -280,12 +345,20 @@ def trials(room: Path) -> list[tuple[str, str]]:
 def main(words: list[str]) -> int:
     """Runs all rows, or with a word the commands alone, and gives the status."""
     path_of("program")
-    with tempfile.TemporaryDirectory(prefix="memory-") as folder, ProcessPoolExecutor(os.cpu_count()) as pool:
+    with tempfile.TemporaryDirectory(prefix="memory-") as folder, ProcessPoolExecutor(
+        os.cpu_count()
+    ) as pool:
         library = build(Path(folder))
         rows: list[tuple[str, str, Future[tuple[int, str]]]] = []
         for name, row in ROWS:
             for the_rest in (False, True):
-                rows.append((f"sagas {name}{', and all behind it' if the_rest else ''}", "each", pool.submit(commanded, library, row, the_rest)))
+                rows.append(
+                    (
+                        f"sagas {name}{', and all behind it' if the_rest else ''}",
+                        "each",
+                        pool.submit(commanded, library, row, the_rest),
+                    )
+                )
         for how, name in [] if words == ["commands"] else trials(Path(folder)):
             rows.append((name, how, pool.submit(tried, library, how, name)))
         met = wrong = 0
@@ -295,7 +368,11 @@ def main(words: list[str]) -> int:
             met += count
             if how == "each" and count == 0 and not fault:
                 fault, wrong = "no growth was refused", wrong + 1
-            print(f"wrong: {name}: {fault}" if fault else f"{name:48} {count if how == 'each' else how:>5}")
+            print(
+                f"wrong: {name}: {fault}"
+                if fault
+                else f"{name:48} {count if how == 'each' else how:>5}"
+            )
     print(f"memory: {len(rows)} rows, {met} growths refused in turn, {wrong} wrong")
     return 1 if wrong or not rows else 0
 

@@ -19,13 +19,20 @@ SECONDS = 120
 def path_of(which: str) -> str:
     """The path of the `program` sagas, or of saga_trials (`trials`), which the variable SAGAS, or TRIALS, names where it is set."""
     named = os.environ.get("SAGAS" if which == "program" else "TRIALS")
-    return named or subprocess.run([TOP / "tests" / which], check=True, stdout=subprocess.PIPE, text=True).stdout.strip()
+    return (
+        named
+        or subprocess.run(
+            [TOP / "tests" / which], check=True, stdout=subprocess.PIPE, text=True
+        ).stdout.strip()
+    )
 
 
 def build(folder: Path) -> Path:
     """Builds the library in a folder, and gives its path."""
     library = folder / "refusing.so"
-    subprocess.run(["gcc", "-O2", "-shared", "-fPIC", "-o", library, TOP / "tests" / "refusing.c"], check=True)
+    subprocess.run(
+        ["gcc", "-O2", "-shared", "-fPIC", "-o", library, TOP / "tests" / "refusing.c"], check=True
+    )
     return library
 
 
@@ -39,7 +46,12 @@ class Run:
     seconds: float
 
 
-def run(words: list[str], room: Path, stdin: Path = Path(os.devnull), settings: dict[str, str] | None = None) -> Run:
+def run(
+    words: list[str],
+    room: Path,
+    stdin: Path = Path(os.devnull),
+    settings: dict[str, str] | None = None,
+) -> Run:
     """Runs a program by its path, which is the first word; what it prints goes through files of the folder `room`."""
     out, err = room / ".out", room / ".err"
     flags = os.O_WRONLY | os.O_CREAT | os.O_TRUNC
@@ -53,7 +65,12 @@ def run(words: list[str], room: Path, stdin: Path = Path(os.devnull), settings: 
     signal.alarm(SECONDS)
     _, status, used = os.wait4(child, 0)
     signal.alarm(0)
-    return Run(os.waitstatus_to_exitcode(status), out.read_bytes(), err.read_bytes(), used.ru_utime + used.ru_stime)
+    return Run(
+        os.waitstatus_to_exitcode(status),
+        out.read_bytes(),
+        err.read_bytes(),
+        used.ru_utime + used.ru_stime,
+    )
 
 
 @dataclass(frozen=True)
@@ -65,11 +82,23 @@ class Told:
     held: int
 
 
-def refused(library: Path, number: int | None, words: list[str], room: Path, stdin: Path = Path(os.devnull), **more: str) -> tuple[Run, Told | None]:
+def refused(
+    library: Path,
+    number: int | None,
+    words: list[str],
+    room: Path,
+    stdin: Path = Path(os.devnull),
+    **more: str,
+) -> tuple[Run, Told | None]:
     """Runs a program to which one growth is refused, or none; also what the library told, if it came to that."""
     told = room / ".told"
     told.unlink(missing_ok=True)
-    settings = {"LD_PRELOAD": str(library), "TOLD": str(told), **({} if number is None else {"REFUSE": str(number)}), **more}
+    settings = {
+        "LD_PRELOAD": str(library),
+        "TOLD": str(told),
+        **({} if number is None else {"REFUSE": str(number)}),
+        **more,
+    }
     found = run(words, room, stdin, settings)
     if not told.exists():
         return found, None

@@ -32,9 +32,26 @@ SECONDS = 60
 # The keys that are texts, each of which is a file that the program is given.
 FILES = ("def", "case", "answer", "log", "script")
 KEYS = {
-    *FILES, "name", "args", "options", "status", "stdin", "stdout", "out", "has", "err", "err_has", "writes", "absent", "checked", "audited",
-    "times", "beside", "defines", "needs",
-}  # fmt: skip
+    *FILES,
+    "name",
+    "args",
+    "options",
+    "status",
+    "stdin",
+    "stdout",
+    "out",
+    "has",
+    "err",
+    "err_has",
+    "writes",
+    "absent",
+    "checked",
+    "audited",
+    "times",
+    "beside",
+    "defines",
+    "needs",
+}
 
 # What a program does with definitions that it is asked to add while it runs; a row may need either.
 SHELVES = ("define", "fixed-shelf")
@@ -56,7 +73,9 @@ class Row:
     def text(self, said: Any) -> bytes:
         """The bytes of a text: a string, `@NAME`, or a table `{ make = EXPRESSION }`."""
         if isinstance(said, dict):
-            made: object = eval(said["make"], {**vars(making), "text": lambda name: self.text(f"@{name}").decode()})
+            made: object = eval(
+                said["make"], {**vars(making), "text": lambda name: self.text(f"@{name}").decode()}
+            )
             return made if isinstance(made, bytes) else str(made).encode()
         if not said.startswith("@"):
             return str(said).encode()
@@ -84,20 +103,31 @@ class Run:
 
     def compare_pieces(self, what: str, found: bytes, pieces: list[str]) -> None:
         """Notes what was found, where it has not these pieces in this order."""
-        pattern = "*" + "*".join(piece.replace("[", "[[]").replace("*", "[*]").replace("?", "[?]") for piece in pieces) + "*"
+        pattern = (
+            "*"
+            + "*".join(
+                piece.replace("[", "[[]").replace("*", "[*]").replace("?", "[?]")
+                for piece in pieces
+            )
+            + "*"
+        )
         if not fnmatch.fnmatchcase(found.decode(errors="replace"), pattern):
             self.wrong.append(f"{what}: {shown(found)}\n    wanted pieces: {pieces}")
 
 
 def shown(text: bytes) -> str:
     """A text as a line, cut where it is long."""
-    return repr(text[:300].decode(errors="replace")) + (f" .. of {len(text)} bytes" if len(text) > 300 else "")
+    return repr(text[:300].decode(errors="replace")) + (
+        f" .. of {len(text)} bytes" if len(text) > 300 else ""
+    )
 
 
 def rows_of(path: Path) -> Iterator[Row]:
     """The rows of a file, those of its tables among them, in order."""
     command = path.parent.name
-    common = tomllib.loads((ROWS / "texts.toml").read_text()) if (ROWS / "texts.toml").exists() else {}
+    common = (
+        tomllib.loads((ROWS / "texts.toml").read_text()) if (ROWS / "texts.toml").exists() else {}
+    )
     data = tomllib.loads(path.read_text())
     texts = {**common, **data.get("texts", {})}
     rows: list[dict[str, Any]] = list(data.get("row", []))
@@ -112,7 +142,9 @@ def rows_of(path: Path) -> Iterator[Row]:
         place = f"{command}/{path.stem}: {row.get('name', '')}"
         unknown = set(row) - KEYS
         if unknown or not row.get("name") or row["name"] in names:
-            raise BadRow(f"{place}: {f'unknown keys {sorted(unknown)}' if unknown else 'it needs a name of its own'}")
+            raise BadRow(
+                f"{place}: {f'unknown keys {sorted(unknown)}' if unknown else 'it needs a name of its own'}"
+            )
         if row.get("needs", SHELVES[0]) not in SHELVES:
             raise BadRow(f"{place}: it needs one of {', '.join(SHELVES)}")
         names.add(row["name"])
@@ -140,7 +172,11 @@ def words_of(row: Row, paths: dict[str, list[str]], room: Path) -> list[str]:
     """The words of the command line."""
     if "args" in row.keys:
         places = {"room": str(room), **{key: found[0] for key, found in paths.items()}}
-        places |= {f"{key}{number}": path for key, found in paths.items() for number, path in enumerate(found)}
+        places |= {
+            f"{key}{number}": path
+            for key, found in paths.items()
+            for number, path in enumerate(found)
+        }
         words = []
         for word in row.keys["args"]:
             more = row.keys.get("times", 1) if word == "{def}" else 1
@@ -169,14 +205,26 @@ def words_of(row: Row, paths: dict[str, list[str]], room: Path) -> list[str]:
 @functools.cache
 def program() -> str:
     """The path of the program."""
-    return os.environ.get("SAGAS") or subprocess.run([TOP / "tests" / "program"], check=True, stdout=subprocess.PIPE, text=True).stdout.strip()
+    return (
+        os.environ.get("SAGAS")
+        or subprocess.run(
+            [TOP / "tests" / "program"], check=True, stdout=subprocess.PIPE, text=True
+        ).stdout.strip()
+    )
 
 
 def sagas(words: list[str], stdin: Any, stdout: Any = subprocess.PIPE) -> Run:
     """Runs the program on standard input, which is bytes or a file."""
     given: dict[str, Any] = {"input": stdin} if isinstance(stdin, bytes) else {"stdin": stdin}
     try:
-        done = subprocess.run([program(), *words], **given, stdout=stdout, stderr=subprocess.PIPE, cwd=TOP, timeout=SECONDS)
+        done = subprocess.run(
+            [program(), *words],
+            **given,
+            stdout=stdout,
+            stderr=subprocess.PIPE,
+            cwd=TOP,
+            timeout=SECONDS,
+        )
     except subprocess.TimeoutExpired:
         return Run(-1, b"", b"", [f"not ended after {SECONDS} seconds"])
     return Run(done.returncode, done.stdout or b"", done.stderr)
@@ -243,7 +291,11 @@ def look(row: Row, run: Run, paths: dict[str, list[str]], room: Path) -> None:
         run.compare("the log", log.read_bytes() if log.exists() else b"", row.text(keys["writes"]))
     if "defines" in keys:
         beside = room / "log.definitions"
-        run.compare("the definitions beside it", beside.read_bytes() if beside.exists() else b"", row.text(keys["defines"]))
+        run.compare(
+            "the definitions beside it",
+            beside.read_bytes() if beside.exists() else b"",
+            row.text(keys["defines"]),
+        )
     if keys.get("absent") and Path(keys["absent"].format(room=room)).exists():
         run.wrong.append(f"{keys['absent']} was written")
     if "checked" in keys:

@@ -94,7 +94,12 @@ class Driver:
                     self.say({"note": "missed"})
                 else:
                     told = dataclasses.asdict(event)
-                    self.say({"note": "event", "event": {name: told[name] for name in told if told[name] is not None}})
+                    self.say(
+                        {
+                            "note": "event",
+                            "event": {name: told[name] for name in told if told[name] is not None},
+                        }
+                    )
 
     def do_events_stop(self) -> Words:
         assert self.stream
@@ -106,9 +111,16 @@ class Driver:
     # -- workers
 
     def do_worker(
-        self, worker: str, url: str | list[str], token: str | None, steps: list[str],
-        concurrency: int, lease: float, wait: float, quiet: bool = False,
-    ) -> Words:  # fmt: skip
+        self,
+        worker: str,
+        url: str | list[str],
+        token: str | None,
+        steps: list[str],
+        concurrency: int,
+        lease: float,
+        wait: float,
+        quiet: bool = False,
+    ) -> Words:
         one = sagas.Worker(url, token, concurrency=concurrency, lease=lease, wait=wait, name=worker)
         for step in steps:
             saga, _, name = step.partition("/")
@@ -210,7 +222,15 @@ class Driver:
         while not released.wait(0.05):
             if not is_deaf and task.cancelled.is_set():
                 why = "lease" if task.cancelled.reason == "lost" else "abort"
-                self.say({"note": "canceled", "worker": worker, "key": task.key, "step": task.step, "why": why})
+                self.say(
+                    {
+                        "note": "canceled",
+                        "worker": worker,
+                        "key": task.key,
+                        "step": task.step,
+                        "why": why,
+                    }
+                )
                 raise sagas.Fail("no") if word == "hold" else sagas.Unknown("who knows")
 
 
@@ -233,9 +253,12 @@ def told_of(error: Exception) -> Words:
     if isinstance(error, sagas.ServiceRefused):
         return {"name": error.name, "status": error.status, "text": str(error)}
     kinds = {
-        sagas.ServiceUnavailable: "Unreachable", sagas.SagasError: type(error).__name__,
-        TimeoutError: "Timeout", ValueError: "InvalidArgument", TypeError: "InvalidArgument",
-    }  # fmt: skip
+        sagas.ServiceUnavailable: "Unreachable",
+        sagas.SagasError: type(error).__name__,
+        TimeoutError: "Timeout",
+        ValueError: "InvalidArgument",
+        TypeError: "InvalidArgument",
+    }
     name = next((name for kind, name in kinds.items() if isinstance(error, kind)), "Other")
     return {"name": name, "status": 0, "text": repr(error)}
 

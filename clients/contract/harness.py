@@ -73,9 +73,12 @@ class Driver:
         path = f"{TOP / 'python/src'}{os.pathsep}{os.environ.get('PYTHONPATH', '')}"
         self.errors = tempfile.TemporaryFile()
         self.process = subprocess.Popen(
-            command, stdin=subprocess.PIPE, stdout=subprocess.PIPE, stderr=self.errors,
+            command,
+            stdin=subprocess.PIPE,
+            stdout=subprocess.PIPE,
+            stderr=self.errors,
             env=os.environ | {"PYTHONPATH": path},
-        )  # fmt: skip
+        )
         self.notes: list[Words] = []
         self._numbers = itertools.count(1)
         self._answers: dict[int, Future[Any]] = {}

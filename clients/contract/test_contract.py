@@ -34,11 +34,13 @@ MANNER = "".join(
     f'[step.{step}]\nbackoff = {{ initial = 0.01 }}\nundo_on_exhausted = "fail"\n' for step in "ab"
 )
 DEFINITIONS = {
-    "pair.toml": PAIR, "pair.service.toml": MANNER,
-    "solo.toml": PAIR.replace("pair", "solo"), "solo.service.toml": MANNER,
+    "pair.toml": PAIR,
+    "pair.service.toml": MANNER,
+    "solo.toml": PAIR.replace("pair", "solo"),
+    "solo.service.toml": MANNER,
     "asked.toml": 'format = 2\nname = "asked"\n[[step]]\nname = "sign"\nundo = "never"\n',
     "asked.service.toml": '[step.sign]\nkind = "approval"\n',
-}  # fmt: skip
+}
 SHOP = """import sagas
 order = sagas.Saga("order")
 ship = order.step(external=True, name="ship", for_each="parcels", undo=1, keep=9, skip=2)
@@ -49,11 +51,22 @@ fair.include(order, name="stall", given=lambda task: {"from": task.key})
 store = sagas.open("unused.db", [order, fair])
 """
 """Sagas whose steps come from their input."""
-ITEMS = ["order/ship", "order/ship/undo", "order/mail", "fair/stall/ship", "fair/stall/ship/undo", "fair/stall/mail"]
+ITEMS = [
+    "order/ship",
+    "order/ship/undo",
+    "order/mail",
+    "fair/stall/ship",
+    "fair/stall/ship/undo",
+    "fair/stall/mail",
+]
 STEPS = ["pair/a", "pair/a/undo", "pair/b"]
 SOLO = [step.replace("pair", "solo") for step in STEPS]
 """The same definition twice: all cases share a worker of `pair`, and have workers of their own for `solo`."""
-TOKENS = {"contract": ("operator", None), "weak": ("worker", ["pair/a"]), "caller": ("caller", None)}
+TOKENS = {
+    "contract": ("operator", None),
+    "weak": ("worker", ["pair/a"]),
+    "caller": ("caller", None),
+}
 COUNT = itertools.count()
 Words = dict[str, Any]
 Make = Callable[[], Driver]
@@ -74,9 +87,13 @@ def command() -> Iterator[Made]:
 
 @pytest.fixture(
     scope="module",
-    params=[pytest.param(one, marks=pytest.mark.xdist_group(one)) for one in ("sqlite", "postgresql")],
+    params=[
+        pytest.param(one, marks=pytest.mark.xdist_group(one)) for one in ("sqlite", "postgresql")
+    ],
 )
-def service(request: pytest.FixtureRequest, tokens: dict[str, str], tmp_path_factory: pytest.TempPathFactory) -> Iterator[Served]:
+def service(
+    request: pytest.FixtureRequest, tokens: dict[str, str], tmp_path_factory: pytest.TempPathFactory
+) -> Iterator[Served]:
     folder = tmp_path_factory.mktemp("service")
     for name, (role, steps) in TOKENS.items():
         limits = auth.limits_of([role], {} if steps is None else {"steps": list(steps)})
@@ -122,7 +139,9 @@ def make(service: Served, operator: str, language: str, command: Made) -> Iterat
         yield lambda: driven(stack, service, operator, language, command)
 
 
-def driven(stack: contextlib.ExitStack, service: Served, operator: str, language: str, command: Made) -> Driver:
+def driven(
+    stack: contextlib.ExitStack, service: Served, operator: str, language: str, command: Made
+) -> Driver:
     one = Driver(command(language))
     stack.callback(one.kill)
     assert one.ask("open", url=service.url, token=operator) == {"language": language}
@@ -140,7 +159,12 @@ def fresh(word: str = "k") -> str:
 
 def script(*words: str, **more: list[str]) -> Words:
     """An input: what `a` does, and the others."""
-    return {"script": {"a": list(words), **{name.replace("_", "/"): done for name, done in more.items()}}}
+    return {
+        "script": {
+            "a": list(words),
+            **{name.replace("_", "/"): done for name, done in more.items()},
+        }
+    }
 
 
 def played(driver: Driver, given: Any, key: str | None = None) -> Words:
@@ -166,7 +190,13 @@ def test_outcomes(driver: Driver, language: str) -> None:
         "exhausted": (script("retry"), "recovered", 3, 0, 0),
         "unknown": (script(*unknowns, "ok"), "completed", 1 + len(unknowns), 1, 0),
         "undone": (script("ok", b=["fail"]), "recovered", 1, 1, 1),
-        "undone at last": (script("ok", b=["retry"], a_undo=["unknown", "ok"]), "recovered", 1, 3, 2),
+        "undone at last": (
+            script("ok", b=["retry"], a_undo=["unknown", "ok"]),
+            "recovered",
+            1,
+            3,
+            2,
+        ),
     }
     keys = {name: fresh("outcome") for name in cases}
     for name, (given, *_) in cases.items():
@@ -198,10 +228,25 @@ def nested(depth: int) -> Any:
 
 
 ODD = [
-    "", "ünïcödé \u2028 \U0001f600 \x00 \x7f \"quoted\" \\ back", 2**53 + 1, -(2**70), 0.1, 1e300, -0.5,
-    True, None, [], {}, {"": {"ß/~": [1, [2, {"x": None}]]}}, "9007199254740993", "1" * 40, nested(60),
-    {"bigint:": 12345678901234567890}, [1234567890123456789, "\\\"1234567890123456789"], "y" * 900_000,
-]  # fmt: skip
+    "",
+    'ünïcödé \u2028 \U0001f600 \x00 \x7f "quoted" \\ back',
+    2**53 + 1,
+    -(2**70),
+    0.1,
+    1e300,
+    -0.5,
+    True,
+    None,
+    [],
+    {},
+    {"": {"ß/~": [1, [2, {"x": None}]]}},
+    "9007199254740993",
+    "1" * 40,
+    nested(60),
+    {"bigint:": 12345678901234567890},
+    [1234567890123456789, '\\"1234567890123456789'],
+    "y" * 900_000,
+]
 
 
 def test_items(driver: Driver, service: Served, operator: str) -> None:
@@ -212,17 +257,33 @@ def test_items(driver: Driver, service: Served, operator: str) -> None:
     assert driver.ask("start", definition="order", key=listed, input=said)["new"]
     assert driver.ask("wait", key=listed, timeout=LONG)["phase"] == "recovered"
     calls = {one["step"]: one for one in driver.calls(listed, "order/ship")}
-    assert {(one["declared_step"], one["index"], one["item_key"]) for one in calls.values()} == {("ship", 0, None), ("ship", 1, None)}
-    assert (calls["ship-0"]["item"], calls["ship-1"]["item"], calls["ship-1"]["given"]) == ({"to": "Rome"}, 7, None)
+    assert {(one["declared_step"], one["index"], one["item_key"]) for one in calls.values()} == {
+        ("ship", 0, None),
+        ("ship", 1, None),
+    }
+    assert (calls["ship-0"]["item"], calls["ship-1"]["item"], calls["ship-1"]["given"]) == (
+        {"to": "Rome"},
+        7,
+        None,
+    )
     (mail,) = driver.calls(listed, "order/mail")
     assert mail["results"]["ship"] == [{"done": "ship-0"}, {"done": "ship-1"}]
-    assert (mail["declared_step"], mail["index"], mail["item_key"], mail["item"]) == ("mail", None, None, None)
+    assert (mail["declared_step"], mail["index"], mail["item_key"], mail["item"]) == (
+        "mail",
+        None,
+        None,
+        None,
+    )
     said = {"script": {"ship-1": ["fail"]}, "parcels": {"a b": 1, "c/ü": [2]}}
     assert driver.ask("start", definition="order", key=keyed, input=said)["new"]
     assert driver.ask("wait", key=keyed, timeout=LONG)["phase"] == "recovered"
-    found = {(one["index"], one["item_key"]): one["item"] for one in driver.calls(keyed, "order/ship")}
+    found = {
+        (one["index"], one["item_key"]): one["item"] for one in driver.calls(keyed, "order/ship")
+    }
     assert found == {(0, "a b"): 1, (1, "c/ü"): [2]}
-    assert driver.ask("start", definition="fair", key=fair, input={"script": {}, "parcels": ["x"]})["new"]
+    assert driver.ask("start", definition="fair", key=fair, input={"script": {}, "parcels": ["x"]})[
+        "new"
+    ]
     assert driver.ask("wait", key=fair, timeout=LONG)["phase"] == "completed"
     (one,) = driver.calls(fair, "fair/stall/ship")
     assert (one["step"], one["declared_step"], one["item"]) == ("stall-ship-0", "stall/ship", "x")
@@ -282,15 +343,27 @@ def test_callers(driver: Driver, service: Served) -> None:
     assert refused("start", definition="none", key=fresh(), input=None) == "NoSuchDefinition"
     assert refused("start", definition="asked", key="a\nb", input=None) == "InvalidKey"
     assert refused("get", key="none") == refused("wait", key="none", timeout=1) == "NoSuchSaga"
-    assert refused("abort", key="none") == refused("complete", key="none", step="sign", result=1) == "NoSuchSaga"
+    assert (
+        refused("abort", key="none")
+        == refused("complete", key="none", step="sign", result=1)
+        == "NoSuchSaga"
+    )
     assert refused("wait", key=key, timeout=0.05) == "Timeout"
     saga = ask("get", key=key)
-    assert (saga["phase"], saga["over"], saga["definition"], saga["input"]) == ("open", False, "asked", {"n": 1})
+    assert (saga["phase"], saga["over"], saga["definition"], saga["input"]) == (
+        "open",
+        False,
+        "asked",
+        {"n": 1},
+    )
     assert refused("complete", key=key, step="none", result=1) == "StepNotWaiting"
     waiting = driver.send("wait", key=key, timeout=LONG)
     assert ask("complete", key=key, step="sign", result={"by": "Ada"}, note="seen") == {}
     assert ask("complete", key=key, step="sign", result={"by": "Ada"}) == {}
-    assert refused("complete", key=key, step="sign", result={"by": "Bob"}) in ("ConflictingReport", "StepNotWaiting")
+    assert refused("complete", key=key, step="sign", result={"by": "Bob"}) in (
+        "ConflictingReport",
+        "StepNotWaiting",
+    )
     end = waiting.result(LONG)
     assert end["phase"] == "completed" and end["results"] == {"sign": {"by": "Ada"}}
     assert ask("abort", key=key) == {"aborted": False}
@@ -309,7 +382,9 @@ def test_callers(driver: Driver, service: Served) -> None:
     rest = [fresh("listed") for _ in range(5)]
     for one in rest:
         ask("start", definition="asked", key=one, input=None, labels=labels)
-    assert ask("list", page=2, definition="asked", labels=labels, phase="open")["keys"] == rest[::-1]
+    assert (
+        ask("list", page=2, definition="asked", labels=labels, phase="open")["keys"] == rest[::-1]
+    )
     assert ask("list", page=100, labels=labels)["keys"] == [*rest[::-1], failed, key]
     assert ask("list", page=100, search=rest[0])["keys"] == [rest[0]]
     assert ask("list", page=100, labels={"customer": "nobody"})["keys"] == []
@@ -330,13 +405,32 @@ def test_rights(make: Make, service: Served, tokens: dict[str, str]) -> None:
     key = fresh()
     assert driver.ask("start", definition="asked", key=key, input=None)["new"]
     assert driver.refused("complete", key=key, step="sign", result=None) == "Forbidden"
-    for name, given in {"wrong": "sagas_wrong", "none": None, "caller": caller, "weak": weak}.items():
+    for name, given in {
+        "wrong": "sagas_wrong",
+        "none": None,
+        "caller": caller,
+        "weak": weak,
+    }.items():
         work(driver, url, given, name)
         (ended,) = driver.heard("worker_ended", worker=name)
-        assert ended["error"]["name"] == ("Forbidden" if name in ("caller", "weak") else "Unauthorized")
+        assert ended["error"]["name"] == (
+            "Forbidden" if name in ("caller", "weak") else "Unauthorized"
+        )
     work(driver, url, weak, "one", steps=["pair/a"])
     driver.ask("stop", worker="one")
-    assert driver.refused("worker", worker="x", url="nowhere", token=None, steps=STEPS, concurrency=1, lease=1, wait=1) == "InvalidArgument"
+    assert (
+        driver.refused(
+            "worker",
+            worker="x",
+            url="nowhere",
+            token=None,
+            steps=STEPS,
+            concurrency=1,
+            lease=1,
+            wait=1,
+        )
+        == "InvalidArgument"
+    )
 
 
 def test_events(make: Make, service: Served) -> None:
@@ -374,7 +468,9 @@ def test_restart_of_the_service(make: Make, service: Served, operator: str) -> N
     service.kill()
     for key in keys:
         driver.ask("release", key=key, step="a")
-    late = driver.send("start", definition="solo", key=(last := fresh("restart")), input=script("ok"))
+    late = driver.send(
+        "start", definition="solo", key=(last := fresh("restart")), input=script("ok")
+    )
     service.start()
     assert late.result(LONG)["key"] == last
     for key, wait in zip([*keys, last], [*waits, driver.send("wait", key=last, timeout=LONG)]):
@@ -390,9 +486,12 @@ def test_lost_answers(make: Make, service: Served, operator: str) -> None:
         driver, url = make(), f"http://127.0.0.1:{relay.port}"
         driver.ask("open", url=url, token=operator)
         for word, given in {
-            "/v1/sagas HTTP": script("ok"), "/complete": script("ok"), "/fail": script("retry", "ok"),
-            "/unknown": script("unknown", "ok"), "/claim": script("ok"),
-        }.items():  # fmt: skip
+            "/v1/sagas HTTP": script("ok"),
+            "/complete": script("ok"),
+            "/fail": script("retry", "ok"),
+            "/unknown": script("unknown", "ok"),
+            "/claim": script("ok"),
+        }.items():
             key = fresh("lost")
             relay.mark = word.encode() if word == "/v1/sagas HTTP" else None
             work(driver, url, operator, key, steps=SOLO, lease=3, wait=1)
@@ -400,7 +499,9 @@ def test_lost_answers(make: Make, service: Served, operator: str) -> None:
             driver.ask("start", definition="solo", key=key, input=given)
             end = driver.ask("wait", key=key, timeout=LONG)
             assert end["results"] == DONE and relay.mark is None, word
-            assert len(driver.calls(key, "solo/a")) == (2 if "ok" in given["script"]["a"][1:] else 1), word
+            assert len(driver.calls(key, "solo/a")) == (
+                2 if "ok" in given["script"]["a"][1:] else 1
+            ), word
             driver.ask("stop", worker=key)
 
 
@@ -442,7 +543,9 @@ def test_lost_lease(make: Make, service: Served, operator: str) -> None:
             while len(tasks) < 2:
                 tasks |= {one["key"]: one for one in take(client, "solo/a", lease=LONG, most=2)}
         driver.heard("canceled", key=key, why="lease")
-        driver.ask("release", key=done, step="a")  # `complete` counts under any lease that was issued
+        driver.ask(
+            "release", key=done, step="a"
+        )  # `complete` counts under any lease that was issued
         theirs = driver.calls(done, "solo/a")[0]
         assert tasks[done]["idempotency_key"] == theirs["idempotency_key"]
         assert report(client, tasks[key], result={"done": "a"}).status_code == 200
@@ -472,8 +575,13 @@ def test_abort_while_a_function_runs(make: Make, service: Served, operator: str)
     driver.ask("release", key=deaf, step="a")
     for key, states in ((listens, ("failed", "waiting")), (deaf, ("undone",))):
         end = driver.ask("wait", key=key, timeout=LONG)
-        assert (end["phase"], end["aborted"]) == ("recovered", True) and end["states"]["a"] in states
-        assert len(driver.calls(key, "solo/a/undo")) == ("undone" in states) and driver.calls(key, "solo/b") == []
+        assert (end["phase"], end["aborted"]) == ("recovered", True) and end["states"][
+            "a"
+        ] in states
+        assert (
+            len(driver.calls(key, "solo/a/undo")) == ("undone" in states)
+            and driver.calls(key, "solo/b") == []
+        )
     driver.ask("stop", worker="w")
 
 
@@ -529,8 +637,14 @@ def test_a_claim_that_is_answered_at_a_stop(make: Make, service: Served, operato
         assert stopped.result(LONG) == {}
         for step in ("a", "b"):
             (task,) = take(client, f"solo/{step}")
-            assert task["key"] == key and report(client, task, result={"done": step}).status_code == 200
-        assert driver.ask("wait", key=key, timeout=LONG)["results"] == DONE and driver.calls(key, "solo/a") == []
+            assert (
+                task["key"] == key
+                and report(client, task, result={"done": step}).status_code == 200
+            )
+        assert (
+            driver.ask("wait", key=key, timeout=LONG)["results"] == DONE
+            and driver.calls(key, "solo/a") == []
+        )
 
 
 def test_an_idle_stop_is_quick(make: Make, service: Served, operator: str) -> None:
@@ -539,14 +653,19 @@ def test_an_idle_stop_is_quick(make: Make, service: Served, operator: str) -> No
     before = service.told().count(claim)
     work(driver, service.url, operator, "idle", steps=["solo/a"], wait=30)
     until = time.monotonic() + LONG
-    while service.told().count(claim) == before and time.monotonic() < until:  # the first one, which does not wait
+    while (
+        service.told().count(claim) == before and time.monotonic() < until
+    ):  # the first one, which does not wait
         time.sleep(0.1)
     assert driver.send("stop", worker="idle").result(20) == {}
     driver.ask("start", definition="solo", key=key, input=script("ok"))
     with service.client(operator) as client:
         for step in ("a", "b"):
             (task,) = take(client, f"solo/{step}")
-            assert (task["key"], report(client, task, result={"done": step}).status_code) == (key, 200)
+            assert (task["key"], report(client, task, result={"done": step}).status_code) == (
+                key,
+                200,
+            )
     assert driver.ask("wait", key=key, timeout=LONG)["results"] == DONE
 
 

@@ -39,13 +39,28 @@ class Program:
     def start(self, ready: str) -> None:
         """Starts it, and waits until it says this."""
         self._ready, self._is_ready = ready, threading.Event()
-        path = os.pathsep.join([str(HERE), *map(os.path.abspath, filter(None, os.environ.get("PYTHONPATH", "").split(os.pathsep)))])
+        path = os.pathsep.join(
+            [
+                str(HERE),
+                *map(
+                    os.path.abspath,
+                    filter(None, os.environ.get("PYTHONPATH", "").split(os.pathsep)),
+                ),
+            ]
+        )
         try:
             self.process = subprocess.Popen(
-                self._words, env=os.environ | {"PYTHONPATH": path}, stdout=subprocess.PIPE, stderr=subprocess.STDOUT, text=True, start_new_session=True
+                self._words,
+                env=os.environ | {"PYTHONPATH": path},
+                stdout=subprocess.PIPE,
+                stderr=subprocess.STDOUT,
+                text=True,
+                start_new_session=True,
             )
         except FileNotFoundError:
-            raise SystemExit(f"{self._words[0]} is missing: apt-get install python3-celery python3-redis redis-server") from None
+            raise SystemExit(
+                f"{self._words[0]} is missing: apt-get install python3-celery python3-redis redis-server"
+            ) from None
         self._thread = threading.Thread(target=self._read)
         self._thread.start()
         self._is_ready.wait()
@@ -80,8 +95,23 @@ async def main(store: str) -> None:
 def run(folder: str) -> None:
     """A broker, a worker, the program, and what the worker did."""
     os.environ |= {"BROKER": f"redis+socket://{folder}/socket", "STORE": f"{folder}/trips.db"}
-    broker = Program("redis-server", "--port", "0", "--unixsocket", f"{folder}/socket", "--save", "")
-    worker = Program(sys.executable, "-m", "celery", "-A", "shop", "worker", "-Q", "flights,cars", "-c", "2", "-l", "INFO")
+    broker = Program(
+        "redis-server", "--port", "0", "--unixsocket", f"{folder}/socket", "--save", ""
+    )
+    worker = Program(
+        sys.executable,
+        "-m",
+        "celery",
+        "-A",
+        "shop",
+        "worker",
+        "-Q",
+        "flights,cars",
+        "-c",
+        "2",
+        "-l",
+        "INFO",
+    )
     broker.start("ready to accept")
     try:
         worker.start(" ready.")

@@ -11,7 +11,9 @@ import sagas
 import sagas.celery
 
 app = celery.Celery("shop", broker=os.environ.get("BROKER", "redis://localhost:6379"))
-app.conf.sagas_store = os.environ.get("STORE", "trips.db")  # what the workers report to: the store that run.py opens
+app.conf.sagas_store = os.environ.get(
+    "STORE", "trips.db"
+)  # what the workers report to: the store that run.py opens
 flights = sagas.celery.Queue(app, "flights", timeout=60)
 cars = sagas.celery.Queue(app, "cars", timeout=60)
 

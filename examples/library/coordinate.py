@@ -44,10 +44,18 @@ class Coordinator:
             self._size = max(self._size, used.value)
             buffer = ctypes.create_string_buffer(self._size)
             status = self._library.sagas_open(
-                ctypes.byref(self._inner), definition, size_t(len(definition)), ctypes.byref(span),
-                size_t(1), log, size_t(len(log)), ctypes.byref(log_used),
-                buffer, size_t(self._size), ctypes.byref(used),
-            )  # fmt: skip
+                ctypes.byref(self._inner),
+                definition,
+                size_t(len(definition)),
+                ctypes.byref(span),
+                size_t(1),
+                log,
+                size_t(len(log)),
+                ctypes.byref(log_used),
+                buffer,
+                size_t(self._size),
+                ctypes.byref(used),
+            )
         text = ctypes.string_at(buffer, used.value)
         if status != OK:
             raise ValueError(text.decode().strip() or f"status {status}")

@@ -83,7 +83,10 @@ async def main(path: pathlib.Path) -> None:
             print(f"{key}: one {wanted.item}")
             run = await store.start(order, key=key, input=wanted)
             end = await run.wait()
-            print(f"  {end.phase}: " + ", ".join(f"{step} {state}" for step, state in end.states.items()))
+            print(
+                f"  {end.phase}: "
+                + ", ".join(f"{step} {state}" for step, state in end.states.items())
+            )
 
 
 if __name__ == "__main__":

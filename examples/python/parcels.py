@@ -89,7 +89,9 @@ def try_to_ship(task: sagas.ItemTask[Order, Parcel]) -> str:
 @best_effort.step(needs=[sagas.collect(try_to_ship)])
 def report(task: sagas.Task[Order]) -> str:
     found = task.result_of(sagas.collect(try_to_ship))
-    return f"sent to {', '.join(map(str, found.results))}; not to {', '.join(map(str, found.errors))}"
+    return (
+        f"sent to {', '.join(map(str, found.results))}; not to {', '.join(map(str, found.errors))}"
+    )
 
 
 async def main(folder: pathlib.Path) -> None:

@@ -48,7 +48,9 @@ async def approve(task: sagas.Task[Wanted]) -> None:
 @provisioning.step(needs=[approve, address], tries=3, timeout=60)
 async def server(task: sagas.Task[Wanted]) -> str:
     """Starts the server at its address."""
-    print(f"  {task.key}: start a {task.input['size']} server at {task.result_of(address)}, approved by {task.results['approve']}")
+    print(
+        f"  {task.key}: start a {task.input['size']} server at {task.result_of(address)}, approved by {task.results['approve']}"
+    )
     return "server 4"
 
 
@@ -98,10 +100,15 @@ async def main(path: pathlib.Path) -> None:
             print(key)
             run = await store.start(provisioning, key=key, input=request)
             end = await run.wait()
-            print(f"  {end.phase}: " + ", ".join(f"{step} {state}" for step, state in end.states.items()))
+            print(
+                f"  {end.phase}: "
+                + ", ".join(f"{step} {state}" for step, state in end.states.items())
+            )
         answers.cancel()
 
 
 if __name__ == "__main__":
     with tempfile.TemporaryDirectory() as folder:
-        asyncio.run(main(pathlib.Path(sys.argv[1] if len(sys.argv) > 1 else f"{folder}/servers.db")))
+        asyncio.run(
+            main(pathlib.Path(sys.argv[1] if len(sys.argv) > 1 else f"{folder}/servers.db"))
+        )

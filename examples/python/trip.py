@@ -66,9 +66,14 @@ async def main(path: pathlib.Path) -> None:
     async with sagas.open(path, [trip]) as store:
         for key, rooms, seats in (("trip-1", 2, 9), ("trip-2", 0, 9), ("trip-3", 2, 0)):
             print(key)
-            run = await store.start(trip, key=key, input={"flight": "LH1166", "rooms": rooms, "seats": seats})
+            run = await store.start(
+                trip, key=key, input={"flight": "LH1166", "rooms": rooms, "seats": seats}
+            )
             end = await run.wait()
-            print(f"  {end.phase}, stands: {', '.join(end.results)}" + (f"; it costs {end.cost}" if end.cost else ""))
+            print(
+                f"  {end.phase}, stands: {', '.join(end.results)}"
+                + (f"; it costs {end.cost}" if end.cost else "")
+            )
 
 
 if __name__ == "__main__":

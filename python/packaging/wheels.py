@@ -59,7 +59,13 @@ def license_text() -> bytes:
 def sources() -> Iterator[tuple[str, bytes]]:
     for path in sorted(SOURCE.rglob("*")):
         if path.is_file() and path.suffix in (
-            ".py", ".typed", ".html", ".css", ".js", ".json", ".svg"
+            ".py",
+            ".typed",
+            ".html",
+            ".css",
+            ".js",
+            ".json",
+            ".svg",
         ):
             yield path.relative_to(HERE / "src").as_posix(), path.read_bytes()
 

@@ -56,12 +56,16 @@ def simple(function: Callable[[Task], Any], **words: Any) -> sagas.Saga:
     return saga
 
 
-async def ended(store: sagas.Store, saga: sagas.Saga, key: str = "k", given: Any = None) -> sagas.SagaResult:
+async def ended(
+    store: sagas.Store, saga: sagas.Saga, key: str = "k", given: Any = None
+) -> sagas.SagaResult:
     """A saga from its start to its end."""
     return await (await store.start(saga, key=key, input=given)).wait()
 
 
-async def surely_ended(store: sagas.Store, saga: sagas.Saga, key: str = "k", given: Any = None) -> sagas.SagaResult:
+async def surely_ended(
+    store: sagas.Store, saga: sagas.Saga, key: str = "k", given: Any = None
+) -> sagas.SagaResult:
     """The same, asked again while the store is away."""
     while True:
         try:

@@ -53,7 +53,22 @@ READY = r" ready\."
 
 def worker_words(queue: str, name: str) -> list[str]:
     """How a worker is started: as always, and with what is of no use here left out."""
-    words = [sys.executable, "-m", "celery", "-A", "celery_world", "worker", "-Q", queue, "-c", "2", "-n", f"{name}@%h", "-l", "INFO"]
+    words = [
+        sys.executable,
+        "-m",
+        "celery",
+        "-A",
+        "celery_world",
+        "worker",
+        "-Q",
+        queue,
+        "-c",
+        "2",
+        "-n",
+        f"{name}@%h",
+        "-l",
+        "INFO",
+    ]
     return [*words, "--without-gossip", "--without-mingle", "--without-heartbeat"]
 
 
@@ -82,24 +97,46 @@ class Strikes:
         path = f"{HERE.parent / 'src'}{os.pathsep}{HERE}"
         self.names = ("one", "two") if self.kind == NODES else ("owner",)
         self.store = self.server.create() if self.server else str(self.folder / "store.db")
-        told = {"STORE": self.store, "SOCKET": self.folder / "socket", "BROKER": self.broker.url, "QUEUE": self.queue}
-        self.environment = os.environ | {f"SAGAS_TEST_{word}": str(value) for word, value in told.items()}
-        self.environment |= {"PYTHONPATH": path, "SAGAS_PROGRAM": program(), "PYTHONUNBUFFERED": "1", "SAGAS_RECORD": str(self.folder / "record")} | ({} if self.wrong is None else {"SAGAS_TEST_PLAIN": "1"})
+        told = {
+            "STORE": self.store,
+            "SOCKET": self.folder / "socket",
+            "BROKER": self.broker.url,
+            "QUEUE": self.queue,
+        }
+        self.environment = os.environ | {
+            f"SAGAS_TEST_{word}": str(value) for word, value in told.items()
+        }
+        self.environment |= {
+            "PYTHONPATH": path,
+            "SAGAS_PROGRAM": program(),
+            "PYTHONUNBUFFERED": "1",
+            "SAGAS_RECORD": str(self.folder / "record"),
+        } | ({} if self.wrong is None else {"SAGAS_TEST_PLAIN": "1"})
 
     @property
     def is_late(self) -> bool:
         return time.monotonic() - self.began > self.most
 
     def start_owner(self, name: str) -> Program:
-        told = {"SAGAS_TEST_NODE": name} | ({"SAGAS_TEST_LEASE": str(LEASE)} if self.kind == NODES else {})
+        told = {"SAGAS_TEST_NODE": name} | (
+            {"SAGAS_TEST_LEASE": str(LEASE)} if self.kind == NODES else {}
+        )
         words = [sys.executable, str(HERE / "celery_world.py"), str(self.sagas)]
         self.owners[name] = Program(words, self.folder, self.environment | told, "owner.log")
         return self.owners[name]
 
     def start_worker(self) -> Program:
         self.workers += 1
-        words = [*worker_words(self.queue, f"w{self.workers}"), *(["-P", "solo"] if self.wrong is not None else [])]
-        self.worker = Program(words, self.folder, self.environment | ({"SAGAS_TEST_WRONG": self.wrong} if self.wrong else {}), "worker.log")
+        words = [
+            *worker_words(self.queue, f"w{self.workers}"),
+            *(["-P", "solo"] if self.wrong is not None else []),
+        ]
+        self.worker = Program(
+            words,
+            self.folder,
+            self.environment | ({"SAGAS_TEST_WRONG": self.wrong} if self.wrong else {}),
+            "worker.log",
+        )
         return self.worker
 
     def until_over(self) -> str | None:
@@ -125,7 +162,9 @@ class Strikes:
             name = self.draw.choice(list(left))
             owner = self.owners[name]
             with contextlib.suppress(TimeoutError):
-                owner.wait_for("^(done|closing)", seconds=self.draw.uniform(0.05, 0.8) if striking else 5)
+                owner.wait_for(
+                    "^(done|closing)", seconds=self.draw.uniform(0.05, 0.8) if striking else 5
+                )
             if not owner.runs or owner.has_said("^(done|closing)"):
                 owner.process.wait(60)
                 if owner.has_said("^done"):
@@ -153,7 +192,9 @@ class Strikes:
 
     def _worker(self) -> None:
         assert self.worker
-        if self.draw.random() < 0.5:  # its children see it by themselves, when they have ended what they do
+        if (
+            self.draw.random() < 0.5
+        ):  # its children see it by themselves, when they have ended what they do
             os.kill(self.worker.pid, signal.SIGKILL)
             self.worker.process.wait(60)
         self.worker.kill()
@@ -189,7 +230,9 @@ class Strikes:
         if self.draw.random() < 0.4:
             process = self.owners[name].process
             process.send_signal(signal.SIGSTOP)
-            time.sleep(self.draw.uniform(LEASE, 2 * LEASE))  # the other takes over, and this one goes on as if nothing had been
+            time.sleep(
+                self.draw.uniform(LEASE, 2 * LEASE)
+            )  # the other takes over, and this one goes on as if nothing had been
             process.send_signal(signal.SIGCONT)
             self.kills["a node stood still"] += 1
         else:
@@ -202,7 +245,9 @@ class Strikes:
             time.sleep(self.draw.choice((0.1, 2)))  # how long it is away
             self.server.start()
             return
-        with contextlib.closing(sqlite3.connect(self.folder / "store.db", isolation_level=None, timeout=10)) as db:
+        with contextlib.closing(
+            sqlite3.connect(self.folder / "store.db", isolation_level=None, timeout=10)
+        ) as db:
             db.execute("BEGIN EXCLUSIVE")
             self.kills["the store locked"] += 1
             time.sleep(self.draw.choice((0.3, 2.5)))  # how long it is away
@@ -212,12 +257,24 @@ class Strikes:
         if self.older:
             self.older.kill()
         words = worker_words(self.queue, f"o{self.kills['an older worker']}")
-        self.older = Program(words, self.folder, self.environment | {"SAGAS_TEST_OLD": "1"}, "older.log")
+        self.older = Program(
+            words, self.folder, self.environment | {"SAGAS_TEST_OLD": "1"}, "older.log"
+        )
         self.older.wait_for(READY)
         self.kills["an older worker"] += 1
 
 
-def play(kind: str, seed: int, broker: Broker, sagas: int, *, server: Server | None = None, most: float = 150, quiet: int = 6, wrong: str | None = None) -> Round:
+def play(
+    kind: str,
+    seed: int,
+    broker: Broker,
+    sagas: int,
+    *,
+    server: Server | None = None,
+    most: float = 150,
+    quiet: int = 6,
+    wrong: str | None = None,
+) -> Round:
     """One round: a store, its strikes, its judgement. Its files stay where something was found. With `wrong` there is no chance in it; the worker is one of `wrong_workers`, or where that is empty a right one."""
     folder = pathlib.Path(tempfile.mkdtemp(prefix="sagas-celery-"))
     strikes = Strikes(folder, kind, random.Random(seed), broker, server, sagas, most, quiet, wrong)
@@ -243,11 +300,18 @@ def _job(broker: str, store: str, kinds: list[str], seeds: list[int], sagas: int
     folder = pathlib.Path(tempfile.mkdtemp(prefix="sagas-broker-"))
     try:
         with broker_at(broker, folder) as running, contextlib.ExitStack() as stack:
-            server = stack.enter_context(serving({"fsync": "on"})) if store == "postgresql" else None
+            server = (
+                stack.enter_context(serving({"fsync": "on"})) if store == "postgresql" else None
+            )
             rounds = []
             for seed in seeds:
-                rounds.append(one := play(kinds[seed % len(kinds)], seed, running, sagas, server=server))
-                print(f"{broker} {store} {one.kind} {seed}: {dict(one.kills)} {one.found[:5]} {one.folder or ''}", flush=True)
+                rounds.append(
+                    one := play(kinds[seed % len(kinds)], seed, running, sagas, server=server)
+                )
+                print(
+                    f"{broker} {store} {one.kind} {seed}: {dict(one.kills)} {one.found[:5]} {one.folder or ''}",
+                    flush=True,
+                )
             return rounds
     finally:
         shutil.rmtree(folder, ignore_errors=True)
@@ -255,7 +319,9 @@ def _job(broker: str, store: str, kinds: list[str], seeds: list[int], sagas: int
 
 def main() -> int:
     """The command."""
-    parser = argparse.ArgumentParser(description=__doc__, formatter_class=argparse.RawDescriptionHelpFormatter)
+    parser = argparse.ArgumentParser(
+        description=__doc__, formatter_class=argparse.RawDescriptionHelpFormatter
+    )
     parser.add_argument("--rounds", type=int, default=20)
     parser.add_argument("--broker", default="redis", choices=sorted(BROKERS))
     parser.add_argument("--store", default="sqlite", choices=("sqlite", "postgresql"))
@@ -269,16 +335,30 @@ def main() -> int:
     seeds = range(words.seed, words.seed + words.rounds)
     began = time.monotonic()
     with concurrent.futures.ProcessPoolExecutor(words.jobs) as pool:
-        jobs = [pool.submit(_job, words.broker, words.store, words.kinds.split(","), list(seeds[job :: words.jobs]), words.sagas) for job in range(words.jobs)]
+        jobs = [
+            pool.submit(
+                _job,
+                words.broker,
+                words.store,
+                words.kinds.split(","),
+                list(seeds[job :: words.jobs]),
+                words.sagas,
+            )
+            for job in range(words.jobs)
+        ]
         rounds = [one for job in jobs for one in job.result()]
     kills, figures = Counter[str](), Counter[str]()
     for one in rounds:
         kills += one.kills
         figures += one.verdict.figures
     bad = sum(bool(one.found) for one in rounds)
-    print(f"{len(rounds)} rounds over {words.broker} and {words.store}, {bad} bad, seed {words.seed}, {time.monotonic() - began:.0f} s")
+    print(
+        f"{len(rounds)} rounds over {words.broker} and {words.store}, {bad} bad, seed {words.seed}, {time.monotonic() - began:.0f} s"
+    )
     for title, counted in (("strikes", kills), ("figures", figures)):
-        print(f"{title}: " + ", ".join(f"{name} {number}" for name, number in sorted(counted.items())))
+        print(
+            f"{title}: " + ", ".join(f"{name} {number}" for name, number in sorted(counted.items()))
+        )
     return 1 if bad else 0
 
 

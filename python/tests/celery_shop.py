@@ -42,19 +42,49 @@ class Seat:
 class Shop:
     """An app, a queue, and sagas whose functions note each call in a file."""
 
-    def __init__(self, broker: str, store: str, notes: str, queue: str = "shop", patience: float = 60.0, timeout: float = 300.0) -> None:
-        self.words = {"broker": broker, "store": store, "notes": notes, "queue": queue, "patience": patience, "timeout": timeout}
+    def __init__(
+        self,
+        broker: str,
+        store: str,
+        notes: str,
+        queue: str = "shop",
+        patience: float = 60.0,
+        timeout: float = 300.0,
+    ) -> None:
+        self.words = {
+            "broker": broker,
+            "store": store,
+            "notes": notes,
+            "queue": queue,
+            "patience": patience,
+            "timeout": timeout,
+        }
         self.app = celery.Celery("shop", broker=broker)
         self.app.conf.update(sagas_store=store, broker_connection_max_retries=None)
         self.queue = sagas.celery.Queue(self.app, queue, patience=patience, timeout=timeout)
         self.notes = pathlib.Path(notes)
-        self.trip, self.large, self.odd, self.slow, self.held = self._trip(), self._large(), self._odd(), self._slow(), self._held()
+        self.trip, self.large, self.odd, self.slow, self.held = (
+            self._trip(),
+            self._large(),
+            self._odd(),
+            self._slow(),
+            self._held(),
+        )
         self.order, self.fair = self._shaped()
         self.bank = self._bank() if store.startswith("postgresql:") else None
 
     @property
     def sagas(self) -> list[sagas.Saga]:
-        return [self.trip, self.large, self.odd, self.slow, self.held, self.order, self.fair, *([self.bank] if self.bank else [])]
+        return [
+            self.trip,
+            self.large,
+            self.odd,
+            self.slow,
+            self.held,
+            self.order,
+            self.fair,
+            *([self.bank] if self.bank else []),
+        ]
 
     def open(self, **words: Any) -> sagas.Store:
         """The store."""
@@ -63,8 +93,27 @@ class Shop:
     def worker(self, folder: pathlib.Path, *more: str, name: str = "w", **other: Any) -> Program:
         """A worker that is ready; `other` are words that it has otherwise."""
         here = pathlib.Path(__file__).resolve().parent
-        environment = os.environ | {WORDS: json.dumps(self.words | other), "PYTHONPATH": f"{here.parent / 'src'}{os.pathsep}{here}", "PYTHONUNBUFFERED": "1"}
-        words = ["/usr/bin/python3", "-m", "celery", "-A", "celery_shop", "worker", "-Q", str(self.words["queue"]), "-c", "2", "-n", f"{name}@%h", "-l", "INFO"]
+        environment = os.environ | {
+            WORDS: json.dumps(self.words | other),
+            "PYTHONPATH": f"{here.parent / 'src'}{os.pathsep}{here}",
+            "PYTHONUNBUFFERED": "1",
+        }
+        words = [
+            "/usr/bin/python3",
+            "-m",
+            "celery",
+            "-A",
+            "celery_shop",
+            "worker",
+            "-Q",
+            str(self.words["queue"]),
+            "-c",
+            "2",
+            "-n",
+            f"{name}@%h",
+            "-l",
+            "INFO",
+        ]
         started = Program([*words, *more], folder, environment, f"{name}.log")
         try:
             started.wait_for(r" ready\.")
@@ -75,7 +124,15 @@ class Shop:
 
     def note(self, task: Any, **more: Any) -> None:
         """A call, as a line."""
-        told = {"key": task.key, "step": task.step, "undo": task.is_compensation, "attempt": task.attempt, "token": task.attempt_id, "effect": task.idempotency_key, "pid": os.getpid()}
+        told = {
+            "key": task.key,
+            "step": task.step,
+            "undo": task.is_compensation,
+            "attempt": task.attempt,
+            "token": task.attempt_id,
+            "effect": task.idempotency_key,
+            "pid": os.getpid(),
+        }
         told["deadline"] = task.deadline and task.deadline.timestamp()
         with open(self.notes, "a", encoding="utf-8") as notes:
             notes.write(json.dumps(told | more) + "\n")
@@ -114,7 +171,9 @@ class Shop:
             if task.input.wish == "never":
                 raise sagas.Fail("never")
             if task.input.wish == "lost" and len(self.calls(task.key)) < 5:
-                raise sagas.Unknown("who knows") if len(self.calls(task.key)) < 4 else ConnectionError("lost")
+                raise sagas.Unknown("who knows") if len(
+                    self.calls(task.key)
+                ) < 4 else ConnectionError("lost")
             return {"seat": task.result_of(flight).name}
 
         return trip
@@ -132,7 +191,12 @@ class Shop:
 
         @large.step(needs=[first], queue=self.queue)
         def second(task: Any) -> Any:
-            self.note(task, size=len(task.result_of(first)), letter=task.result_of(first)[0], input=len(task.input["more"]))
+            self.note(
+                task,
+                size=len(task.result_of(first)),
+                letter=task.result_of(first)[0],
+                input=len(task.input["more"]),
+            )
             if task.input["fail"]:
                 raise ValueError("no")
             return object()  # cannot be written as JSON
@@ -142,7 +206,13 @@ class Shop:
     def _odd(self) -> sagas.Saga:
         odd = sagas.Saga("odd")
 
-        @odd.step(queue=sagas.celery.Queue(self.app, str(self.words["queue"]), soft_time_limit=1, time_limit=60, priority=3), backoff=QUICK, max_unknown=0)
+        @odd.step(
+            queue=sagas.celery.Queue(
+                self.app, str(self.words["queue"]), soft_time_limit=1, time_limit=60, priority=3
+            ),
+            backoff=QUICK,
+            max_unknown=0,
+        )
         def long(task: Any) -> None:
             self.note(task)
             time.sleep(60)  # longer than its limit
@@ -183,7 +253,9 @@ class Shop:
         """A saga with a step for each item, and one that includes it."""
         order = sagas.Saga("order")
 
-        @order.step(for_each=lambda given: given["parcels"], queue=self.queue, keep=lambda seat: 5, undo=1)
+        @order.step(
+            for_each=lambda given: given["parcels"], queue=self.queue, keep=lambda seat: 5, undo=1
+        )
         def ship(task: sagas.ItemTask[Any, Seat]) -> Seat:
             self.note(task, index=task.index, declared=task.declared_step)
             if task.item.name == "nowhere":
@@ -197,7 +269,9 @@ class Shop:
         @order.step(needs=[ship], queue=self.queue)
         def mail(task: sagas.Task[Any]) -> list[str]:
             shipped: Any = task.result_of(ship)
-            return [seat.name for seat in (shipped.values() if isinstance(shipped, dict) else shipped)]
+            return [
+                seat.name for seat in (shipped.values() if isinstance(shipped, dict) else shipped)
+            ]
 
         fair = sagas.Saga("fair")
         fair.include(order, name="stall", for_each="stalls")
@@ -207,7 +281,9 @@ class Shop:
         bank = sagas.Saga("bank")
         row = "INSERT INTO book(key, step, token) VALUES(%s, %s, %s)"
 
-        @bank.step(queue=self.queue, transaction=True, tries=2, backoff=QUICK, keep=9, undo=1, timeout=60)
+        @bank.step(
+            queue=self.queue, transaction=True, tries=2, backoff=QUICK, keep=9, undo=1, timeout=60
+        )
         def book(task: Any) -> str:
             self.note(task)
             task.connection.execute(row, (task.key, "book", task.idempotency_key))
@@ -233,7 +309,13 @@ class Shop:
 
 def shop_in(broker: Broker, folder: pathlib.Path, store: str | None = None, **more: Any) -> Shop:
     """A shop in a folder; its store is a file there, unless it is said."""
-    return Shop(broker.url, store or str(folder / "store.db"), str(folder / "notes"), queue=folder.name, **more)
+    return Shop(
+        broker.url,
+        store or str(folder / "store.db"),
+        str(folder / "notes"),
+        queue=folder.name,
+        **more,
+    )
 
 
 if WORDS in os.environ:

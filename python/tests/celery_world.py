@@ -109,7 +109,9 @@ class Remote(World):
         async def release(task: Any) -> None:
             self.act(task, 0.3)
 
-        @chain.step(needs=[reserve], tries=3, backoff=QUICK, keep=9, undo=1, queue=there, timeout=TIMEOUT)
+        @chain.step(
+            needs=[reserve], tries=3, backoff=QUICK, keep=9, undo=1, queue=there, timeout=TIMEOUT
+        )
         def charge(task: Any) -> Any:
             return self.act(task, 0.3, unknown=0.1)
 
@@ -141,7 +143,9 @@ class Remote(World):
         def cancel_hotel(task: Any) -> None:
             self.act(task, 0.0)
 
-        @trip.step(needs=[flight], keep=8, undo=5, tries=2, backoff=QUICK, queue=there, timeout=TIMEOUT)
+        @trip.step(
+            needs=[flight], keep=8, undo=5, tries=2, backoff=QUICK, queue=there, timeout=TIMEOUT
+        )
         def car(task: Any) -> Any:
             return self.act(task, 0.2)
 
@@ -177,7 +181,9 @@ class Remote(World):
         async def order(task: Any) -> Any:
             return self.act(task, 0.05, unknown=0.1)
 
-        @order.compensation(tries=2, backoff=QUICK, queue=there, timeout=TIMEOUT, on_exhausted="fail")
+        @order.compensation(
+            tries=2, backoff=QUICK, queue=there, timeout=TIMEOUT, on_exhausted="fail"
+        )
         def cancel_order(task: Any) -> None:
             self.act(task, 0.2)
 
@@ -194,14 +200,24 @@ class Remote(World):
 
 def make() -> tuple[Any, Remote]:
     """The app and the sagas, by the environment."""
-    words = {word: os.environ[f"SAGAS_TEST_{word.upper()}"] for word in ("store", "socket", "broker", "queue")}
+    words = {
+        word: os.environ[f"SAGAS_TEST_{word.upper()}"]
+        for word in ("store", "socket", "broker", "queue")
+    }
     app = celery.Celery("world", broker=words["broker"])
-    app.conf.update(sagas_store=words["store"], worker_prefetch_multiplier=4, broker_connection_retry_on_startup=True, broker_connection_max_retries=None)
+    app.conf.update(
+        sagas_store=words["store"],
+        worker_prefetch_multiplier=4,
+        broker_connection_retry_on_startup=True,
+        broker_connection_max_retries=None,
+    )
     if name := os.environ.get("SAGAS_TEST_WRONG"):
         importlib.import_module(f"wrong_workers.{name}").apply()
     kind = sagas.celery.Queue if "SAGAS_TEST_PLAIN" in os.environ else Doubling
     queue = kind(app, words["queue"], patience=1.0)
-    return app, Remote(queue, words["store"], words["socket"], bool(os.environ.get("SAGAS_TEST_OLD")))
+    return app, Remote(
+        queue, words["store"], words["socket"], bool(os.environ.get("SAGAS_TEST_OLD"))
+    )
 
 
 async def surely(world: World, store: sagas.Store, number: int) -> None:
@@ -216,7 +232,15 @@ async def surely(world: World, store: sagas.Store, number: int) -> None:
 async def main(world: World, store: str, count: int) -> None:
     """Opens the store, again and again while it is away."""
     while True:
-        opened = sagas.open(store, world.sagas, concurrency=32, engine_processes=4, shutdown_timeout=0.5, node=os.environ.get("SAGAS_TEST_NODE", "owner"), lease=LEASE)
+        opened = sagas.open(
+            store,
+            world.sagas,
+            concurrency=32,
+            engine_processes=4,
+            shutdown_timeout=0.5,
+            node=os.environ.get("SAGAS_TEST_NODE", "owner"),
+            lease=LEASE,
+        )
         try:
             await opened.__aenter__()
         except sagas.StoreUnavailable:
@@ -226,7 +250,9 @@ async def main(world: World, store: str, count: int) -> None:
             return await work_on(world, opened, count)
         finally:
             await opened.close()
-            asyncio.get_running_loop().remove_signal_handler(signal.SIGTERM)  # a loop that closes would complain of one that comes now
+            asyncio.get_running_loop().remove_signal_handler(
+                signal.SIGTERM
+            )  # a loop that closes would complain of one that comes now
 
 
 async def work_on(world: World, opened: sagas.Store, count: int) -> None:

@@ -17,9 +17,18 @@ from sagas.server import problems
 
 PATH = pathlib.Path(__file__).resolve().parents[1] / "src" / "sagas" / "server" / "openapi.json"
 DOCUMENT: dict[str, Any] = json.loads(PATH.read_text())
-ANYWHERE = {"MalformedRequest", "NotFound", "MethodNotAllowed", "UnknownHost", "CrossOrigin",
-            "BodyTooLarge", "RequestTimeout", "TooManyRequests", "InternalError",
-            "TooManyConnections"}  # fmt: skip
+ANYWHERE = {
+    "MalformedRequest",
+    "NotFound",
+    "MethodNotAllowed",
+    "UnknownHost",
+    "CrossOrigin",
+    "BodyTooLarge",
+    "RequestTimeout",
+    "TooManyRequests",
+    "InternalError",
+    "TooManyConnections",
+}
 """Problems that a request has before its path counts."""
 seen: dict[str, set[str]] = {}
 """The statuses of each operation that this program has met."""

@@ -162,7 +162,9 @@ class Store:
 class World:
     """One shard, from its first saga to the end of its last."""
 
-    def __init__(self, kinds: Sequence[sagas.Saga], folder: pathlib.Path, seed: int, sagas_at_most: int) -> None:
+    def __init__(
+        self, kinds: Sequence[sagas.Saga], folder: pathlib.Path, seed: int, sagas_at_most: int
+    ) -> None:
         self.random, self.folder = random.Random(seed), folder
         texts = [kind.toml() for kind in kinds]
         self.paths = [folder / f"{number}.toml" for number in range(len(texts))]
@@ -206,7 +208,12 @@ class World:
                 self.engine.kill()
 
     def _is_open(self) -> bool:
-        return bool(self.commits or self.waiting or any(row[3] is None for row in self.store.sagas.values()) or not self.driver.is_over)
+        return bool(
+            self.commits
+            or self.waiting
+            or any(row[3] is None for row in self.store.sagas.values())
+            or not self.driver.is_over
+        )
 
     def _move(self, calm: bool) -> None:
         moves: list[tuple[int, str, Callable[[], None]]] = []
@@ -236,7 +243,9 @@ class World:
                 moves.append((3, "fall_back", self._fall_back))
             if driver.state is ShardState.ACTIVE:
                 moves += [(1, "kill_engine", self._kill_engine), (1, "sleep", self._sleep)]
-            if going := [saga for saga in driver.sagas.values() if not saga.over and saga.committed]:
+            if going := [
+                saga for saga in driver.sagas.values() if not saga.over and saga.committed
+            ]:
                 moves.append((2, "abort", lambda: self._abort(going)))
             if self.store.sagas:
                 moves.append((1, "restart", self._restart))
@@ -256,7 +265,9 @@ class World:
             return
         self.is_recovered = False
         begun = {(task["saga"], task["step"], task["task"]) for task in self.store.follower.busy()}
-        if begun != {(number, *word) for number, saga in driver.sagas.items() for word in saga.busy}:
+        if begun != {
+            (number, *word) for number, saga in driver.sagas.items() for word in saga.busy
+        }:
             raise Wrong(f"{begun} are under way, and not {self._stuck()}")
         for attempt in self._attempts():
             reported = attempt.state is FINISHED and attempt in driver.reports
@@ -265,7 +276,11 @@ class World:
                 raise Wrong(f"nobody goes on with {attempt.row}, which is {attempt.state}")
         for number, saga in driver.sagas.items():
             state = self.store.follower.sagas[number]
-            told = {step for step, word in enumerate(state.states) if word in ("committed", "undoing", "fixed")}
+            told = {
+                step
+                for step, word in enumerate(state.states)
+                if word in ("committed", "undoing", "fixed")
+            }
             drains = state.phase in ("draining", "planning")
             is_so = {*saga.results} == told, saga.aborted == state.aborted, saga.draining == drains
             if not all(is_so):
@@ -276,7 +291,15 @@ class World:
     def _look_at_the_end(self) -> None:
         """Nothing is left, and who asked was answered."""
         driver = self.driver
-        left = driver.sent, driver.opens, driver.reports, driver.reporting, driver.aborts, driver.aborting, driver.sagas
+        left = (
+            driver.sent,
+            driver.opens,
+            driver.reports,
+            driver.reporting,
+            driver.aborts,
+            driver.aborting,
+            driver.sagas,
+        )
         if any(left) or driver.unwritten or not driver.is_over:
             raise Wrong(f"something is left: {left}")
         if any(abort.done is None for abort in self.aborts):
@@ -284,14 +307,17 @@ class World:
 
     def _stuck(self) -> str:
         return "; ".join(
-            f"{saga.key}: {[(one.row, one.state, one.reason) for one in saga.busy.values()]}" for saga in self.driver.sagas.values()
+            f"{saga.key}: {[(one.row, one.state, one.reason) for one in saga.busy.values()]}"
+            for saga in self.driver.sagas.values()
         )
 
     def _open(self) -> None:
         self.left -= 1
         place = self.random.randrange(len(self.kinds))
         deadline = self.random.choice((None,) * 17 + (0.0, self.now, self.now + 3600))
-        saga = SagaInstance(f"k{self.left}", "null", self.kinds[place], place, StartOptions(deadline=deadline))
+        saga = SagaInstance(
+            f"k{self.left}", "null", self.kinds[place], place, StartOptions(deadline=deadline)
+        )
         self.known[saga.key] = saga
         self.driver.open(saga)
 
@@ -310,7 +336,11 @@ class World:
     def _turn(self) -> None:
         """Ask what is due; the engine may die before it answers, or between two answers."""
         driver = self.driver
-        free = self.random.choice((0, 1, 3, 1000)) if driver.reports or driver.opens or driver.aborts else 1000
+        free = (
+            self.random.choice((0, 1, 3, 1000))
+            if driver.reports or driver.opens or driver.aborts
+            else 1000
+        )
         lines = driver.requests(free, self.now)
         if not lines:
             return
@@ -391,14 +421,20 @@ class World:
         driver.to(ShardState.LOADING)
         driver.loaded(rows)
         over = {row[0] for row in self.store.sagas.values() if row[3] is not None}
-        for saga in [one for one in driver.sent if one.key in over]:  # as the runtime looks for them
+        for saga in [
+            one for one in driver.sent if one.key in over
+        ]:  # as the runtime looks for them
             del driver.sent[saga]
         asked, new = recovery.unopened(driver, rows, self.known)
         self.engine = self._engine()
         overdue = recovery.overdue(rows, self.now)
         replies, text = self.engine.ask(recovery.requests(rows, overdue))
-        before = {one for saga in driver.sagas.values() for one in saga.busy.values()} | {*driver.unkept()}
-        found = recovery.recover(rows, replies, self.now, driver, self.known, overdue=overdue, log_text=text)
+        before = {one for saga in driver.sagas.values() for one in saga.busy.values()} | {
+            *driver.unkept()
+        }
+        found = recovery.recover(
+            rows, replies, self.now, driver, self.known, overdue=overdue, log_text=text
+        )
         for saga in found.restored:
             self.known[saga.key] = saga
         for attempt in found.forgotten:
@@ -513,7 +549,9 @@ class World:
     def _outcome(self, attempt: Attempt) -> Outcome:
         drawn = self.random.random()
         if drawn < 0.7:
-            return outcomes.succeeded(f"{attempt.name} {attempt.kind} {self.random.randrange(1000)}")
+            return outcomes.succeeded(
+                f"{attempt.name} {attempt.kind} {self.random.randrange(1000)}"
+            )
         if drawn < 0.85:
             return outcomes.failure("it failed")
         if drawn < 0.9:
@@ -526,7 +564,11 @@ class World:
         return [one for saga in self.driver.sagas.values() for one in saga.busy.values()]
 
     def _timed(self) -> list[Attempt]:
-        return [one for one in self._attempts() if one.state is SUSPENDED and one.until is not None and one.until > 0]
+        return [
+            one
+            for one in self._attempts()
+            if one.state is SUSPENDED and one.until is not None and one.until > 0
+        ]
 
     def _ring(self, attempts: list[Attempt]) -> None:
         attempt = min(attempts, key=lambda one: one.until or 0.0)
@@ -569,8 +611,14 @@ class World:
         follower = self.store.follower
         for id, (key, _, _, phase, end, _) in self.store.sagas.items():
             state, told = follower.sagas[id % SHARD_CAPACITY], json.loads(end)
-            if (phase, told["states"], told["aborted"]) != (state.phase, state.states, state.aborted):
-                raise Wrong(f"{key}: {phase} {told}, where the log says {state.phase} {state.states}")
+            if (phase, told["states"], told["aborted"]) != (
+                state.phase,
+                state.states,
+                state.aborted,
+            ):
+                raise Wrong(
+                    f"{key}: {phase} {told}, where the log says {state.phase} {state.states}"
+                )
         self._judge_rows()
 
     def _judge_rows(self) -> None:

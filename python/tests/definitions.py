@@ -36,7 +36,9 @@ def steps(draw: st.DrawFn, most: int = 5) -> list[StepDraw]:
     return [
         StepDraw(
             name=f"s{number}",
-            needs=tuple(sorted(draw(st.sets(st.integers(0, number - 1), max_size=3)))) if number else (),
+            needs=tuple(sorted(draw(st.sets(st.integers(0, number - 1), max_size=3))))
+            if number
+            else (),
             run=draw(prices(0)),
             undo=draw(prices(1)),
             skip=draw(prices(1)),
@@ -58,6 +60,8 @@ def toml(name: str, drawn: list[StepDraw]) -> str:
     for step in drawn:
         lines += ["", "[[step]]", f'name = "{step.name}"']
         lines.append("needs = [" + ", ".join(f'"{drawn[need].name}"' for need in step.needs) + "]")
-        lines += [f"{word} = {written(getattr(step, word))}" for word in ("run", "undo", "skip", "keep")]
+        lines += [
+            f"{word} = {written(getattr(step, word))}" for word in ("run", "undo", "skip", "keep")
+        ]
         lines += [f"tries = {step.tries}", f"undo_tries = {step.undo_tries}"]
     return "\n".join(lines) + "\n"

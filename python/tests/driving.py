@@ -22,7 +22,9 @@ def program() -> str:
 class Drive:
     """A running `sagas drive` over some definitions, with a log or without."""
 
-    def __init__(self, folder: pathlib.Path, texts: Sequence[str], log: pathlib.Path | None = None) -> None:
+    def __init__(
+        self, folder: pathlib.Path, texts: Sequence[str], log: pathlib.Path | None = None
+    ) -> None:
         paths = []
         for number, text in enumerate(texts):
             paths.append(folder / f"def-{number}.toml")
@@ -33,7 +35,12 @@ class Drive:
     def __enter__(self) -> Drive:
         return self
 
-    def __exit__(self, kind: type[BaseException] | None, error: BaseException | None, at: TracebackType | None) -> None:
+    def __exit__(
+        self,
+        kind: type[BaseException] | None,
+        error: BaseException | None,
+        at: TracebackType | None,
+    ) -> None:
         assert self.process.stdin and self.process.stdout
         self.process.stdin.close()
         self.process.stdout.close()
@@ -42,7 +49,9 @@ class Drive:
     def ask(self, *requests: Json) -> list[Json]:
         """Sends requests in one write and gives their replies."""
         assert self.process.stdin and self.process.stdout
-        self.process.stdin.write("".join(json.dumps(request) + "\n" for request in requests).encode())
+        self.process.stdin.write(
+            "".join(json.dumps(request) + "\n" for request in requests).encode()
+        )
         self.process.stdin.flush()
         return [json.loads(self.process.stdout.readline()) for _ in requests]
 

@@ -11,10 +11,25 @@ import random
 from collections.abc import Iterable
 
 OPTIONS = (
-    "child", "for_each", "when", "inclusion", "deadline", "schedule", "label", "concurrency_by",
-    "fair_by", "early", "blobs", "codec", "webhooks", "on_exhausted", "context", "retention",
-    "external", "celery",
-)  # fmt: skip
+    "child",
+    "for_each",
+    "when",
+    "inclusion",
+    "deadline",
+    "schedule",
+    "label",
+    "concurrency_by",
+    "fair_by",
+    "early",
+    "blobs",
+    "codec",
+    "webhooks",
+    "on_exhausted",
+    "context",
+    "retention",
+    "external",
+    "celery",
+)
 SERVED = ("celery",)
 """Drawn over PostgreSQL alone."""
 APART = {frozenset(("celery", "codec")), frozenset(("celery", "blobs"))}

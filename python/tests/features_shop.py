@@ -243,9 +243,15 @@ class Shop:
     # -- how sagas are declared
 
     def step(
-        self, saga: sagas.Saga, name: str, *, failing: float = 0.05, unknown: float = 0.05,
-        undo_fails: float = 0.1, **options: Any,
-    ) -> Any:  # fmt: skip
+        self,
+        saga: sagas.Saga,
+        name: str,
+        *,
+        failing: float = 0.05,
+        unknown: float = 0.05,
+        undo_fails: float = 0.1,
+        **options: Any,
+    ) -> Any:
         """Declare a step and its compensation."""
         function = f"{saga.name}.{saga.version}.{name}"
         declare = saga.step(name=name, backoff=QUICK, **{"keep": 9, "undo": 1, **options})
@@ -309,17 +315,25 @@ class Shop:
             hotel = self._hotel(version, 2 if like == 2 and self.settings.deploy == "added" else 1)
             needs.append(
                 main.child(
-                    hotel, name="stay", needs=[hold], undo=2, keep=8,
+                    hotel,
+                    name="stay",
+                    needs=[hold],
+                    undo=2,
+                    keep=8,
                     input=lambda task: {**order_of(of(task.input, "i")), "i": task.key},
-                )  # fmt: skip
+                )
             )
         if has("concurrency_by"):
             fleet = {"fleet_concurrency": MOST_MOVES + 1} if self.settings.is_served else {}
             needs.append(
                 self.step(
-                    main, "move", concurrency=MOST_MOVES, needs=[hold],
-                    concurrency_by=lambda input: of(input, "account"), **fleet,
-                )  # fmt: skip
+                    main,
+                    "move",
+                    concurrency=MOST_MOVES,
+                    needs=[hold],
+                    concurrency_by=lambda input: of(input, "account"),
+                    **fleet,
+                )
             )
         if has("external"):
             far = main.step(

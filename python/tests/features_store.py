@@ -193,10 +193,20 @@ class FeatureStore:
                 for step, kind, number, event, value in values.get(row.id, [])
             }
             yield Instance(
-                log, row.number, row.key, saga, text, self.values.read(row.input), row.phase,
-                row.end, note, labels.get(row.id, {}), deadline, outcomes,
+                log,
+                row.number,
+                row.key,
+                saga,
+                text,
+                self.values.read(row.input),
+                row.phase,
+                row.end,
+                note,
+                labels.get(row.id, {}),
+                deadline,
+                outcomes,
                 events=times.get(row.log, {}).get(row.number, []),
-            )  # fmt: skip
+            )
 
     @staticmethod
     def _texts(log: LogRows) -> list[tuple[str, list[str]]]:
@@ -230,10 +240,21 @@ class FeatureStore:
         is_whole = "blobs" not in self.settings.options
         read = self.values.read if is_whole else (lambda value: value)
         return Instance(
-            log, told["number"], told["key"], told["saga"], text, read(told["input"]), phase,
-            told["end"], told["note"], told["labels"], None,
-            {(steps[step], *rest): (event, read(value))
-             for (step, *rest), (event, value) in values.items()},
+            log,
+            told["number"],
+            told["key"],
+            told["saga"],
+            text,
+            read(told["input"]),
+            phase,
+            told["end"],
+            told["note"],
+            told["labels"],
+            None,
+            {
+                (steps[step], *rest): (event, read(value))
+                for (step, *rest), (event, value) in values.items()
+            },
             is_archived=True,
             events=[(None, event) for event in log.events if event["saga"] == told["number"]],
-        )  # fmt: skip
+        )

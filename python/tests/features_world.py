@@ -95,10 +95,14 @@ class Node:
             words |= {"retention": RETENTION, "archive_dir": folder / "archive"}
         hooks: list[Webhooks] = []
         store = sagas.open(
-            settings.store, self.shop.sagas, concurrency=8, engine_processes=4,
-            shutdown_timeout=10, on_event=lambda event: [one.event(event) for one in hooks],
+            settings.store,
+            self.shop.sagas,
+            concurrency=8,
+            engine_processes=4,
+            shutdown_timeout=10,
+            on_event=lambda event: [one.event(event) for one in hooks],
             **words,
-        )  # fmt: skip
+        )
         store.leased = True
         self.hooks = None
         if has("webhooks"):
@@ -193,9 +197,14 @@ class Node:
         with contextlib.suppress(sagas.NoSuchSaga):  # retention has deleted it
             end = await self._surely(run.wait)
             self.note(
-                what="over", key=key, by=self.name, phase=end.phase, states=end.states,
-                results=plain(end.results), aborted=end.aborted,
-            )  # fmt: skip
+                what="over",
+                key=key,
+                by=self.name,
+                phase=end.phase,
+                states=end.states,
+                results=plain(end.results),
+                aborted=end.aborted,
+            )
         for job in jobs:
             await job
 

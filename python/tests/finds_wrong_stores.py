@@ -28,7 +28,9 @@ def test_a_wrong_store_is_found(postgresql: Server, name: str) -> None:
     """Under the kind of strike at which it shows, within a few databases."""
     module = importlib.import_module(f"wrong_stores.{name}")
     if not hasattr(module, "STRIKES"):
-        pytest.skip("no strike shows it: the judge cannot tell a node that lives from one that was struck, or the moment is too short")
+        pytest.skip(
+            "no strike shows it: the judge cannot tell a node that lives from one that was struck, or the moment is too short"
+        )
     found: set[str] = set()
     for seed in range(6):
         one = play(module.STRIKES, seed, 24, postgresql, most=20, wrong=name, quiet=4)

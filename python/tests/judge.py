@@ -79,14 +79,23 @@ class Event:
 def ends_of(log: LogRows, steps: list[str], number: int) -> Iterator[Event]:
     """The ends of attempts of one saga of a log, with their tokens."""
     misses: Counter[tuple[int, str]] = Counter()
-    kinds = {"commit": "run", "missed": "run", "fail": "run", "undone": "undo", "undo_missed": "undo", "undo_fail": "undo"}
+    kinds = {
+        "commit": "run",
+        "missed": "run",
+        "fail": "run",
+        "undone": "undo",
+        "undo_missed": "undo",
+        "undo_fail": "undo",
+    }
     for event in log.events:
         word = event["event"]
         if event["saga"] != number or word not in kinds:
             continue
         step, kind = event["step"], kinds[word]
         attempt = misses[step, kind] + 1
-        yield Event(word, steps[step], kind, attempt, f"{log.name}-{number}-{steps[step]}-{kind}-{attempt}")
+        yield Event(
+            word, steps[step], kind, attempt, f"{log.name}-{number}-{steps[step]}-{kind}-{attempt}"
+        )
         misses[step, kind] += word in ("missed", "undo_missed")
 
 
@@ -109,7 +118,9 @@ class Judge:
         self.store = store
         self.records: Records = records.read(store)
         self.notes = notes_of(notes)
-        self.effects: dict[tuple[str, str, str], dict[str, list[Json]]] = defaultdict(lambda: defaultdict(list))
+        self.effects: dict[tuple[str, str, str], dict[str, list[Json]]] = defaultdict(
+            lambda: defaultdict(list)
+        )
         self.begun = {note["token"] for note in self.of("begin")}
         for note in self.of("effect"):
             self.effects[note["key"], note["step"], note["kind"]][note["token"]].append(note)
@@ -121,7 +132,10 @@ class Judge:
     def judge(self, count: int) -> Verdict:
         """Looks at everything; `count` sagas were asked for."""
         fault = self.verdict.fault
-        if not str(self.store).startswith("postgresql:") and (said := records.integrity(pathlib.Path(self.store))) != "ok":
+        if (
+            not str(self.store).startswith("postgresql:")
+            and (said := records.integrity(pathlib.Path(self.store))) != "ok"
+        ):
             fault("broken-file", said)
         if set(self.records.sagas) != {f"k{number}" for number in range(count)}:
             fault("keys", f"{len(self.records.sagas)} keys, {count} were asked for")
@@ -151,20 +165,36 @@ class Judge:
             fault("illegal", f"log {log.log}: {error}")
             return
         if set(rows) != set(range(len(follower.sagas))):
-            fault("keys", f"log {log.log} has {len(follower.sagas)} sagas, the database {sorted(rows)}")
+            fault(
+                "keys",
+                f"log {log.log} has {len(follower.sagas)} sagas, the database {sorted(rows)}",
+            )
             return
         for number, saga in enumerate(follower.sagas):
             row = rows[number]
             if not saga.is_over:
                 fault("not-over", f"{row.key} is {saga.phase} by its log")
-            elif row.end is None or (row.phase, row.end["states"], row.end["aborted"], row.place) != (
-                saga.phase, saga.states, saga.aborted, saga.place,
+            elif row.end is None or (
+                row.phase,
+                row.end["states"],
+                row.end["aborted"],
+                row.place,
+            ) != (
+                saga.phase,
+                saga.states,
+                saga.aborted,
+                saga.place,
             ):
-                fault("end", f"{row.key}: {row.phase} {row.end}, by the log {saga.phase} {saga.states}")
+                fault(
+                    "end",
+                    f"{row.key}: {row.phase} {row.end}, by the log {saga.phase} {saga.states}",
+                )
 
     def _audit(self, log: LogRows, rows: dict[int, SagaRow]) -> None:
         stuck = sum(row.phase == "stuck" for row in rows.values())
-        wanted = f"yes sagas {len(rows)} ended {len(rows) - stuck} stuck {stuck} events {len(log.lines)}"
+        wanted = (
+            f"yes sagas {len(rows)} ended {len(rows) - stuck} stuck {stuck} events {len(log.lines)}"
+        )
         with tempfile.TemporaryDirectory() as name:
             folder = pathlib.Path(name)
             (folder / "log").write_text(HEADER + "".join(text for _, text in log.chunks))
@@ -193,9 +223,14 @@ class Judge:
         states = list(note["states"].values())
         if row.end is None or (note["phase"], states) != told(row.phase, row.end):
             self.verdict.fault("told-otherwise", f"{note}: kept is {row.phase} {row.end}")
-        standing = {step for step, state in note["states"].items() if state in ("committed", "undo_failed")}
+        standing = {
+            step for step, state in note["states"].items() if state in ("committed", "undo_failed")
+        }
         if set(note["results"]) != standing:
-            self.verdict.fault("told-otherwise", f"{note['key']}: results of {set(note['results'])}, {standing} stand")
+            self.verdict.fault(
+                "told-otherwise",
+                f"{note['key']}: results of {set(note['results'])}, {standing} stand",
+            )
         for step, value in note["results"].items():
             if value != expected(note["key"], step):
                 self.verdict.fault("handed", f"the end of {note['key']} has {value} of {step}")
@@ -228,9 +263,14 @@ class Judge:
             key = note["key"]
             for step, value in note["results"].items():
                 if value != expected(key, step):
-                    self.verdict.fault("handed", f"{key} {note['step']} was handed {value} of {step}")
+                    self.verdict.fault(
+                        "handed", f"{key} {note['step']} was handed {value} of {step}"
+                    )
             if note["kind"] == "undo" and note["result"] != expected(key, note["step"]):
-                self.verdict.fault("handed", f"the compensation of {key} {note['step']} was handed {note['result']}")
+                self.verdict.fault(
+                    "handed",
+                    f"the compensation of {key} {note['step']} was handed {note['result']}",
+                )
 
     # -- saga by saga --------------------------------------------------------------------------------------
 
@@ -246,21 +286,36 @@ class Judge:
             if id == row.id
         }
         if kept != {(end.step, end.kind, end.attempt): end.word for end in ends}:
-            fault("results", f"{row.key}: {kept}, by the log {[(end.word, end.step, end.attempt) for end in ends]}")
+            fault(
+                "results",
+                f"{row.key}: {kept}, by the log {[(end.word, end.step, end.attempt) for end in ends]}",
+            )
         good = {(end.step, end.kind): end.token for end in ends if end.word in ("commit", "undone")}
         for (step, kind), token in good.items():
             self.verdict.figures["committed" if kind == "run" else "undone"] += 1
-            if (step, kind) not in SILENT and token not in self.effects.get((row.key, step, kind), {}):
+            if (step, kind) not in SILENT and token not in self.effects.get(
+                (row.key, step, kind), {}
+            ):
                 fault("no-effect", f"{row.key} {step} {kind} {token}")
         for end in ends:
-            if end.word not in ("commit", "undone") and (end.step, end.kind) not in SILENT and end.token not in self.begun:
-                value = self.records.results.get((row.id, steps.index(end.step), end.kind, end.attempt))
+            if (
+                end.word not in ("commit", "undone")
+                and (end.step, end.kind) not in SILENT
+                and end.token not in self.begun
+            ):
+                value = self.records.results.get(
+                    (row.id, steps.index(end.step), end.kind, end.attempt)
+                )
                 if value is None or value.value.get("called", True):
                     fault("not-called", f"{row.key} {end.step} {end.kind} {end.token}")
         for step in steps:
             self._step(row, step, good)
         for (id, number, kind, _), result in self.records.results.items():
-            if id == row.id and result.outcome == "commit" and result.value != expected(row.key, steps[number]):
+            if (
+                id == row.id
+                and result.outcome == "commit"
+                and result.value != expected(row.key, steps[number])
+            ):
                 fault("handed", f"{row.key} {steps[number]}: kept is {result.value}")
 
     def _step(self, row: SagaRow, step: str, good: dict[tuple[str, str], str]) -> None:
@@ -277,7 +332,10 @@ class Judge:
             for note in (note for notes in tokens.values() for note in notes if kind == "undo"):
                 action = good.get((step, "run"), "").rpartition("-")[0]
                 if note["of"] != action:
-                    fault("wrong-action", f"{row.key} {step} compensates {note['of']}, done was {action}")
+                    fault(
+                        "wrong-action",
+                        f"{row.key} {step} compensates {note['of']}, done was {action}",
+                    )
 
     def _figures(self) -> None:
         figures = self.verdict.figures
@@ -286,8 +344,12 @@ class Judge:
         figures["stuck"] = sum(row.phase == "stuck" for row in self.records.sagas.values())
         figures["events"] = sum(len(log.lines) for log in self.records.logs.values())
         figures["effects"] = sum(len(tokens) for tokens in self.effects.values())
-        figures["effects again"] = sum(len(notes) - 1 for tokens in self.effects.values() for notes in tokens.values())
-        figures["told"] = sum(1 for note in self.notes if note["what"] in ("started", "finished", "aborted", "over"))
+        figures["effects again"] = sum(
+            len(notes) - 1 for tokens in self.effects.values() for notes in tokens.values()
+        )
+        figures["told"] = sum(
+            1 for note in self.notes if note["what"] in ("started", "finished", "aborted", "over")
+        )
 
 
 def judge(store: pathlib.Path | str, notes: pathlib.Path, count: int) -> Verdict:

@@ -83,12 +83,21 @@ class Striker:
     began: float = field(default_factory=time.monotonic)
 
     def __post_init__(self) -> None:
-        self.words = [sys.executable, str(HERE / "world.py"), str(self.folder / "store.db"), str(self.folder / "socket")]
+        self.words = [
+            sys.executable,
+            str(HERE / "world.py"),
+            str(self.folder / "store.db"),
+            str(self.folder / "socket"),
+        ]
         self.words += [str(self.sagas), "--concurrency", str(self.concurrency)]
         self.words += ["--wrong", self.wrong] if self.wrong else []
         self.words += ["--small"] if self.small else []
         path = f"{HERE.parent / 'src'}{os.pathsep}{HERE}"
-        self.environment = os.environ | {"PYTHONPATH": path, "SAGAS_PROGRAM": program(), "PYTHONUNBUFFERED": "1"}
+        self.environment = os.environ | {
+            "PYTHONPATH": path,
+            "SAGAS_PROGRAM": program(),
+            "PYTHONUNBUFFERED": "1",
+        }
 
     @property
     def is_late(self) -> bool:
@@ -102,7 +111,9 @@ class Striker:
         """Runs until all is over; says what went wrong with the program itself, if anything."""
         with open(self.folder / "errors", "ab") as errors:
             while not self.is_late:
-                process = subprocess.Popen(self.words, env=self.environment, stdout=subprocess.PIPE, stderr=errors)
+                process = subprocess.Popen(
+                    self.words, env=self.environment, stdout=subprocess.PIPE, stderr=errors
+                )
                 try:
                     self._strike(process)
                     out = self._rest(process)
@@ -117,7 +128,9 @@ class Striker:
 
     def _rest(self, process: subprocess.Popen[bytes]) -> bytes:
         try:
-            return process.communicate(timeout=max(1.0, self.most - (time.monotonic() - self.began)))[0]
+            return process.communicate(
+                timeout=max(1.0, self.most - (time.monotonic() - self.began))
+            )[0]
         except subprocess.TimeoutExpired:
             return b""
 
@@ -147,7 +160,9 @@ class Striker:
             self.kills[what] += 1
 
     def _program(self, process: subprocess.Popen[bytes]) -> None:
-        self._wait(process, self.draw.choice((self.draw.uniform(0, 0.05), self.draw.uniform(0, 0.4))))
+        self._wait(
+            process, self.draw.choice((self.draw.uniform(0, 0.05), self.draw.uniform(0, 0.4)))
+        )
         self._kill(process, "the program")
 
     def _child(self, process: subprocess.Popen[bytes]) -> None:
@@ -178,7 +193,11 @@ class Striker:
             return
         try:
             hard = resource.prlimit(process.pid, resource.RLIMIT_FSIZE)[1]
-            resource.prlimit(process.pid, resource.RLIMIT_FSIZE, (self._written() + self.draw.randrange(20_000), hard))
+            resource.prlimit(
+                process.pid,
+                resource.RLIMIT_FSIZE,
+                (self._written() + self.draw.randrange(20_000), hard),
+            )
             self.kills["its disk full"] += 1
             self._wait(process, self.draw.uniform(0.05, 0.6))
             if self.draw.random() < 0.6:
@@ -193,10 +212,18 @@ def run_once(folder: pathlib.Path, sagas: int) -> int:
     """Runs the program on a store that nothing strikes; gives its status."""
     striker = Striker(folder, "program", random.Random(0), sagas, 16, 60)
     with witness_at(folder / "socket", folder / "notes"):
-        return subprocess.run(striker.words, env=striker.environment, stdout=subprocess.DEVNULL, timeout=60, check=False).returncode
+        return subprocess.run(
+            striker.words,
+            env=striker.environment,
+            stdout=subprocess.DEVNULL,
+            timeout=60,
+            check=False,
+        ).returncode
 
 
-def play(kind: str, seed: int, sagas: int, *, most: float = 90, wrong: str | None = None, quiet: int = 12) -> Round:
+def play(
+    kind: str, seed: int, sagas: int, *, most: float = 90, wrong: str | None = None, quiet: int = 12
+) -> Round:
     """One round: a store, its kills, its judgement. Its files stay where something was found."""
     draw = random.Random(seed)
     folder = pathlib.Path(tempfile.mkdtemp(prefix="sagas-kills-"))
@@ -218,7 +245,9 @@ def play(kind: str, seed: int, sagas: int, *, most: float = 90, wrong: str | Non
 
 def main() -> int:
     """The command."""
-    parser = argparse.ArgumentParser(description=__doc__, formatter_class=argparse.RawDescriptionHelpFormatter)
+    parser = argparse.ArgumentParser(
+        description=__doc__, formatter_class=argparse.RawDescriptionHelpFormatter
+    )
     parser.add_argument("--rounds", type=int, default=20)
     parser.add_argument("--kinds", default=",".join(KINDS))
     parser.add_argument("--sagas", type=int, default=60)
@@ -232,7 +261,8 @@ def main() -> int:
     began = time.monotonic()
     with concurrent.futures.ProcessPoolExecutor(words.jobs) as pool:
         games = [
-            pool.submit(play, kinds[number % len(kinds)], words.seed + number, words.sagas) for number in range(words.rounds)
+            pool.submit(play, kinds[number % len(kinds)], words.seed + number, words.sagas)
+            for number in range(words.rounds)
         ]
         for done, game in enumerate(concurrent.futures.as_completed(games), 1):
             one = game.result()
@@ -241,10 +271,16 @@ def main() -> int:
             bad += bool(one.found)
             for fault in one.found[:5]:
                 print(f"\n{one.kind} {one.seed} {one.folder}: {fault}")
-            print(f"\r{done} of {words.rounds} rounds, {sum(kills.values())} strikes, {bad} bad", end="", flush=True)
+            print(
+                f"\r{done} of {words.rounds} rounds, {sum(kills.values())} strikes, {bad} bad",
+                end="",
+                flush=True,
+            )
     print(f"\nseed {words.seed}, {time.monotonic() - began:.0f} s")
     for title, counted in (("strikes", kills), ("figures", figures)):
-        print(f"{title}: " + ", ".join(f"{name} {number}" for name, number in sorted(counted.items())))
+        print(
+            f"{title}: " + ", ".join(f"{name} {number}" for name, number in sorted(counted.items()))
+        )
     return 1 if bad else 0
 
 

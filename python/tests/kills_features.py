@@ -118,9 +118,11 @@ class Node:
         path = f"{HERE.parent / 'src'}{os.pathsep}{HERE}"
         record = self.settings.parent / f"record-{self.name}"
         environment = os.environ | {
-            "PYTHONPATH": path, "SAGAS_PROGRAM": program(), "PYTHONUNBUFFERED": "1",
+            "PYTHONPATH": path,
+            "SAGAS_PROGRAM": program(),
+            "PYTHONUNBUFFERED": "1",
             "SAGAS_RECORD": str(record),
-        }  # fmt: skip
+        }
         log, release = f"log-{self.name}", str(self.release)
         self.program = Program([*words, release], self.settings.parent, environment, log)
 
@@ -150,11 +152,20 @@ class Round:
     """One store, its nodes, and what strikes them."""
 
     def __init__(
-        self, folder: pathlib.Path, seed: int, count: int, strikes: int, server: Server | None,
-        broker: Broker | None = None, options: Sequence[str] | None = None,
-        deploy: str | None = None, wrong: str = "", most: float = 180, nodes: int = 3,
+        self,
+        folder: pathlib.Path,
+        seed: int,
+        count: int,
+        strikes: int,
+        server: Server | None,
+        broker: Broker | None = None,
+        options: Sequence[str] | None = None,
+        deploy: str | None = None,
+        wrong: str = "",
+        most: float = 180,
+        nodes: int = 3,
         seconds: float = 0.0,
-    ) -> None:  # fmt: skip
+    ) -> None:
         self.folder, self.draw = folder, random.Random(seed)
         self.server, self.broker = server, broker
         self.strikes, self.most, self.seconds = strikes, most, seconds
@@ -164,9 +175,17 @@ class Round:
         chosen = list(options_of(store, seed) if options is None else options)
         deploy = self.draw.choice(DEPLOYS) if deploy is None else deploy
         self.settings = Settings(
-            chosen, self.url, self.url, str(folder), str(folder / "socket"),
-            deploy, count, seed, LEASE, wrong=wrong,
-        )  # fmt: skip
+            chosen,
+            self.url,
+            self.url,
+            str(folder),
+            str(folder / "socket"),
+            deploy,
+            count,
+            seed,
+            LEASE,
+            wrong=wrong,
+        )
         names = ("one", "two", "three")[:nodes] if server else ("one",)
         self.nodes = [Node(name, folder / "settings.json") for name in names]
         self.worker: Program | None = None
@@ -174,9 +193,10 @@ class Round:
         kinds = SERVED_KINDS if server else KINDS
         is_limited = server is not None and "concurrency_by" in chosen
         self.kinds = [
-            kind for kind in kinds
+            kind
+            for kind in kinds
             if not (is_limited and self.is_exact and kind in ("stop", "database"))
-        ]  # fmt: skip
+        ]
         self.began, self.is_paused = time.monotonic(), False
         self.faults: list[str] = []
 
@@ -220,15 +240,15 @@ class Round:
         """A worker of the round's own queue."""
         assert self.broker
         queue = f"q{self.draw.randrange(10**9)}"
-        self.settings = dataclasses.replace(
-            self.settings, broker=self.broker.url, queue=queue
-        )  # fmt: skip
+        self.settings = dataclasses.replace(self.settings, broker=self.broker.url, queue=queue)
         self.settings.write(self.folder / "settings.json")
         path = f"{HERE.parent / 'src'}{os.pathsep}{HERE}"
         environment = os.environ | {
-            "PYTHONPATH": path, "SAGAS_PROGRAM": program(), "PYTHONUNBUFFERED": "1",
+            "PYTHONPATH": path,
+            "SAGAS_PROGRAM": program(),
+            "PYTHONUNBUFFERED": "1",
             "SAGAS_FEATURES": str(self.folder / "settings.json"),
-        }  # fmt: skip
+        }
         words = [
             word.replace("celery_world", "features_celery") for word in worker_words(queue, "w")
         ]
@@ -389,9 +409,14 @@ class Played:
 
 
 def play(
-    seed: int, count: int, strikes: int, server: Server | None = None, *, keeps: bool = True,
+    seed: int,
+    count: int,
+    strikes: int,
+    server: Server | None = None,
+    *,
+    keeps: bool = True,
     **words: Any,
-) -> Played:  # fmt: skip
+) -> Played:
     """One round: a store, its strikes, its judgement."""
     folder = pathlib.Path(tempfile.mkdtemp(prefix="sagas-features-"))
     one = Round(folder, seed, count, strikes, server, **words)
@@ -440,9 +465,14 @@ def main() -> int:
         for number in range(words.rounds):
             seed = words.seed + number
             one = play(
-                seed, words.sagas, words.strikes, server, broker=broker, options=options,
+                seed,
+                words.sagas,
+                words.strikes,
+                server,
+                broker=broker,
+                options=options,
                 deploy=words.deploy,
-            )  # fmt: skip
+            )
             kills += one.kills
             figures += one.verdict.figures
             bad += bool(one.verdict.faults)

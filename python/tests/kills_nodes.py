@@ -67,13 +67,22 @@ class NodeStriker(Striker):
         through = self.server.url(self.url.rpartition("/")[2], port=self.relay.port)
         self.words[2] = through
         self.environment["SAGAS_RECORD"] = str(self.folder / "record")
-        self.words += ["--eye", self.url, "--node", "same" if self.kind == "names" else self.name, "--lease", str(LEASE)]
+        self.words += [
+            "--eye",
+            self.url,
+            "--node",
+            "same" if self.kind == "names" else self.name,
+            "--lease",
+            str(LEASE),
+        ]
 
     def _strike(self, process: subprocess.Popen[bytes]) -> None:
         if self.strikes >= self.quiet:
             return
         if self.kind in ("nodes", "names", "children", "closing"):
-            word = {"nodes": "program", "names": "program", "children": "child"}.get(self.kind, self.kind)
+            word = {"nodes": "program", "names": "program", "children": "child"}.get(
+                self.kind, self.kind
+            )
             old, self.kind = self.kind, word
             try:
                 super()._strike(process)
@@ -103,7 +112,11 @@ class NodeStriker(Striker):
 
     def _relay(self, process: subprocess.Popen[bytes]) -> None:
         assert self.relay
-        self.relay.before, self.relay.after, self.relay.delay = self.draw.uniform(0, 0.05), self.draw.uniform(0, 0.1), 0.2
+        self.relay.before, self.relay.after, self.relay.delay = (
+            self.draw.uniform(0, 0.05),
+            self.draw.uniform(0, 0.1),
+            0.2,
+        )
         self._wait(process, self.draw.uniform(0.1, 0.6))
         self.relay.before = self.relay.after = self.relay.delay = 0.0
         if self.draw.random() < 0.5:
@@ -112,12 +125,16 @@ class NodeStriker(Striker):
 
     def _sessions(self, process: subprocess.Popen[bytes]) -> None:
         with psycopg.connect(self.url, autocommit=True) as link:
-            link.execute("SELECT pg_terminate_backend(pid) FROM pg_stat_activity WHERE datname = current_database() AND pid <> pg_backend_pid() AND application_name = 'sagas'")
+            link.execute(
+                "SELECT pg_terminate_backend(pid) FROM pg_stat_activity WHERE datname = current_database() AND pid <> pg_backend_pid() AND application_name = 'sagas'"
+            )
         self.kills["sessions"] += 1
 
     def _lock(self, process: subprocess.Popen[bytes]) -> None:
         # One that waited for ever could hold up all: an eye that looks behind it, in its node's loop, and so a transaction of that node before it.
-        with psycopg.connect(self.url, options="-c lock_timeout=2s") as link, contextlib.suppress(psycopg.errors.LockNotAvailable):
+        with psycopg.connect(self.url, options="-c lock_timeout=2s") as link, contextlib.suppress(
+            psycopg.errors.LockNotAvailable
+        ):
             link.execute(f"LOCK TABLE sagas.{self.draw.choice(TABLES)} IN ACCESS EXCLUSIVE MODE")
             self._wait(process, self.draw.uniform(0.1, 2 * LEASE))
         self.kills["locks"] += 2
@@ -131,7 +148,16 @@ def noted(url: str, notes: pathlib.Path) -> list[str]:
     return [token for token, count in Counter(token for token, _ in rows).items() if count > 1]
 
 
-def play(kind: str, seed: int, sagas: int, server: Server, *, most: float = 180, wrong: str | None = None, quiet: int = 6) -> Round:
+def play(
+    kind: str,
+    seed: int,
+    sagas: int,
+    server: Server,
+    *,
+    most: float = 180,
+    wrong: str | None = None,
+    quiet: int = 6,
+) -> Round:
     """One round: a database, its strikes, its judgement. Its files stay where something was found."""
     draw = random.Random(seed)
     folder = pathlib.Path(tempfile.mkdtemp(prefix="sagas-kills-"))
@@ -144,7 +170,23 @@ def play(kind: str, seed: int, sagas: int, server: Server, *, most: float = 180,
         for name in ("one", "two"):
             (folder / name).mkdir()
             (folder / name / "socket").symlink_to(folder / "socket")
-            strikers.append(NodeStriker(folder / name, kind, random.Random(f"{seed}{name}"), sagas, concurrency, most, wrong, quiet, small, server=server, relay=relay, url=url, name=name))
+            strikers.append(
+                NodeStriker(
+                    folder / name,
+                    kind,
+                    random.Random(f"{seed}{name}"),
+                    sagas,
+                    concurrency,
+                    most,
+                    wrong,
+                    quiet,
+                    small,
+                    server=server,
+                    relay=relay,
+                    url=url,
+                    name=name,
+                )
+            )
         troubles: list[str | None] = []
         threads = [threading.Thread(target=lambda one=one: troubles.append(one.until_over())) for one in strikers]  # type: ignore[misc]
         for thread in threads:
@@ -177,7 +219,9 @@ def play(kind: str, seed: int, sagas: int, server: Server, *, most: float = 180,
 
 def main() -> int:
     """The command."""
-    parser = argparse.ArgumentParser(description=__doc__, formatter_class=argparse.RawDescriptionHelpFormatter)
+    parser = argparse.ArgumentParser(
+        description=__doc__, formatter_class=argparse.RawDescriptionHelpFormatter
+    )
     parser.add_argument("--rounds", type=int, default=20)
     parser.add_argument("--kinds", default=",".join(KINDS))
     parser.add_argument("--sagas", type=int, default=40)
@@ -195,10 +239,15 @@ def main() -> int:
             bad += bool(one.found)
             for fault in one.found[:5]:
                 print(f"\n{one.kind} {one.seed} {one.folder}: {fault}")
-            print(f"{number + 1} of {words.rounds} rounds, {sum(kills.values())} strikes, {bad} bad", flush=True)
+            print(
+                f"{number + 1} of {words.rounds} rounds, {sum(kills.values())} strikes, {bad} bad",
+                flush=True,
+            )
     print(f"seed {words.seed}, {time.monotonic() - began:.0f} s")
     for title, counted in (("strikes", kills), ("figures", figures)):
-        print(f"{title}: " + ", ".join(f"{name} {number}" for name, number in sorted(counted.items())))
+        print(
+            f"{title}: " + ", ".join(f"{name} {number}" for name, number in sorted(counted.items()))
+        )
     return 1 if bad else 0
 
 

@@ -51,7 +51,9 @@ def pair(witness: Witness, draw: random.Random) -> sagas.Saga:
 
     async def called(task: sagas.Task[Any], word: str) -> None:
         await asyncio.sleep(draw.uniform(0, 0.2))
-        witness.note(what="called", key=task.key, step=word, token=task.idempotency_key, at=time.time())
+        witness.note(
+            what="called", key=task.key, step=word, token=task.idempotency_key, at=time.time()
+        )
 
     @saga.step(undo=1, keep=5)
     async def a(task: sagas.Task[Any]) -> None:
@@ -86,10 +88,17 @@ async def node(url: str, socket: str, name: str, count: int) -> None:
     """A program, until it was told of all sagas."""
     witness, draw = Witness(socket), random.Random(name)
     saga = pair(witness, draw)
-    async with sagas.open(url, [saga], node=name, lease=LEASE, concurrency=32, shutdown_timeout=5) as store:
+    async with sagas.open(
+        url, [saga], node=name, lease=LEASE, concurrency=32, shutdown_timeout=5
+    ) as store:
         print("open", flush=True)
         for lot in range(0, count, 10):
-            await asyncio.gather(*(call(store, saga, f"k{number}", witness) for number in range(lot, min(count, lot + 10))))
+            await asyncio.gather(
+                *(
+                    call(store, saga, f"k{number}", witness)
+                    for number in range(lot, min(count, lot + 10))
+                )
+            )
 
 
 @dataclass
@@ -142,20 +151,30 @@ class Round:
     def judge(self, url: str, notes: list[Json], restores: list[Restored], count: int) -> None:
         """Compares the witness's notes with what the database has."""
         rows, last = records.read(url), restores[-1]
-        since = restores[-2].done + MARGIN if len(restores) > 1 else 0.0  # a restore before it has lost what was told until then
-        ends, calls, keys = defaultdict[str, list[Json]](list), defaultdict[str, list[Json]](list), defaultdict[str, set[str]](set)
+        since = (
+            restores[-2].done + MARGIN if len(restores) > 1 else 0.0
+        )  # a restore before it has lost what was told until then
+        ends, calls, keys = (
+            defaultdict[str, list[Json]](list),
+            defaultdict[str, list[Json]](list),
+            defaultdict[str, set[str]](set),
+        )
         for note in notes:
             (ends if note["what"] == "told" else calls)[note["key"]].append(note)
             if note["what"] == "called":
                 keys[note["token"]].add(note["key"])
-        self.faults += [f"an idempotency key of {sorted(of)}" for of in keys.values() if len(of) > 1]
+        self.faults += [
+            f"an idempotency key of {sorted(of)}" for of in keys.values() if len(of) > 1
+        ]
         for number in range(count):
             key = f"k{number}"
             row = rows.sagas.get(key)
             before = [note for note in ends[key] if since < note["at"] < last.backup]
             if row is None or row.phase is None:
                 safe = [note for note in ends[key] if note["at"] > last.done + MARGIN] or before
-                self.faults += [f"{key} was told, and is {'open' if row else 'gone'}"] if safe else []
+                self.faults += (
+                    [f"{key} was told, and is {'open' if row else 'gone'}"] if safe else []
+                )
             if before and any(note["at"] > last.done + MARGIN for note in calls[key]):
                 self.faults.append(f"{key} had ended before the backup, and was called again")
             if len({note["phase"] for note in ends[key]}) > 1:
@@ -178,7 +197,10 @@ def play(seed: int, count: int, restores: int, server: Server) -> Round:
     socket, done = str(folder / "socket"), list[Restored]()
     with witness_at(folder / "socket", folder / "notes"):
         command = [sys.executable, __file__, "--node", url, socket]
-        programs = [Program([*command, name, str(count)], random.Random(f"{seed}{name}"), folder / name) for name in ("one", "two")]
+        programs = [
+            Program([*command, name, str(count)], random.Random(f"{seed}{name}"), folder / name)
+            for name in ("one", "two")
+        ]
         threads = [threading.Thread(target=program.run) for program in programs]
         for thread in threads:
             thread.start()
@@ -195,7 +217,11 @@ def play(seed: int, count: int, restores: int, server: Server) -> Round:
         for thread in threads:
             thread.join(LONG)
     played.kills = sum(program.kills for program in programs)
-    played.faults += [f"node {program.command[-2]} was not told of all" for program in programs if not program.over]
+    played.faults += [
+        f"node {program.command[-2]} was not told of all"
+        for program in programs
+        if not program.over
+    ]
     notes = [json.loads(line) for line in (folder / "notes").read_text().splitlines()]
     finish(url, server, folder)
     played.judge(url, notes, done, count)
@@ -223,7 +249,9 @@ def finish(url: str, server: Server, folder: pathlib.Path) -> None:
 
 def main() -> int:
     """Some rounds; the status is 1 where something was found."""
-    parser = argparse.ArgumentParser(description=__doc__, formatter_class=argparse.RawDescriptionHelpFormatter)
+    parser = argparse.ArgumentParser(
+        description=__doc__, formatter_class=argparse.RawDescriptionHelpFormatter
+    )
     parser.add_argument("--rounds", type=int, default=3)
     parser.add_argument("--sagas", type=int, default=400)
     parser.add_argument("--restores", type=int, default=3)
@@ -234,7 +262,12 @@ def main() -> int:
         for number in range(options.rounds):
             played = play(options.seed + number, options.sagas, options.restores, server)
             counts = f"{played.kills} kills, {played.again} sagas called again, {len(played.faults)} faults"
-            print(f"round {options.seed + number}: {counts}", *played.faults[:8], sep="\n  ", flush=True)
+            print(
+                f"round {options.seed + number}: {counts}",
+                *played.faults[:8],
+                sep="\n  ",
+                flush=True,
+            )
             faults += len(played.faults)
     return 1 if faults else 0
 

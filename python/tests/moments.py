@@ -95,14 +95,22 @@ class Node(World):
         run = await started(store, self.sagas[saga], key, {"i": number})
         note(what="started", key=key, there=eye.phase(key)[0])
         end = await run.wait()
-        told = {"phase": end.phase, "states": end.states, "results": end.results, "cost": end.cost, "aborted": end.aborted}
+        told = {
+            "phase": end.phase,
+            "states": end.states,
+            "results": end.results,
+            "cost": end.cost,
+            "aborted": end.aborted,
+        }
         note(what="over", key=key, there=eye.phase(key)[1], **told)
 
 
 def in_a_row(name: str, call: Callable[[Any], Any], inside: bool) -> sagas.Saga:
     """A saga of two steps."""
     saga = sagas.Saga(name)
-    saga.step(name="b", transaction=inside, needs=[saga.step(name="a", transaction=inside)(call)])(call)
+    saga.step(name="b", transaction=inside, needs=[saga.step(name="a", transaction=inside)(call)])(
+        call
+    )
     return saga
 
 
@@ -116,11 +124,19 @@ class Stage:
 
     @contextlib.asynccontextmanager
     async def node(
-        self, name: str, *, gates: bool = True, url: str | None = None, inside: bool = False, room: int | None = None
+        self,
+        name: str,
+        *,
+        gates: bool = True,
+        url: str | None = None,
+        inside: bool = False,
+        room: int | None = None,
     ) -> AsyncIterator[tuple[Node, sagas.Store]]:
         """A node, until the block ends. `room`: how many sagas it puts into a log."""
         node = Node(Witness(self._socket), self.url, gates, inside)
-        store = sagas.open(url or self.url, node.sagas, node=name, lease=600, idle=600, record=self.record)
+        store = sagas.open(
+            url or self.url, node.sagas, node=name, lease=600, idle=600, record=self.record
+        )
         await store.__aenter__()
         if room:
             inner(store).shelf.room = room
@@ -134,7 +150,9 @@ class Stage:
 
     async def over(self, *work: Awaitable[object]) -> None:
         """Waits until it is done; a wrong store may not do it."""
-        _, late = await asyncio.wait([asyncio.ensure_future(one) for one in work], timeout=3 if self.wrong else 60)
+        _, late = await asyncio.wait(
+            [asyncio.ensure_future(one) for one in work], timeout=3 if self.wrong else 60
+        )
         for one in late:
             one.cancel()
 
@@ -150,7 +168,9 @@ class Stage:
 
     def waiting(self) -> list[tuple[Any, ...]]:
         """The server's processes whose statements wait for a lock."""
-        return self.ask("SELECT pid FROM pg_stat_activity WHERE datname = current_database() AND wait_event_type = 'Lock'")
+        return self.ask(
+            "SELECT pid FROM pg_stat_activity WHERE datname = current_database() AND wait_event_type = 'Lock'"
+        )
 
     async def gone(self, processes: list[tuple[Any, ...]]) -> None:
         """Waits until they are no more: what they had to do is done."""
@@ -161,7 +181,10 @@ class Stage:
         of = "shard = (SELECT id / 1000 FROM sagas.sagas WHERE key = %s)"
         with psycopg.connect(self.url) as link:
             link.execute("SET search_path = sagas")
-            taken = link.execute(f"WITH mine AS (UPDATE shards SET owner = n.node, epoch = epoch + 1 FROM nodes n WHERE {of} AND n.name = %s RETURNING shard, epoch, n.node) {TAKEOVER}", (key, name))
+            taken = link.execute(
+                f"WITH mine AS (UPDATE shards SET owner = n.node, epoch = epoch + 1 FROM nodes n WHERE {of} AND n.name = %s RETURNING shard, epoch, n.node) {TAKEOVER}",
+                (key, name),
+            )
             assert taken.rowcount == 1
             link.execute("NOTIFY sagas_nodes, 'logs'")
 
@@ -195,18 +218,24 @@ async def another_node_has_the_log(stage: Stage) -> int:
         async with stage.node("same") as (second, other):
             await until(lambda: len(second.called) == 2)
             first.gates["k0", "a"].set()
-            await stage.happens(lambda: ("k0", "b") in first.called or not inner(store).shards.runners)
+            await stage.happens(
+                lambda: ("k0", "b") in first.called or not inner(store).shards.runners
+            )
             for key in ("k0", "k1"):
                 second.gates[key, "a"].set()
             await stage.happens(lambda: len(second.called) == 4)
             second.open_all()
-            await stage.happens(lambda: all(phase for (phase,) in stage.ask("SELECT phase FROM sagas")))
+            await stage.happens(
+                lambda: all(phase for (phase,) in stage.ask("SELECT phase FROM sagas"))
+            )
             first.open_all()
             await stage.over(*work)
     return 2
 
 
-async def in_one_commit(stage: Stage, node: Node, store: sagas.Store, keys: Sequence[str], number: int) -> asyncio.Task[None]:
+async def in_one_commit(
+    stage: Stage, node: Node, store: sagas.Store, keys: Sequence[str], number: int
+) -> asyncio.Task[None]:
     """Of these sagas, each of another log, the first steps end while a further saga is being started: what they come to is one commit, behind that."""
     with stage.locked("sagas"):
         work = asyncio.create_task(node.one(store, number))
@@ -261,7 +290,9 @@ async def a_commit_of_two_logs_comes_late(stage: Stage) -> int:
         async with stage.node("one", url=through(stage, relay), room=1) as (node, store):
             work = [asyncio.create_task(node.one(store, number)) for number in range(4)]
             await until(lambda: len(node.called) == 4)
-            work.append(await in_one_commit(stage, node, store, ("k0", "k1"), 4))  # the statement is prepared behind it, and not parsed when it is cut
+            work.append(
+                await in_one_commit(stage, node, store, ("k0", "k1"), 4)
+            )  # the statement is prepared behind it, and not parsed when it is cut
             await until(lambda: len(node.called) == 7)
             with stage.locked("attempts"):
                 work.append(await in_one_commit(stage, node, store, ("k2", "k3"), 5))
@@ -269,7 +300,9 @@ async def a_commit_of_two_logs_comes_late(stage: Stage) -> int:
                 relay.before = 1.0
                 relay.cut()
                 with psycopg.connect(stage.url, options="-csearch_path=sagas") as link:
-                    link.execute(f"WITH mine AS (UPDATE shards SET epoch = epoch + 1 RETURNING shard, epoch, owner AS node) {TAKEOVER}")
+                    link.execute(
+                        f"WITH mine AS (UPDATE shards SET epoch = epoch + 1 RETURNING shard, epoch, owner AS node) {TAKEOVER}"
+                    )
             await stage.gone(late)
             if stage.ask("SELECT 1 FROM attempts JOIN sagas USING (id) WHERE key IN ('k2', 'k3')"):
                 stage.found.add("came-late")
@@ -297,7 +330,9 @@ async def a_refused_start_comes_late(stage: Stage) -> int:
     return 2
 
 
-async def the_answer_to_a_commit_is_lost(stage: Stage, mark: bytes = COMMIT, inside: bool = False) -> int:
+async def the_answer_to_a_commit_is_lost(
+    stage: Stage, mark: bytes = COMMIT, inside: bool = False
+) -> int:
     """The statement that keeps a step's end is done, and its connection cut before the answer."""
     with relaying(stage.server.port) as relay:
         async with stage.node("one", url=through(stage, relay), inside=inside) as (node, store):
@@ -345,11 +380,19 @@ async def two_nodes_guess_a_key_at_once(stage: Stage) -> int:
 
 async def at_once(stage: Stage, looks: bool) -> int:
     """Two nodes whose starts of one key wait for the same table."""
-    async with stage.node("one", gates=False) as (first, store), stage.node("two", gates=False) as (second, other):
+    async with stage.node("one", gates=False) as (first, store), stage.node("two", gates=False) as (
+        second,
+        other,
+    ):
         for one in (store, other):
-            one._lookup.guessing.told(was_there=looks)  # so that its next keys are looked for, or are not
+            one._lookup.guessing.told(
+                was_there=looks
+            )  # so that its next keys are looked for, or are not
         with stage.locked("sagas"):
-            work = [asyncio.create_task(first.one(store, 0)), asyncio.create_task(second.one(other, 0))]
+            work = [
+                asyncio.create_task(first.one(store, 0)),
+                asyncio.create_task(second.one(other, 0)),
+            ]
             await until(lambda: len(stage.waiting()) == 2)
         await stage.over(*work)
     return 1
@@ -362,7 +405,11 @@ async def a_node_lives(stage: Stage) -> int:
         await until(lambda: first.called)
         async with stage.node("two") as (second, other):
             beats: set[object] = set()
-            await until(lambda: beats.update(stage.ask("SELECT lease FROM nodes WHERE name = 'two'")) or len(beats) > 3 or second.called)
+            await until(
+                lambda: beats.update(stage.ask("SELECT lease FROM nodes WHERE name = 'two'"))
+                or len(beats) > 3
+                or second.called
+            )
             if second.called:
                 stage.found.add("called-again")
             first.open_all()
@@ -387,9 +434,13 @@ async def another_node_has_the_log_of_a_step_inside(stage: Stage) -> int:
         async with stage.node("same", inside=True) as (second, other):
             await until(lambda: second.called)
             first.gates["k0", "a"].set()
-            await stage.happens(lambda: ("k0", "b") in first.called or not inner(store).shards.runners)
+            await stage.happens(
+                lambda: ("k0", "b") in first.called or not inner(store).shards.runners
+            )
             second.open_all()
-            await stage.happens(lambda: all(phase for (phase,) in stage.ask("SELECT phase FROM sagas")))
+            await stage.happens(
+                lambda: all(phase for (phase,) in stage.ask("SELECT phase FROM sagas"))
+            )
             first.open_all()
             await stage.over(work)
     return 1
@@ -429,10 +480,21 @@ async def the_answer_to_a_step_inside_is_lost(stage: Stage) -> int:
 MOMENTS = {
     moment.__name__: moment
     for moment in (
-        nothing_happens, another_node_has_the_log, another_node_has_one_of_two_logs,
-        another_node_has_the_only_log, a_commit_of_two_logs_comes_late, a_refused_start_comes_late,
-        the_answer_to_a_commit_is_lost, the_commit_takes_long, two_nodes_start_a_key_at_once, two_nodes_guess_a_key_at_once, a_node_lives, steps_are_inside,
-        another_node_has_the_log_of_a_step_inside, another_node_has_the_logs_of_steps_inside, the_commit_of_a_step_inside_is_refused,
+        nothing_happens,
+        another_node_has_the_log,
+        another_node_has_one_of_two_logs,
+        another_node_has_the_only_log,
+        a_commit_of_two_logs_comes_late,
+        a_refused_start_comes_late,
+        the_answer_to_a_commit_is_lost,
+        the_commit_takes_long,
+        two_nodes_start_a_key_at_once,
+        two_nodes_guess_a_key_at_once,
+        a_node_lives,
+        steps_are_inside,
+        another_node_has_the_log_of_a_step_inside,
+        another_node_has_the_logs_of_steps_inside,
+        the_commit_of_a_step_inside_is_refused,
         the_answer_to_a_step_inside_is_lost,
     )
 }
@@ -442,8 +504,15 @@ MOMENTS = {
 def applied(name: str | None) -> Iterator[None]:
     """A wrong store in place of the right one, until the block ends."""
     owners: list[Any] = [
-        storage, storage.PostgreSQL, commit_statement, commit_statement.Commit, node_lease, shard_loader, step_commit, step_connections.AsyncStepLink,
-    ]  # fmt: skip
+        storage,
+        storage.PostgreSQL,
+        commit_statement,
+        commit_statement.Commit,
+        node_lease,
+        shard_loader,
+        step_commit,
+        step_connections.AsyncStepLink,
+    ]
     before = [dict(vars(owner)) for owner in owners]
     parts = dict(commit_statement.PARTS)
     commit_statement.statement.cache_clear()

@@ -20,10 +20,25 @@ WORD = re.compile(
 )
 KINDS = {"string": str, "boolean": bool}
 ANNOTATIONS = {
-    "$comment", "$defs", "$id", "$ref", "$schema", "title", "description", "default", "deprecated",
-    "examples", "example", "readOnly", "writeOnly", "discriminator", "xml", "externalDocs",
-    "contentEncoding", "contentMediaType",
-}  # fmt: skip
+    "$comment",
+    "$defs",
+    "$id",
+    "$ref",
+    "$schema",
+    "title",
+    "description",
+    "default",
+    "deprecated",
+    "examples",
+    "example",
+    "readOnly",
+    "writeOnly",
+    "discriminator",
+    "xml",
+    "externalDocs",
+    "contentEncoding",
+    "contentMediaType",
+}
 
 
 @dataclasses.dataclass(frozen=True)

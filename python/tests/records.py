@@ -102,15 +102,21 @@ def read(store: pathlib.Path | str) -> Records:
             "ORDER BY shard, place"
         ):
             logs[log].texts.append(text)
-        for log, first, text in ask("SELECT shard, first_seq, text FROM event_log ORDER BY shard, first_seq"):
+        for log, first, text in ask(
+            "SELECT shard, first_seq, text FROM event_log ORDER BY shard, first_seq"
+        ):
             logs[log].chunks.append((first, text))
         sagas = {
             key: SagaRow(id, key, place, json.loads(text), phase, json.loads(end) if end else None)
-            for id, key, place, text, phase, end in ask('SELECT id, key, definition_index, input, phase, outcome FROM sagas')
+            for id, key, place, text, phase, end in ask(
+                "SELECT id, key, definition_index, input, phase, outcome FROM sagas"
+            )
         }
         results = {
             (id, step, kind, attempt): Outcome(outcome, json.loads(value) if value else None)
-            for id, step, kind, attempt, outcome, value in ask("SELECT id, step, action, number, event, value FROM attempts")
+            for id, step, kind, attempt, outcome, value in ask(
+                "SELECT id, step, action, number, event, value FROM attempts"
+            )
         }
         return Records(logs, sagas, results)
 

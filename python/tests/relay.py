@@ -93,7 +93,9 @@ class Relay:
                 asyncio.create_task(self._pass(back, writer, "after", marked, owes)),
             ]
             await asyncio.wait(both, return_when=asyncio.FIRST_COMPLETED)
-            if both[0].done() and not self._passes.is_set():  # the client said all that it says, and what is held still comes to it
+            if (
+                both[0].done() and not self._passes.is_set()
+            ):  # the client said all that it says, and what is held still comes to it
                 forth.write_eof()
                 await both[1]
             self._links -= {writer, forth}
@@ -102,7 +104,14 @@ class Relay:
             writer.close()
             forth.close()
 
-    async def _pass(self, reader: asyncio.StreamReader, writer: asyncio.StreamWriter, way: str, marked: asyncio.Event, owes: asyncio.Event) -> None:
+    async def _pass(
+        self,
+        reader: asyncio.StreamReader,
+        writer: asyncio.StreamWriter,
+        way: str,
+        marked: asyncio.Event,
+        owes: asyncio.Event,
+    ) -> None:
         with contextlib.suppress(OSError):
             while data := await reader.read(1 << 16):
                 if way == "before" and self.mark and self.mark in data:

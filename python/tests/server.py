@@ -60,7 +60,9 @@ class Server:
 
     def __init__(self, folder: pathlib.Path, settings: dict[str, str] | None = None) -> None:
         self.folder, self.port, self._started = folder, free_port(), False
-        self._settings = {"fsync": "off", "max_connections": "200", "log_min_messages": "fatal"} | (settings or {})
+        self._settings = {"fsync": "off", "max_connections": "200", "log_min_messages": "fatal"} | (
+            settings or {}
+        )
 
     def own(self) -> None:
         """Makes its folder, which is its user's."""
@@ -76,7 +78,22 @@ class Server:
     def copy(self, primary: Server) -> None:
         """Makes its files those of another server, as whose standby it will start."""
         self.own()
-        words = ["-D", str(self.folder / "data"), "-h", "127.0.0.1", "-p", str(primary.port), "-U", "owner", "-R", "-X", "stream", "-c", "fast", "--no-sync"]
+        words = [
+            "-D",
+            str(self.folder / "data"),
+            "-h",
+            "127.0.0.1",
+            "-p",
+            str(primary.port),
+            "-U",
+            "owner",
+            "-R",
+            "-X",
+            "stream",
+            "-c",
+            "fast",
+            "--no-sync",
+        ]
         self.run("pg_basebackup", *words)
 
     def promote(self) -> None:
@@ -84,13 +101,21 @@ class Server:
         self.run("pg_ctl", "-D", str(self.folder / "data"), "-w", "-t", "180", "promote")
 
     def _as_other(self, name: str, *words: str) -> list[str]:
-        first = ["setpriv", f"--reuid={OTHER}", f"--regid={OTHER}", "--clear-groups"] if os.geteuid() == 0 else []
+        first = (
+            ["setpriv", f"--reuid={OTHER}", f"--regid={OTHER}", "--clear-groups"]
+            if os.geteuid() == 0
+            else []
+        )
         return [*first, str(folder_of_programs() / name), *words]
 
     def run(self, name: str, *words: str) -> None:
         """Runs one of PostgreSQL's programs, as the user of the server."""
-        with open(self.folder.parent / f"{self.folder.name}.said", "w+", encoding="utf-8") as said:  # a file: the server keeps what it is given
-            done = subprocess.run(self._as_other(name, *words), stdout=said, stderr=said, cwd="/", check=False)
+        with open(
+            self.folder.parent / f"{self.folder.name}.said", "w+", encoding="utf-8"
+        ) as said:  # a file: the server keeps what it is given
+            done = subprocess.run(
+                self._as_other(name, *words), stdout=said, stderr=said, cwd="/", check=False
+            )
             if done.returncode:
                 said.seek(0)
                 raise RuntimeError(f"{name}: {said.read()}")
@@ -108,7 +133,11 @@ class Server:
         self._started = True
 
     def _start(self) -> None:
-        words = {"listen_addresses": "127.0.0.1", "port": str(self.port), "unix_socket_directories": str(self.folder)} | self._settings
+        words = {
+            "listen_addresses": "127.0.0.1",
+            "port": str(self.port),
+            "unix_socket_directories": str(self.folder),
+        } | self._settings
         told = " ".join(f"-c {name}={value}" for name, value in words.items())
         places = ["-D", str(self.folder / "data"), "-l", str(self.folder / "output")]
         self.run("pg_ctl", *places, "-o", told, "-w", "-t", "180", "start")
@@ -144,7 +173,6 @@ class Server:
         with psycopg.connect(self.url("postgres"), autocommit=True) as link:
             link.execute(f"DROP DATABASE IF EXISTS {name} WITH (FORCE)")
 
-
     def back_up(self, url: str) -> pathlib.Path:
         """A backup of a database that may be in use."""
         backup = self.folder / f"{uuid.uuid4().hex}.backup"
@@ -176,7 +204,9 @@ class Server:
 
 
 @contextlib.contextmanager
-def serving(settings: dict[str, str] | None = None, inside: pathlib.Path | None = None) -> Iterator[Server]:
+def serving(
+    settings: dict[str, str] | None = None, inside: pathlib.Path | None = None
+) -> Iterator[Server]:
     """A server in a folder of its own, `inside` another where it says so, until the block ends."""
     with _folder(inside) as folder:
         server = Server(folder / "server", settings)
@@ -219,7 +249,9 @@ class Pair:
         ((now,),) = self.ask("SELECT pg_current_wal_flush_lsn()")
         with psycopg.connect(self.standby.url("postgres"), autocommit=True) as link:
             until = time.monotonic() + 60
-            while link.execute("SELECT pg_last_wal_replay_lsn() >= %s::pg_lsn", (now,)).fetchone() != (True,):
+            while link.execute(
+                "SELECT pg_last_wal_replay_lsn() >= %s::pg_lsn", (now,)
+            ).fetchone() != (True,):
                 if time.monotonic() > until:
                     raise TimeoutError("the standby does not follow")
                 time.sleep(0.02)

@@ -53,7 +53,9 @@ class _Actor(socketserver.ThreadingUnixStreamServer):
 
 
 @contextlib.contextmanager
-def acting(address: pathlib.Path, socket: pathlib.Path, store: str, definitions: pathlib.Path) -> Iterator[None]:
+def acting(
+    address: pathlib.Path, socket: pathlib.Path, store: str, definitions: pathlib.Path
+) -> Iterator[None]:
     """Functions at an address, until the block ends."""
     server = _Actor(str(address), Bare(Witness(str(socket)), Eye(store), definitions))
     thread = threading.Thread(target=server.serve_forever, args=(0.05,), daemon=True)
@@ -66,9 +68,13 @@ def acting(address: pathlib.Path, socket: pathlib.Path, store: str, definitions:
         server.server_close()
 
 
-def worker(command: list[str], url: str, address: pathlib.Path, lease: float, errors: BinaryIO) -> subprocess.Popen[bytes]:
+def worker(
+    command: list[str], url: str, address: pathlib.Path, lease: float, errors: BinaryIO
+) -> subprocess.Popen[bytes]:
     """A worker in another language: the driver of the contract suite, whose functions are at the address."""
-    process = subprocess.Popen(command, env=environment(), stdin=subprocess.PIPE, stdout=subprocess.DEVNULL, stderr=errors)
+    process = subprocess.Popen(
+        command, env=environment(), stdin=subprocess.PIPE, stdout=subprocess.DEVNULL, stderr=errors
+    )
     steps = [f"{saga}/{step}{'/undo' if kind == 'undo' else ''}" for saga, step, kind in RATES]
     words = {"id": 1, "do": "worker", "worker": "w", "url": url, "token": None, "steps": steps}
     line = json.dumps({**words, "concurrency": 3, "lease": lease, "wait": 5, "act": str(address)})

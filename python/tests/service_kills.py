@@ -51,8 +51,14 @@ NODE_LEASE = 2.0
 class Callers:
     """Threads that start sagas, and see them to their ends, whatever becomes of the services; each asks now one and now another."""
 
-    def __init__(self, services: list[Served], socket: pathlib.Path, sagas: int, count: int, most: float) -> None:
-        self.services, self.eye, self.witness = services, Eye(services[0].store), Witness(str(socket))
+    def __init__(
+        self, services: list[Served], socket: pathlib.Path, sagas: int, count: int, most: float
+    ) -> None:
+        self.services, self.eye, self.witness = (
+            services,
+            Eye(services[0].store),
+            Witness(str(socket)),
+        )
         self.left, self.lock = list(range(sagas)), threading.Lock()
         self.until, self.over = time.monotonic() + most, threading.Event()
         self.faults: list[str] = []
@@ -74,7 +80,9 @@ class Callers:
         self.over.set()
         self.approver.join()
 
-    def _ask(self, clients: list[httpx.Client], ask: Callable[[httpx.Client], httpx.Response]) -> httpx.Response:
+    def _ask(
+        self, clients: list[httpx.Client], ask: Callable[[httpx.Client], httpx.Response]
+    ) -> httpx.Response:
         """Asks until it is answered, one service after the other."""
         while time.monotonic() < self.until:
             clients.append(clients.pop(0))
@@ -111,18 +119,31 @@ class Callers:
             return
         note(what="started", key=key, there=self.eye.phase(key)[0])
         is_late = number % 5 == 3 and self._is_unknown(clients, key)
-        if (number % 17 == 0 or is_late) and self._ask(clients, lambda client: client.post(f"/v1/sagas/{key}/abort", json={"note": "for a try"})).json()["aborted"]:
+        if (number % 17 == 0 or is_late) and self._ask(
+            clients,
+            lambda client: client.post(f"/v1/sagas/{key}/abort", json={"note": "for a try"}),
+        ).json()["aborted"]:
             note(what="aborted", key=key, there=self.eye.aborts(key))
         end: dict[str, Any] = {"over": False}
         while not end["over"]:
-            end = self._ask(clients, lambda client: client.get(f"/v1/sagas/{key}/wait?seconds=5")).json()
-        told = {"phase": end["phase"], "states": end["states"], "results": end["results"], "cost": (end["plan"] or {}).get("cost"), "aborted": end["aborted"]}
+            end = self._ask(
+                clients, lambda client: client.get(f"/v1/sagas/{key}/wait?seconds=5")
+            ).json()
+        told = {
+            "phase": end["phase"],
+            "states": end["states"],
+            "results": end["results"],
+            "cost": (end["plan"] or {}).get("cost"),
+            "aborted": end["aborted"],
+        }
         note(what="over", key=key, there=self.eye.phase(key)[1], **told)
 
     def _is_unknown(self, clients: list[httpx.Client], key: str) -> bool:
         """Waits until an outcome is unknown, and whether one is before the saga's end: a worker may have had its task from the service that does not drive it."""
         while True:
-            saga = self._ask(clients, lambda client: client.get(f"/v1/sagas/{key}/wait?seconds=0")).json()
+            saga = self._ask(
+                clients, lambda client: client.get(f"/v1/sagas/{key}/wait?seconds=0")
+            ).json()
             if saga["over"] or any(wait["why"] == "unknown" for wait in saga["waits"]):
                 return not saga["over"]
             time.sleep(0.05)
@@ -134,18 +155,40 @@ class Callers:
                     clients.append(clients.pop(0))
                     for key in self.eye.asked():
                         value = expected(key, "approve")
-                        if clients[0].post(f"/v1/sagas/{key}/steps/approve/complete", json={"result": value}).status_code == 200:
-                            self.witness.note(what="finished", key=key, there=self.eye.finished(key, value))
+                        if (
+                            clients[0]
+                            .post(f"/v1/sagas/{key}/steps/approve/complete", json={"result": value})
+                            .status_code
+                            == 200
+                        ):
+                            self.witness.note(
+                                what="finished", key=key, there=self.eye.finished(key, value)
+                            )
                 self.over.wait(0.1)
 
 
 class Round:
     """One store, its services, workers and callers, and what strikes them."""
 
-    def __init__(self, folder: pathlib.Path, draw: random.Random, sagas: int, workers: int, callers: int, strikes: int, most: float, url: str | None, others: Sequence[list[str]] = ()) -> None:
+    def __init__(
+        self,
+        folder: pathlib.Path,
+        draw: random.Random,
+        sagas: int,
+        workers: int,
+        callers: int,
+        strikes: int,
+        most: float,
+        url: str | None,
+        others: Sequence[list[str]] = (),
+    ) -> None:
         self.others = others
         self.folder, self.draw, self.strikes, self.url = folder, draw, strikes, url
-        self.services = [self._service(name, url) for name in ("one", "two")] if url else [Served(folder, texts())]
+        self.services = (
+            [self._service(name, url) for name in ("one", "two")]
+            if url
+            else [Served(folder, texts())]
+        )
         self.kills: Counter[str] = Counter()
         self.sagas, self.most, self.count = sagas, most, workers
         self.callers = callers
@@ -153,7 +196,14 @@ class Round:
 
     def _service(self, name: str, url: str) -> Served:
         (self.folder / name).mkdir()
-        words = ["--node", name, "--lease", str(NODE_LEASE), "--record", str(self.folder / name / "record")]
+        words = [
+            "--node",
+            name,
+            "--lease",
+            str(NODE_LEASE),
+            "--record",
+            str(self.folder / name / "record"),
+        ]
         return Served(self.folder / name, texts(), *words, store=url)
 
     def _worker(self, place: int) -> subprocess.Popen[bytes]:
@@ -161,12 +211,25 @@ class Round:
         language = place % (1 + len(self.others))
         if language:
             with open(self.folder / "worker-errors", "ab") as errors:
-                return service_actor.worker(self.others[language - 1], service.url, self.folder / "actor", LEASE, errors)
-        words = [sys.executable, str(HERE / "service_worker.py"), service.url, service.store, str(self.folder / "socket")]
+                return service_actor.worker(
+                    self.others[language - 1], service.url, self.folder / "actor", LEASE, errors
+                )
+        words = [
+            sys.executable,
+            str(HERE / "service_worker.py"),
+            service.url,
+            service.store,
+            str(self.folder / "socket"),
+        ]
         words += [str(service.folder / "definitions"), "--lease", str(LEASE)]
         path = f"{HERE.parent / 'src'}{os.pathsep}{HERE}"
         with open(self.folder / "worker-errors", "ab") as errors:
-            return subprocess.Popen(words, env=environment() | {"PYTHONPATH": path}, stdout=subprocess.DEVNULL, stderr=errors)
+            return subprocess.Popen(
+                words,
+                env=environment() | {"PYTHONPATH": path},
+                stdout=subprocess.DEVNULL,
+                stderr=errors,
+            )
 
     def play(self) -> Verdict:
         """Until all is over; then it is judged."""
@@ -176,8 +239,17 @@ class Round:
                 service.start()
             if self.others:
                 first = self.services[0]
-                stack.enter_context(service_actor.acting(self.folder / "actor", self.folder / "socket", first.store, first.folder / "definitions"))
-            callers = Callers(self.services, self.folder / "socket", self.sagas, self.callers, self.most)
+                stack.enter_context(
+                    service_actor.acting(
+                        self.folder / "actor",
+                        self.folder / "socket",
+                        first.store,
+                        first.folder / "definitions",
+                    )
+                )
+            callers = Callers(
+                self.services, self.folder / "socket", self.sagas, self.callers, self.most
+            )
             try:
                 self.workers = [self._worker(place) for place in range(self.count)]
                 callers.start()
@@ -190,7 +262,9 @@ class Round:
         verdict = judge(self.services[0].store, self.folder / "notes", self.sagas)
         verdict.faults += callers.faults
         if self.url:
-            verdict.faults += fleet.judged(self.url, [service.folder / "record" for service in self.services])[1]
+            verdict.faults += fleet.judged(
+                self.url, [service.folder / "record" for service in self.services]
+            )[1]
         for path in (*(service.errors for service in self.services), self.folder / "worker-errors"):
             text = path.read_text(errors="replace")
             if "Traceback" in text or '"trace"' in text:
@@ -198,7 +272,14 @@ class Round:
         return verdict
 
     def _strike(self) -> None:
-        kinds = ["the service", "the service", "the service, asked to end", "a worker", "a worker stands still", *(["the service stands still"] if self.url else [])]
+        kinds = [
+            "the service",
+            "the service",
+            "the service, asked to end",
+            "a worker",
+            "a worker stands still",
+            *(["the service stands still"] if self.url else []),
+        ]
         what = self.draw.choice(kinds)
         place = self.draw.randrange(self.count)
         service = self.draw.choice(self.services)
@@ -232,7 +313,16 @@ class Round:
             service.kill()
 
 
-def play(seed: int, sagas: int, workers: int, callers: int, strikes: int, most: float = 240, server: Server | None = None, others: Sequence[list[str]] = ()) -> tuple[Verdict, Counter[str], pathlib.Path | None]:
+def play(
+    seed: int,
+    sagas: int,
+    workers: int,
+    callers: int,
+    strikes: int,
+    most: float = 240,
+    server: Server | None = None,
+    others: Sequence[list[str]] = (),
+) -> tuple[Verdict, Counter[str], pathlib.Path | None]:
     """One round; its files stay where something was found."""
     folder = pathlib.Path(tempfile.mkdtemp(prefix="sagas-service-"))
     url = server.create() if server else None
@@ -248,11 +338,15 @@ def play(seed: int, sagas: int, workers: int, callers: int, strikes: int, most: 
 
 def main() -> int:
     """The command."""
-    parser = argparse.ArgumentParser(description=__doc__, formatter_class=argparse.RawDescriptionHelpFormatter)
+    parser = argparse.ArgumentParser(
+        description=__doc__, formatter_class=argparse.RawDescriptionHelpFormatter
+    )
     parser.add_argument("--rounds", type=int, default=10)
     parser.add_argument("--store", choices=("sqlite", "postgresql"), default="sqlite")
     parser.add_argument("--sagas", type=int, default=200)
-    parser.add_argument("--workers", default="10", help="how many in Python, or mixed: ten in all languages")
+    parser.add_argument(
+        "--workers", default="10", help="how many in Python, or mixed: ten in all languages"
+    )
     parser.add_argument("--callers", type=int, default=20)
     parser.add_argument("--strikes", type=int, default=40)
     parser.add_argument("--seed", type=int, default=random.randrange(10**6))
@@ -261,21 +355,41 @@ def main() -> int:
     figures: Counter[str] = Counter()
     bad, began = 0, time.monotonic()
     with contextlib.ExitStack() as stack:
-        server = stack.enter_context(serving({"fsync": "on"})) if words.store == "postgresql" else None
+        server = (
+            stack.enter_context(serving({"fsync": "on"})) if words.store == "postgresql" else None
+        )
         made = stack.enter_context(commands())
-        others = [made(one) for one in languages() if one != "python"] if words.workers == "mixed" else []
+        others = (
+            [made(one) for one in languages() if one != "python"]
+            if words.workers == "mixed"
+            else []
+        )
         workers = 10 if others else int(words.workers)
         for number in range(words.rounds):
-            verdict, struck, folder = play(words.seed + number, words.sagas, workers, words.callers, words.strikes, most=900, server=server, others=others)
+            verdict, struck, folder = play(
+                words.seed + number,
+                words.sagas,
+                workers,
+                words.callers,
+                words.strikes,
+                most=900,
+                server=server,
+                others=others,
+            )
             kills += struck
             figures += verdict.figures
             bad += bool(verdict.faults)
             for fault in verdict.faults[:5]:
                 print(f"{words.seed + number} {folder}: {fault}")
-            print(f"{number + 1} of {words.rounds} rounds, {sum(kills.values())} strikes, {bad} bad", flush=True)
+            print(
+                f"{number + 1} of {words.rounds} rounds, {sum(kills.values())} strikes, {bad} bad",
+                flush=True,
+            )
     print(f"seed {words.seed}, {time.monotonic() - began:.0f} s")
     for title, counted in (("strikes", kills), ("figures", figures)):
-        print(f"{title}: " + ", ".join(f"{name} {number}" for name, number in sorted(counted.items())))
+        print(
+            f"{title}: " + ", ".join(f"{name} {number}" for name, number in sorted(counted.items()))
+        )
     return 1 if bad else 0
 
 

@@ -71,13 +71,19 @@ class Twice(sagas.Worker):
         self._right = self._service.until_told
         self._service.until_told = self._twice  # type: ignore[method-assign]
 
-    def _twice(self, path: str, body: dict[str, Any], giving_up: bool = False) -> dict[str, Any] | None:
+    def _twice(
+        self, path: str, body: dict[str, Any], giving_up: bool = False
+    ) -> dict[str, Any] | None:
         told = self._right(path, body, giving_up)
         if told and "kept" in told and random.random() < 0.2:
             try:
-                again = self._right(path, {name: value for name, value in body.items() if name != "next"})
+                again = self._right(
+                    path, {name: value for name, value in body.items() if name != "next"}
+                )
                 assert again and again["repeated"], (path, body, again)
-            except ServiceRefused as refusal:  # of an unknown outcome a service knows no more when it has started again, and its lease is none
+            except (
+                ServiceRefused
+            ) as refusal:  # of an unknown outcome a service knows no more when it has started again, and its lease is none
                 assert refusal.status == 409 and path.endswith("/unknown"), (path, body, refusal)
         return told
 
@@ -85,13 +91,20 @@ class Twice(sagas.Worker):
 def texts() -> dict[str, str]:
     """The definitions of `world.py`, and what goes with them."""
     world = World.__new__(World)
-    found = {f"{saga.name}.toml": saga.toml() for saga in (World.chain(world), World.trip(world), World.must(world))}
+    found = {
+        f"{saga.name}.toml": saga.toml()
+        for saga in (World.chain(world), World.trip(world), World.must(world))
+    }
     found["late.toml"] = LATE
     for name in ("chain", "trip", "must", "late"):
         steps = [step for saga, step, kind in RATES if saga == name and kind == "run"]
-        pauses = {step: 0.5 if RATES.get((name, step, "run"), (0, 0))[1] else 0.02 for step in steps}
+        pauses = {
+            step: 0.5 if RATES.get((name, step, "run"), (0, 0))[1] else 0.02 for step in steps
+        }
         manner = 'backoff = {{ initial = {0}, maximum = {0} }}\nundo_on_exhausted = "fail"\n'
-        found[f"{name}.service.toml"] = "".join(f"[step.{step}]\n{manner.format(pauses[step])}" for step in steps)
+        found[f"{name}.service.toml"] = "".join(
+            f"[step.{step}]\n{manner.format(pauses[step])}" for step in steps
+        )
     found["late.service.toml"] += '[step.approve]\nkind = "approval"\n'
     return found
 

@@ -92,13 +92,23 @@ def host() -> str:
 
 
 def environment() -> dict[str, str]:
-    return os.environ | {"PYTHONPATH": str(HERE.parent / "src"), "SAGAS_PROGRAM": program(), "PYTHONUNBUFFERED": "1"}
+    return os.environ | {
+        "PYTHONPATH": str(HERE.parent / "src"),
+        "SAGAS_PROGRAM": program(),
+        "PYTHONUNBUFFERED": "1",
+    }
 
 
 class Served:
     """A service over `folder/store.db`, or another store, with definitions in `folder/definitions`."""
 
-    def __init__(self, folder: pathlib.Path, files: dict[str, str] = DEFINITIONS, *words: str, store: str | None = None) -> None:
+    def __init__(
+        self,
+        folder: pathlib.Path,
+        files: dict[str, str] = DEFINITIONS,
+        *words: str,
+        store: str | None = None,
+    ) -> None:
         self.folder, self.words, self.address = folder, words, f"{host()}:0"
         self.store, self.errors = store or str(folder / "store.db"), folder / "errors"
         self.process: subprocess.Popen[bytes] | None = None
@@ -111,12 +121,29 @@ class Served:
         return f"http://{self.address}"
 
     def command(self) -> list[str]:
-        return [sys.executable, "-m", "sagas", "serve", self.store, "--definitions", str(self.folder / "definitions"), "--listen", self.address, *self.words]
+        return [
+            sys.executable,
+            "-m",
+            "sagas",
+            "serve",
+            self.store,
+            "--definitions",
+            str(self.folder / "definitions"),
+            "--listen",
+            self.address,
+            *self.words,
+        ]
 
     def start(self) -> None:
         """Starts it, and waits until it answers."""
         with open(self.errors, "ab") as errors:
-            self.process = subprocess.Popen(self.command(), env=environment(), stdout=subprocess.PIPE, stderr=errors, cwd=self.folder)
+            self.process = subprocess.Popen(
+                self.command(),
+                env=environment(),
+                stdout=subprocess.PIPE,
+                stderr=errors,
+                cwd=self.folder,
+            )
         assert self.process.stdout
         line = self.process.stdout.readline().decode()
         if "http://" not in line:
@@ -154,7 +181,14 @@ class Served:
         headers = {"Authorization": f"Bearer {token}"} if token else {}
         hooks = {"response": [contract.check]}  # each answer is as the OpenAPI document has it
         words = {"verify": False} | words  # it speaks no TLS, so no certificates need be read
-        return httpx.Client(base_url=self.url, timeout=LONG, trust_env=False, headers=headers, event_hooks=hooks, **words)
+        return httpx.Client(
+            base_url=self.url,
+            timeout=LONG,
+            trust_env=False,
+            headers=headers,
+            event_hooks=hooks,
+            **words,
+        )
 
     def told(self) -> str:
         """What it has logged."""
@@ -162,7 +196,9 @@ class Served:
 
 
 @contextmanager
-def served(folder: pathlib.Path, files: dict[str, str] = DEFINITIONS, *words: str, store: str | None = None) -> Iterator[Served]:
+def served(
+    folder: pathlib.Path, files: dict[str, str] = DEFINITIONS, *words: str, store: str | None = None
+) -> Iterator[Served]:
     """A service until the block ends."""
     one = Served(folder, files, *words, store=store)
     one.start()
@@ -190,9 +226,14 @@ def token(folder: pathlib.Path, name: str, *roles: str) -> str:
     return done.stdout.strip()
 
 
-def take(client: httpx.Client, *steps: str, wait: float = 30, lease: float = 600, most: int = 1) -> list[dict[str, Any]]:
+def take(
+    client: httpx.Client, *steps: str, wait: float = 30, lease: float = 600, most: int = 1
+) -> list[dict[str, Any]]:
     """Takes tasks."""
-    answer = client.post("/v1/tasks/claim", json={"steps": steps, "wait": wait, "lease": lease, "limit": most, "worker": "w"})
+    answer = client.post(
+        "/v1/tasks/claim",
+        json={"steps": steps, "wait": wait, "lease": lease, "limit": most, "worker": "w"},
+    )
     assert answer.status_code == 200, answer.text
     found: list[dict[str, Any]] = answer.json()["tasks"]
     return found
@@ -204,9 +245,13 @@ def error_of(answer: httpx.Response) -> str:
     return str(told["type"]).rpartition(":")[2]
 
 
-def report(client: httpx.Client, task: dict[str, Any], word: str = "complete", **more: Any) -> httpx.Response:
+def report(
+    client: httpx.Client, task: dict[str, Any], word: str = "complete", **more: Any
+) -> httpx.Response:
     """Reports a task."""
-    return client.post(f"/v1/tasks/{task['attempt_id']}/{word}", json={"lease": task["lease"], **more})
+    return client.post(
+        f"/v1/tasks/{task['attempt_id']}/{word}", json={"lease": task["lease"], **more}
+    )
 
 
 def start(client: httpx.Client, definition: str, key: str, given: Any = None) -> httpx.Response:
@@ -218,7 +263,11 @@ def all_done(client: httpx.Client, *steps: str, failing: Sequence[str] = ()) -> 
     """Does these tasks, one after the other, each once it is there."""
     for step in steps:
         (task,) = take(client, step)
-        answer = report(client, task, "fail", error="no", final=True) if step in failing else report(client, task, result={"of": task["step"]})
+        answer = (
+            report(client, task, "fail", error="no", final=True)
+            if step in failing
+            else report(client, task, result={"of": task["step"]})
+        )
         assert answer.status_code == 200, answer.text
 
 

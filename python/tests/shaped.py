@@ -50,8 +50,14 @@ def release(task: sagas.Task[Order]) -> None:
     note(task, "release")
 
 
-@order.step(for_each="parcels", needs=[reserve], undo=10, keep=lambda parcel: parcel.value,
-            tries=2, backoff=sagas.Backoff(initial=0.01))  # fmt: skip
+@order.step(
+    for_each="parcels",
+    needs=[reserve],
+    undo=10,
+    keep=lambda parcel: parcel.value,
+    tries=2,
+    backoff=sagas.Backoff(initial=0.01),
+)
 def ship(task: sagas.ItemTask[Order, Parcel]) -> str:
     parcel = task.item
     assert parcel == task.input.parcels[int(task.index)]
@@ -179,9 +185,12 @@ def flight(task: sagas.Task[Trip]) -> str:
 
 
 inside = trip.include(
-    package, name="p", needs=[flight], input="package",
+    package,
+    name="p",
+    needs=[flight],
+    input="package",
     given=lambda task: f"by {task.result_of(flight)}",
-)  # fmt: skip
+)
 
 
 @trip.step(needs=[inside], skip=7)

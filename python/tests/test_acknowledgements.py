@@ -140,8 +140,11 @@ def test_another_server_takes_over_while_a_commit_is_sent(record: RecordFile) ->
     record.close()
     lines = [line.split(" ") for line in pathlib.Path(record.path).read_text().splitlines()[1:]]
     assert [(words[0], words[4]) for words in lines] == [
-        ("took", LINE), ("sent", LINE), ("heard", LINE), ("told", "00000002"),
-    ]  # fmt: skip
+        ("took", LINE),
+        ("sent", LINE),
+        ("heard", LINE),
+        ("told", "00000002"),
+    ]
 
 
 @pytest.mark.parametrize("early", [False, True])
@@ -294,8 +297,10 @@ def test_an_attempt_that_the_store_does_not_have_rests_on_nothing(record: Record
     assert attempt.instance.rest and attempt.rest is None
     acknowledgements.called(attempt)
     assert [line for line in noted(record) if line.startswith("told")] == [
-        "told 1 call", "told 1 call", f"told {BEYOND} call",
-    ]  # fmt: skip
+        "told 1 call",
+        "told 1 call",
+        f"told {BEYOND} call",
+    ]
 
 
 def test_what_is_not_in_the_store_rests_on_nothing(record: RecordFile) -> None:

@@ -28,7 +28,9 @@ def statements(body: list[ast.stmt], owner: str) -> list[str]:
             continue
         within = [*ast.walk(node)]
         prose = {id(one.value) for one in within if isinstance(one, ast.Expr)}
-        texts = [one.value for one in within if isinstance(one, ast.Constant) and id(one) not in prose]
+        texts = [
+            one.value for one in within if isinstance(one, ast.Constant) and id(one) not in prose
+        ]
         if any(isinstance(text, str) and CHANGES.search(text) for text in texts):
             found += [f"{owner}.{name}" for name in names]
     return found

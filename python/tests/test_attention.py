@@ -92,12 +92,20 @@ def test_what_needs_a_person(
             with pytest.raises(ValueError, match="limit=0"):
                 await store.attention(limit=0)
             (failed,) = [one for one in events if one.name == "saga_undo_failed"]
-            assert failed.key == "gone" and "the compensation failed permanently" in str(failed.detail)
+            assert failed.key == "gone" and "the compensation failed permanently" in str(
+                failed.detail
+            )
             looks = StoreReader(store.reader())
             try:
                 assert told(looks.ask(lists.attention())) == WANTED
                 assert looks.ask(lists.asked()) == {
-                    "stuck": 1, "undo_failed": 1, "unused_report": 0, "unknown": 1, "exhausted": 0, "cannot_decode": 0, "damaged": 0,
+                    "stuck": 1,
+                    "undo_failed": 1,
+                    "unused_report": 0,
+                    "unknown": 1,
+                    "exhausted": 0,
+                    "cannot_decode": 0,
+                    "damaged": 0,
                     "approval": 0,
                 }
             finally:
@@ -120,7 +128,9 @@ async def by_store(place: str, kinds: list[sagas.Saga]) -> None:
         await store.resolve("gone", "paid back")
         with pytest.raises(sagas.StepNotWaiting, match="'gone' .* The first note stays"):
             await store.resolve("gone", "again", by="bob")
-        with pytest.raises(sagas.StepNotWaiting, match="'well-undone' does not need to be resolved"):
+        with pytest.raises(
+            sagas.StepNotWaiting, match="'well-undone' does not need to be resolved"
+        ):
             await store.resolve("well-undone", "x")
 
 
@@ -137,7 +147,9 @@ async def by_client(place: str, kinds: list[sagas.Saga]) -> None:
         await client.resolve("gone", "paid back")
         with pytest.raises(sagas.StepNotWaiting, match="'gone' .* The first note stays"):
             await client.resolve("gone", "again", by="bob")
-        with pytest.raises(sagas.StepNotWaiting, match="'well-undone' does not need to be resolved"):
+        with pytest.raises(
+            sagas.StepNotWaiting, match="'well-undone' does not need to be resolved"
+        ):
             await client.resolve("well-undone", "x")
         with pytest.raises(sagas.NoSuchSaga):
             await client.resolve("nobody", "x")
@@ -182,7 +194,11 @@ def test_one_whose_compensation_failed_is_resolved(
             assert await store.list(phase="undo_failed") == []
             assert [one.key for one in await store.list(phase="recovered")] == ["well-undone"]
             end = await store.wait("gone")
-            assert (end.phase, end.note, end.states["take"]) == ("resolved", "paid back", "undo_failed")
+            assert (end.phase, end.note, end.states["take"]) == (
+                "resolved",
+                "paid back",
+                "undo_failed",
+            )
 
     run(first())
     if who is by_plain_client:

@@ -21,7 +21,11 @@ from sagas.inspection import saga as one_saga
 from sagas.inspection.question import StoreReader
 from sagas.inspection.views import SagaView, Waits
 
-BOUNDS: dict[str, dict[str, Any]] = {"concurrency": {"concurrency": 1}, "fleet_concurrency": {"fleet_concurrency": 1}, "rate_limit": {"rate_limit": (1, 3600)}}
+BOUNDS: dict[str, dict[str, Any]] = {
+    "concurrency": {"concurrency": 1},
+    "fleet_concurrency": {"fleet_concurrency": 1},
+    "rate_limit": {"rate_limit": (1, 3600)},
+}
 
 
 def kinds(gate: asyncio.Event) -> dict[str, sagas.Saga]:
@@ -78,27 +82,44 @@ def test_the_store_and_its_program_together() -> None:
     def held(why: str, until: float | None, said: str | None = None, attempt: int = 1) -> Waits:
         return Waits(1, "k", "s", "a", False, attempt, why, 2, 5.0, until, said)
 
-    def told(rows: list[Waits], *begun: sagas.ActiveAttempt) -> tuple[list[tuple[str, str | None]], bool]:
+    def told(
+        rows: list[Waits], *begun: sagas.ActiveAttempt
+    ) -> tuple[list[tuple[str, str | None]], bool]:
         summary = sagas.Summary(1, "k", "s", "open", 0.0, None, None)
         stretch = Stretch("a", False, 1, 3.0, None, None)
-        view = SagaView(summary, False, None, None, {}, [], None, rows, [], [], [stretch], [], [], "", "x-1")
+        view = SagaView(
+            summary, False, None, None, {}, [], None, rows, [], [], [stretch], [], [], "", "x-1"
+        )
         found = known(view, begun, 100.0)
         return [(one.why, one.said) for one in found.held], ("a", False) in found.running
 
     def begun(waits: str, attempt: int = 1) -> sagas.ActiveAttempt:
         return sagas.ActiveAttempt("a", False, attempt, waits, None)
 
-    assert told([]) == ([], False) and told([], begun("")) == ([], True) and told([], begun("", 2)) == ([], False)
+    assert (
+        told([]) == ([], False)
+        and told([], begun("")) == ([], True)
+        and told([], begun("", 2)) == ([], False)
+    )
     assert told([], begun("concurrency")) == ([("concurrency", None)], False)
     assert told([held("external", 101.0, "w")]) == ([("external", "w")], True)
     lapsed = [("worker", "the lease of w expired")], False
-    assert told([held("external", 99.0, "w")]) == told([held("external", 99.0, "w")], begun("worker")) == lapsed
+    assert (
+        told([held("external", 99.0, "w")])
+        == told([held("external", 99.0, "w")], begun("worker"))
+        == lapsed
+    )
     assert told([held("unknown", 99.0, "odd")], begun("")) == ([], True)
-    assert told([held("unknown", 99.0, "odd")], begun("concurrency")) == ([("concurrency", None)], False)
+    assert told([held("unknown", 99.0, "odd")], begun("concurrency")) == (
+        [("concurrency", None)],
+        False,
+    )
     assert told([held("unknown", None, "odd")], begun("unknown")) == ([("unknown", "odd")], False)
 
 
-def test_what_has_begun_says_for_what_it_waits(place: str, capsys: pytest.CaptureFixture[str]) -> None:
+def test_what_has_begun_says_for_what_it_waits(
+    place: str, capsys: pytest.CaptureFixture[str]
+) -> None:
     """Its limit, its rate, a back-off, or somebody elsewhere; of what is called the program says that, and of both the command that it has begun."""
 
     async def shown(key: str, *words: str) -> str:
@@ -120,14 +141,28 @@ def test_what_has_begun_says_for_what_it_waits(place: str, capsys: pytest.Captur
                 await store.start(kind, f"{word}-2")
                 await until(lambda: waits(f"{word}-2") == [word])
                 for key in [f"{word}-1", f"{word}-2"] if word in BOUNDS else [f"{word}-2"]:
-                    assert " begun " in await shown(key) and [step["state"] for step in json.loads(await shown(key, "--json"))["steps"]] == ["begun"]
+                    assert " begun " in await shown(key) and [
+                        step["state"] for step in json.loads(await shown(key, "--json"))["steps"]
+                    ] == ["begun"]
             ((backoff,),) = [store.active_attempts("backoff-2")]
-            assert (backoff.step, backoff.undo, backoff.attempt) == ("a", False, 2) and backoff.until is not None and backoff.until > store.now() + 3000
+            assert (
+                (backoff.step, backoff.undo, backoff.attempt) == ("a", False, 2)
+                and backoff.until is not None
+                and backoff.until > store.now() + 3000
+            )
             assert store.active_attempts("nobody") == []
-            for key, says in (("concurrency-1", "it runs now"), ("concurrency-2", "it waits for a slot of its concurrency"), ("backoff-2", "it waits for its next attempt")):
-                with pytest.raises(sagas.StepNotWaiting, match=f"does not wait for a report: {says}"):
+            for key, says in (
+                ("concurrency-1", "it runs now"),
+                ("concurrency-2", "it waits for a slot of its concurrency"),
+                ("backoff-2", "it waits for its next attempt"),
+            ):
+                with pytest.raises(
+                    sagas.StepNotWaiting, match=f"does not wait for a report: {says}"
+                ):
                     await store.complete(key, "a")
             gate.set()
-            assert (await store.wait("concurrency-2")).ok and store.active_attempts("concurrency-2") == []
+            assert (await store.wait("concurrency-2")).ok and store.active_attempts(
+                "concurrency-2"
+            ) == []
 
     run(main())

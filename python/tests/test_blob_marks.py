@@ -49,7 +49,9 @@ def copied(place: str, tmp_path: pathlib.Path) -> str:
     """A copy of a store, as a backup gives it."""
     if not place.startswith("postgresql"):
         copy = str(tmp_path / "copy.db")
-        with contextlib.closing(sqlite3.connect(place)) as db, contextlib.closing(sqlite3.connect(copy)) as to:
+        with contextlib.closing(sqlite3.connect(place)) as db, contextlib.closing(
+            sqlite3.connect(copy)
+        ) as to:
             db.backup(to)
         return copy
     base, _, name = place.rpartition("/")
@@ -158,10 +160,16 @@ def test_an_exact_copy_at_the_same_place(tmp_path: pathlib.Path) -> None:
             ((secret,),) = db.execute("SELECT value FROM secrets WHERE name = 'leases'").fetchall()
         mine = more.mark(place, bytes.fromhex(secret))
         assert await mine.renew() is None
-        (mark,) = [path for path in (tmp_path / "more").rglob("*") if path.is_file() and b'"id"' in path.read_bytes()]
+        (mark,) = [
+            path
+            for path in (tmp_path / "more").rglob("*")
+            if path.is_file() and b'"id"' in path.read_bytes()
+        ]
         theirs = mark.with_name("0" * 32)
         mark.rename(theirs)  # as a store does that has this one's token
-        assert (await mine.renew()) == blob_marks.Location.read(theirs.read_bytes()) and mark.exists()
+        assert (await mine.renew()) == blob_marks.Location.read(
+            theirs.read_bytes()
+        ) and mark.exists()
         theirs.unlink()
         assert await mine.renew() is None and not mark.exists()
 
@@ -231,7 +239,8 @@ def test_a_value_that_is_not_given_parks_its_attempt_alone(
                 await store.start(saga, key, LARGE)
                 await asked(store, key)
             prefixes = await store._access.inside.store.read_stored(
-                "SELECT a.value FROM attempts a JOIN sagas s ON s.id = a.id WHERE s.key <> ? AND a.step = 0", "good"
+                "SELECT a.value FROM attempts a JOIN sagas s ON s.id = a.id WHERE s.key <> ? AND a.step = 0",
+                "good",
             )
             flaky.lacks = {json.loads(text)["$blob"] for (text,) in prefixes}
         assert len(flaky.lacks) == len(bad)
@@ -264,7 +273,9 @@ def test_a_value_that_is_not_given_parks_its_attempt_alone(
     run(main())
 
 
-def test_a_worker_gets_other_tasks_meanwhile(tmp_path: pathlib.Path, monkeypatch: pytest.MonkeyPatch) -> None:
+def test_a_worker_gets_other_tasks_meanwhile(
+    tmp_path: pathlib.Path, monkeypatch: pytest.MonkeyPatch
+) -> None:
     """The task whose input is not given is set aside, and is claimed later."""
     monkeypatch.setattr(blob_layer, "PAUSES", (0.001,))
     monkeypatch.setattr(attempts, "LEAST_UNREAD", 0.05)

@@ -284,7 +284,9 @@ def test_large_items_are_outside(place: str, tmp_path: pathlib.Path, codec: Any)
 
 
 @pytest.mark.parametrize("codec", [None, Reverse()], ids=["plain", "codec"])
-def test_a_child_with_large_values_is_undone(place: str, tmp_path: pathlib.Path, codec: Any) -> None:
+def test_a_child_with_large_values_is_undone(
+    place: str, tmp_path: pathlib.Path, codec: Any
+) -> None:
     """Its compensations get its input and its results, in the program and at a worker."""
     undone, leaf, trip = list[Any](), sagas.Saga("leaf"), sagas.Saga("trip")
     room = leaf.step(name="room", keep=9)(lambda task: task.input + "1")

@@ -63,7 +63,9 @@ def test_a_function_hears_that_it_is_not_wanted(place: str, function: Any, why: 
         saga = pair(function, fails)
         async with sagas.open(place, [saga]) as store:
             started = await store.start(saga, "k")
-            active = await until(lambda: [one for one in store.active_attempts("k") if one.progress is not None])
+            active = await until(
+                lambda: [one for one in store.active_attempts("k") if one.progress is not None]
+            )
             assert (active[0].step, active[0].progress) == ("long", 0.5)
             begun.set()
             if why == "aborted":
@@ -102,7 +104,9 @@ def test_a_function_that_hears_of_the_end_of_the_store_goes_on_later(place: str)
     pairs(PLACES, ("nothing", "fail", "result"), (None, 60)),
     indirect=["place"],
 )
-def test_a_function_that_is_cancelled_with_its_saga(place: str, says: str, timeout: float | None) -> None:
+def test_a_function_that_is_cancelled_with_its_saga(
+    place: str, says: str, timeout: float | None
+) -> None:
     """What it raises then counts. Where it says nothing, nobody knows: it is called again, and not cancelled again."""
     told: list[str] = []
 
@@ -122,7 +126,8 @@ def test_a_function_that_is_cancelled_with_its_saga(place: str, says: str, timeo
             raise
         return "never"
 
-    async def other(task: Task) -> None: ...
+    async def other(task: Task) -> None:
+        ...
 
     async def main() -> None:
         saga = pair(long, other, cancel_on_abort=True, timeout=timeout)
@@ -142,7 +147,8 @@ def test_what_cannot_be_cancelled_is_refused() -> None:
     """The error says what to do instead."""
     saga = sagas.Saga("s")
 
-    async def later(task: Task) -> None: ...
+    async def later(task: Task) -> None:
+        ...
 
     for words, text in [
         ({"cancel_on_abort": 1}, "must be True or False"),
@@ -150,14 +156,21 @@ def test_what_cannot_be_cancelled_is_refused() -> None:
     ]:
         with pytest.raises(sagas.DefinitionError, match=text):
             saga.step(**words)(later)  # type: ignore[call-overload]
-    with pytest.raises(sagas.DefinitionError, match="Declare it with async def, or let it look at task.cancelled"):
+    with pytest.raises(
+        sagas.DefinitionError, match="Declare it with async def, or let it look at task.cancelled"
+    ):
         saga.step(cancel_on_abort=True, name="b")(lambda task: None)
 
 
 def test_what_is_wrong_with_progress_is_told_to_the_function() -> None:
     """A copy in another process tells nobody, and is never cancelled."""
     control = Control()
-    for words, error in [((2,), ValueError), ((True,), TypeError), (("1",), TypeError), ((0.5, 7), TypeError)]:
+    for words, error in [
+        ((2,), ValueError),
+        ((True,), TypeError),
+        (("1",), TypeError),
+        ((0.5, 7), TypeError),
+    ]:
         with pytest.raises(error):
             control.tell(*words)  # type: ignore[arg-type]
     control.tell(0.25, "x" * 300)
@@ -186,7 +199,9 @@ def test_the_command_shows_progress(place: str, capsys: pytest.CaptureFixture[st
         saga, shell = simple(long, undo=0), Shell(place, capsys)
         async with sagas.open(place, [saga]) as store:
             await store.start(saga, "k")
-            step = await until(lambda: (one := shell.json("show", "k")["steps"][0])["progress"] and one)
+            step = await until(
+                lambda: (one := shell.json("show", "k")["steps"][0])["progress"] and one
+            )
             assert (step["progress"], step["detail"]) == (0.4, "uploaded \\0 3")
             assert "40% uploaded" in shell("show", "k")
             goes_on.set()
@@ -252,7 +267,9 @@ asyncio.run(main())
 """
 
 
-def test_a_program_that_is_killed_while_a_function_is_cancelled(place: str, tmp_path: pathlib.Path) -> None:
+def test_a_program_that_is_killed_while_a_function_is_cancelled(
+    place: str, tmp_path: pathlib.Path
+) -> None:
     """The abort is kept: the next program calls the same attempt again, and it hears from its beginning that it is cancelled."""
     here = pathlib.Path(__file__).parent
     path = f"{here.parent / 'src'}{os.pathsep}{here}"
@@ -275,12 +292,18 @@ def test_a_program_that_is_killed_while_a_function_is_cancelled(place: str, tmp_
         run(main())
     found = notes_of(notes)
     keys = [note["key"] for note in found if note["what"] == "call"]
-    assert [note["what"] for note in found] == ["call", "cancelled", "call", "end"], json.dumps(found)
-    assert len({*keys}) == 1 and [note["cancelled"] for note in found if note["what"] == "call"] == [False, True]
+    assert [note["what"] for note in found] == ["call", "cancelled", "call", "end"], json.dumps(
+        found
+    )
+    assert len({*keys}) == 1 and [
+        note["cancelled"] for note in found if note["what"] == "call"
+    ] == [False, True]
     assert found[-1]["aborted"] and found[-1]["states"] == {"long": "failed"}
 
 
-def test_a_worker_tells_its_progress_with_its_heartbeat(store: str | None, tmp_path: pathlib.Path) -> None:
+def test_a_worker_tells_its_progress_with_its_heartbeat(
+    store: str | None, tmp_path: pathlib.Path
+) -> None:
     """The service, its dashboard and the command show it. What is no progress is refused, and keeps nothing."""
     one = 'format = 2\nname = "one"\n[[step]]\nname = "a"\nundo = "never"\n'
     goes_on = threading.Event()
@@ -325,7 +348,9 @@ keep = 5
 """
 
 
-def test_a_worker_hears_that_its_task_is_not_wanted(store: str | None, tmp_path: pathlib.Path) -> None:
+def test_a_worker_hears_that_its_task_is_not_wanted(
+    store: str | None, tmp_path: pathlib.Path
+) -> None:
     """With its heartbeat, and with a task that is claimed then. An async function is cancelled once
     where it asks for that; whoever lost its lease hears so, too."""
     heard, calls = list[Any](), list[Any]()

@@ -66,11 +66,22 @@ def done(value: str) -> Outcome:
 def test_tasks_have_names_and_late_acknowledgement(shop: Shop) -> None:
     """The names carry saga, version and step; options are Celery's and go through."""
     names = {name for name in shop.app.tasks if name.startswith("sagas.")}
-    assert {"sagas.trip@2.flight.run", "sagas.trip@2.flight.undo", "sagas.trip@2.meal.undo", "sagas.large.first.run", "sagas.odd.long.run"} <= names
+    assert {
+        "sagas.trip@2.flight.run",
+        "sagas.trip@2.flight.undo",
+        "sagas.trip@2.meal.undo",
+        "sagas.large.first.run",
+        "sagas.odd.long.run",
+    } <= names
     assert "sagas.trip@2.meal.run" not in names
     for name in names:
         task = shop.app.tasks[name]
-        assert task.acks_late and task.reject_on_worker_lost and task.ignore_result and task.queue == shop.words["queue"]
+        assert (
+            task.acks_late
+            and task.reject_on_worker_lost
+            and task.ignore_result
+            and task.queue == shop.words["queue"]
+        )
     long = shop.app.tasks["sagas.odd.long.run"]
     assert (long.soft_time_limit, long.time_limit, long.priority) == (1, 60, 3)
 
@@ -98,8 +109,22 @@ def test_what_cannot_be_declared(shop: Shop, tmp_path: pathlib.Path) -> None:
     broker = shop.words["broker"]
     app = celery.Celery("no", broker=broker)
     run(refused(app, saga(app), sagas.DefinitionError, "sagas_store"))
-    run(refused(app, saga(celery.Celery("a", broker=broker), store=str(tmp_path / "other.db")), sagas.WrongStore, "other.db"))
-    run(refused(app, saga(celery.Celery("b", broker=broker), store="postgresql://nowhere/x"), sagas.WrongStore, "PostgreSQL|postgresql"))
+    run(
+        refused(
+            app,
+            saga(celery.Celery("a", broker=broker), store=str(tmp_path / "other.db")),
+            sagas.WrongStore,
+            "other.db",
+        )
+    )
+    run(
+        refused(
+            app,
+            saga(celery.Celery("b", broker=broker), store="postgresql://nowhere/x"),
+            sagas.WrongStore,
+            "PostgreSQL|postgresql",
+        )
+    )
     app = celery.Celery("c", broker=broker)
     saga(app, store=path)
     run(refused(app, saga(app, store=path), sagas.DefinitionError, "another step has its task"))
@@ -110,7 +135,9 @@ def test_what_cannot_be_declared(shop: Shop, tmp_path: pathlib.Path) -> None:
 def test_a_message_shows_its_attempt() -> None:
     """Its id is the token, and its words say key and attempt, which flower and the broker's pages show; priority and routes are Celery's."""
     app = celery.Celery("routed", broker="memory://")
-    app.conf.update(sagas_store="unused.db", task_routes={"sagas.slow.once.run": {"queue": "there"}})
+    app.conf.update(
+        sagas_store="unused.db", task_routes={"sagas.slow.once.run": {"queue": "there"}}
+    )
     queue = sagas.celery.Queue(app, priority=7, expires=900)
     sagas.Saga("slow").step(name="once", queue=queue)(lambda task: None)
     sent = order("0" * 16)
@@ -137,7 +164,11 @@ def test_a_saga_on_workers(either: Shop, tmp_path: pathlib.Path) -> None:
 async def _a_saga(shop: Shop) -> None:
     async with shop.open() as store:
         good = await ended(store, shop.trip, "good", Trip("Rome"))
-        assert good.results == {"flight": Seat(12, "Rome"), "meal": "soup", "tour": {"seat": "Rome"}}
+        assert good.results == {
+            "flight": Seat(12, "Rome"),
+            "meal": "soup",
+            "tour": {"seat": "Rome"},
+        }
         assert good.phase == "completed" and good.cost is None
         full = await ended(store, shop.trip, "full", Trip("Rome", "full"))
         assert full.states == {"flight": "undone", "meal": "undone", "tour": "failed"}
@@ -150,14 +181,22 @@ async def _a_saga(shop: Shop) -> None:
         assert (await timed.wait(60)).phase == "recovered"
         (summary,) = [one for one in await store.list() if one.key == "timed"]
         told = {(call["step"], call["undo"]): call["deadline"] for call in shop.calls("timed")}
-        assert len(told) == 5 and [*told.values()] == pytest.approx([summary.deadline] * 5, abs=1e-3)
+        assert len(told) == 5 and [*told.values()] == pytest.approx(
+            [summary.deadline] * 5, abs=1e-3
+        )
         assert all(said.startswith("yes") for said in (await store.audit()).values())
     own = {call["pid"] for call in shop.calls("good") if call["step"] == "meal"}
     assert own.isdisjoint(call["pid"] for call in shop.calls() if call["step"] != "meal")
     tours = [call for call in shop.calls("full") if call["step"] == "tour"]
-    assert [call["attempt"] for call in tours] == [1, 2, 3] and len({call["effect"] for call in tours}) == 1
+    assert [call["attempt"] for call in tours] == [1, 2, 3] and len(
+        {call["effect"] for call in tours}
+    ) == 1
     undone = {call["step"]: call for call in shop.calls("full") if call["undo"]}
-    assert undone["flight"]["row"] == 12 and undone["flight"]["of"].endswith("-flight-run") and undone["meal"]["result"] == "soup"
+    assert (
+        undone["flight"]["row"] == 12
+        and undone["flight"]["of"].endswith("-flight-run")
+        and undone["meal"]["result"] == "soup"
+    )
     assert undone["meal"]["pid"] not in own
     assert [call["attempt"] for call in shop.calls("never") if call["step"] == "tour"] == [1]
     tours = [call for call in shop.calls("lost") if call["step"] == "tour"]
@@ -190,7 +229,9 @@ def test_large_texts_are_fetched(either: Shop, tmp_path: pathlib.Path) -> None:
 
 async def _large(shop: Shop, fail: bool) -> sagas.SagaResult:
     async with shop.open() as store:
-        end = await ended(store, shop.large, f"large-{fail}", {"letter": "x", "more": "m" * BIG, "fail": fail})
+        end = await ended(
+            store, shop.large, f"large-{fail}", {"letter": "x", "more": "m" * BIG, "fail": fail}
+        )
         if not fail:
             assert end.results["first"] == "x" * BIG and "unstorable" in end.results["second"]
         return end
@@ -250,7 +291,10 @@ def test_a_message_is_sent_again(either: Shop, tmp_path: pathlib.Path) -> None:
         worker.wait_for("a late or repeated message", 2)
     finally:
         worker.kill()
-    assert len({order.token for order in orders}) == 1 and len({order.lease for order in orders}) == len(orders) >= 3
+    assert (
+        len({order.token for order in orders}) == 1
+        and len({order.lease for order in orders}) == len(orders) >= 3
+    )
     assert len(either.calls("k")) == 1
 
 
@@ -316,7 +360,9 @@ def test_a_program_that_comes_back_finds_the_report(either: Shop, tmp_path: path
     assert len(either.calls("k")) == len(orders) == 1
 
 
-def test_a_worker_that_cannot_report_lets_the_message_go_back(broker: Broker, tmp_path: pathlib.Path) -> None:
+def test_a_worker_that_cannot_report_lets_the_message_go_back(
+    broker: Broker, tmp_path: pathlib.Path
+) -> None:
     """The store is locked for longer than the queue has patience; then the message comes again, and is done."""
     shop = shop_in(broker, tmp_path, patience=0.2)
     shop.slow.steps[0].run.timeout = 120.0
@@ -346,7 +392,9 @@ def test_workers_with_another_file(shop: Shop, tmp_path: pathlib.Path) -> None:
     worker = shop.worker(tmp_path, store=str(tmp_path / "elsewhere.db"), name="wrong")
 
     async def opened() -> None:
-        while True:  # a worker on a busy machine may not answer in time: then it is opened, and asked again
+        while (
+            True
+        ):  # a worker on a busy machine may not answer in time: then it is opened, and asked again
             async with shop.open():
                 pass
 
@@ -384,7 +432,9 @@ def test_a_function_that_is_a_transaction(broker: Broker, tmp_path: pathlib.Path
 async def _booked(shop: Shop) -> None:
     assert shop.bank
     async with shop.open() as store:
-        good, once, fails = await asyncio.gather(*(ended(store, shop.bank, key, key) for key in ("good", "once", "fails")))
+        good, once, fails = await asyncio.gather(
+            *(ended(store, shop.bank, key, key) for key in ("good", "once", "fails"))
+        )
         assert good.results["book"] == once.results["book"] == "booked"
         assert fails.states == {"book": "undone", "check": "failed"}
 
@@ -443,9 +493,19 @@ async def _equal(shop: Shop, place: str) -> None:
             offer(place, order(log, 5, attempt).token)
         for late in (done("a"), done("b"), failure("no"), unknown("x")):
             assert reported(late, 7) == ("succeeded", '"a"')
-        assert reported(failure("no"), 8)[0] == reported(failure("other", final=True), 8)[0] == reported(unknown("x"), 8)[0] == "failed"
+        assert (
+            reported(failure("no"), 8)[0]
+            == reported(failure("other", final=True), 8)[0]
+            == reported(unknown("x"), 8)[0]
+            == "failed"
+        )
         assert reported(done("c"), 8) == reported(failure("no"), 8) == ("succeeded", '"c"')
-        assert reported(unknown("x"), 9) == reported(unknown("y"), 9) == reported(failure("no"), 9) == ("unknown", "x")
+        assert (
+            reported(unknown("x"), 9)
+            == reported(unknown("y"), 9)
+            == reported(failure("no"), 9)
+            == ("unknown", "x")
+        )
         assert reported(done("d"), 9) == ("succeeded", '"d"')
         for late, lease in ((failure("no"), 4), (failure("no"), 6), (done("e"), 6)):
             assert reported(late, 10, lease) == (None, None)
@@ -486,7 +546,9 @@ def test_reports_go_with_their_log(shop: Shop, tmp_path: pathlib.Path) -> None:
         more.step(name="a")(lambda task: None)
         async with sagas.open(path, [*shop.sagas, more]) as store:
             with sqlite3.connect(path) as db:
-                await until(lambda: db.execute("SELECT closed FROM shards").fetchall() == [(1,)], 60)
+                await until(
+                    lambda: db.execute("SELECT closed FROM shards").fetchall() == [(1,)], 60
+                )
                 await ended(store, more, "m")
 
     shop.queue.send = answered  # type: ignore[method-assign]
@@ -494,11 +556,15 @@ def test_reports_go_with_their_log(shop: Shop, tmp_path: pathlib.Path) -> None:
     run(first())
     run(other())
     with sqlite3.connect(path) as db:
-        assert db.execute("SELECT DISTINCT outcome, value FROM external_attempts").fetchall() == [("settled", None)]
+        assert db.execute("SELECT DISTINCT outcome, value FROM external_attempts").fetchall() == [
+            ("settled", None)
+        ]
     assert desk.begin(orders[0]) is None
     desk.report(orders[0], done("y"))
     with sqlite3.connect(path) as db:
-        assert db.execute("SELECT DISTINCT outcome, value FROM external_attempts").fetchall() == [("settled", None)]
+        assert db.execute("SELECT DISTINCT outcome, value FROM external_attempts").fetchall() == [
+            ("settled", None)
+        ]
     desk.close()
 
 
@@ -512,16 +578,30 @@ def test_steps_of_items(either: Shop, tmp_path: pathlib.Path) -> None:
 
     async def main() -> None:
         async with either.open() as store:
-            some = await store.start(either.order, key="list", input={"parcels": [seat("rome"), seat("oslo")]})
-            keyed = await store.start(either.order, key="keyed", input={"parcels": {"a b": seat("rome")}})
-            wrong = await store.start(either.order, key="wrong", input={"parcels": [seat("rome"), seat("nowhere")]})
-            stalls = [{"parcels": [seat("bern")]}, {"parcels": []}, {"parcels": [seat("kiel"), seat("linz")]}]
+            some = await store.start(
+                either.order, key="list", input={"parcels": [seat("rome"), seat("oslo")]}
+            )
+            keyed = await store.start(
+                either.order, key="keyed", input={"parcels": {"a b": seat("rome")}}
+            )
+            wrong = await store.start(
+                either.order, key="wrong", input={"parcels": [seat("rome"), seat("nowhere")]}
+            )
+            stalls = [
+                {"parcels": [seat("bern")]},
+                {"parcels": []},
+                {"parcels": [seat("kiel"), seat("linz")]},
+            ]
             fair = await store.start(either.fair, key="fair", input={"stalls": stalls})
             assert (await some.wait()).results["mail"] == ["ROME", "OSLO"]
             assert (await keyed.wait()).results["mail"] == ["ROME"]
             assert (await wrong.wait()).phase == "recovered"
             told = await fair.wait()
-            assert [told.results[f"stall-{number}-mail"] for number in range(3)] == [["BERN"], [], ["KIEL", "LINZ"]]
+            assert [told.results[f"stall-{number}-mail"] for number in range(3)] == [
+                ["BERN"],
+                [],
+                ["KIEL", "LINZ"],
+            ]
 
     try:
         run(main())
@@ -529,7 +609,10 @@ def test_steps_of_items(either: Shop, tmp_path: pathlib.Path) -> None:
         worker.kill()
     assert [call["index"] for call in either.calls("keyed") if "index" in call] == ["a b"]
     declared = {call["declared"] for call in either.calls("fair") if "declared" in call}
-    assert declared == {"stall/ship"} and {call["step"] for call in either.calls("list")} == {"ship-0", "ship-1"}
+    assert declared == {"stall/ship"} and {call["step"] for call in either.calls("list")} == {
+        "ship-0",
+        "ship-1",
+    }
 
 
 def test_a_database_slower_than_a_back_off(url: str) -> None:
@@ -538,19 +621,34 @@ def test_a_database_slower_than_a_back_off(url: str) -> None:
     app.conf.sagas_store = url
     kind, side, events = sagas.Saga("kind"), sagas.Saga("side"), list[str]()
     queue = sagas.celery.Queue(app, "nobody", timeout=1.0)
-    kind.step(name="a", queue=queue, undo=sagas.NEVER, backoff=sagas.Backoff(initial=0.05))(lambda task: None)
+    kind.step(name="a", queue=queue, undo=sagas.NEVER, backoff=sagas.Backoff(initial=0.05))(
+        lambda task: None
+    )
     side.step(name="a", undo=sagas.NEVER)(lambda task: None)
     leases = "SELECT coalesce(max(lease), 0) FROM sagas.external_attempts"
 
     async def main() -> None:
-        async with sagas.open(url, [kind, side], on_event=lambda event: events.append(event.name), shutdown_timeout=0.1) as store:
+        async with sagas.open(
+            url,
+            [kind, side],
+            on_event=lambda event: events.append(event.name),
+            shutdown_timeout=0.1,
+        ) as store:
             await store.start(kind, "k")
-            (attempt,) = await until(lambda: [one for saga in store._inside.sagas.by_key.values() for one in saga.busy.values()])
+            (attempt,) = await until(
+                lambda: [
+                    one
+                    for saga in store._inside.sagas.by_key.values()
+                    for one in saga.busy.values()
+                ]
+            )
             async with await psycopg.AsyncConnection.connect(url) as link:
                 ((before,),) = await (await link.execute(leases)).fetchall()
                 await link.execute("SELECT * FROM sagas.shards FOR UPDATE")
                 starting = asyncio.create_task(store.start(side, "side"))  # its commit waits
-                await until(lambda: "step_unknown" in events and attempt.state is AttemptState.RUNNING)
+                await until(
+                    lambda: "step_unknown" in events and attempt.state is AttemptState.RUNNING
+                )
                 await asyncio.sleep(0.1)  # time for what the node does of it
                 await link.rollback()
                 await starting

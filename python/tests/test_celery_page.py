@@ -19,7 +19,11 @@ READY = {"redis-server": "Ready to accept", "celery": r" ready\."}
 
 
 def blocks(language: str, page: str) -> list[str]:
-    return [text for told, text in re.findall(r"^```(\w*)\n(.*?)^```$", page, re.S | re.M) if told == language]
+    return [
+        text
+        for told, text in re.findall(r"^```(\w*)\n(.*?)^```$", page, re.S | re.M)
+        if told == language
+    ]
 
 
 def test_the_page(tmp_path: pathlib.Path) -> None:
@@ -29,17 +33,36 @@ def test_the_page(tmp_path: pathlib.Path) -> None:
     (tmp_path / "shop.py").write_text(shop)
     (tmp_path / "book.py").write_text(book)
     environment = environment_in(tmp_path)
-    commands = [part.partition("\n") for block in blocks("", page) for part in re.split(r"^\$ ", block, flags=re.M)[1:]]
+    commands = [
+        part.partition("\n")
+        for block in blocks("", page)
+        for part in re.split(r"^\$ ", block, flags=re.M)[1:]
+    ]
     assert commands[0][0].startswith("pip install") and len(commands) == 5
     running: list[Program] = []
     try:
         for command, _, wanted in commands[1:]:
             if command.endswith(" &"):
                 words = command.removesuffix(" &").split()
-                running.append(Program([*words, *(["-l", "INFO"] if words[0] == "celery" else [])], tmp_path, environment, f"{words[0]}.log"))
+                running.append(
+                    Program(
+                        [*words, *(["-l", "INFO"] if words[0] == "celery" else [])],
+                        tmp_path,
+                        environment,
+                        f"{words[0]}.log",
+                    )
+                )
                 running[-1].wait_for(READY[words[0]])
             else:
-                done = subprocess.run(["bash", "-c", command], cwd=tmp_path, env=environment, capture_output=True, text=True, timeout=120, check=False)
+                done = subprocess.run(
+                    ["bash", "-c", command],
+                    cwd=tmp_path,
+                    env=environment,
+                    capture_output=True,
+                    text=True,
+                    timeout=120,
+                    check=False,
+                )
                 assert done.stdout == wanted, done.stderr
         running[-1].wait_for("cancelled")
     finally:
@@ -53,7 +76,11 @@ def environment_in(folder: pathlib.Path) -> dict[str, str]:
     for name, words in (("python", ""), ("celery", "-m celery")):
         (folder / "bin" / name).write_text(f'#!/bin/sh\nexec {sys.executable} {words} "$@"\n')
         (folder / "bin" / name).chmod(0o755)
-    return os.environ | {"PATH": f"{folder / 'bin'}:{os.environ['PATH']}", "PYTHONPATH": str(PACKAGE / "src"), "PYTHONUNBUFFERED": "1"}
+    return os.environ | {
+        "PATH": f"{folder / 'bin'}:{os.environ['PATH']}",
+        "PYTHONPATH": str(PACKAGE / "src"),
+        "PYTHONUNBUFFERED": "1",
+    }
 
 
 def test_the_example() -> None:
@@ -61,11 +88,30 @@ def test_the_example() -> None:
     path = "examples/celery/run.py"
     assert f"PYTHONPATH=python/src python3 {path}" in (TOP / path).read_text()
     environment = os.environ | {"PYTHONPATH": "python/src"}
-    done = subprocess.run([sys.executable, path], cwd=TOP, env=environment, capture_output=True, text=True, timeout=180, check=False)
+    done = subprocess.run(
+        [sys.executable, path],
+        cwd=TOP,
+        env=environment,
+        capture_output=True,
+        text=True,
+        timeout=180,
+        check=False,
+    )
     assert done.returncode == 0, done.stderr
     said = done.stdout.splitlines()
-    first, second = said.index("trip order-1: completed"), said.index("trip order-2: recovered, plan of cost 15")
-    assert said[first + 1 : second] == ["  committed flight", "  committed car", "  committed tour", "all went well"]
-    assert said[second + 1 : second + 4] == ["  committed flight", "  undone    car", "  failed    tour: RuntimeError: the tour is full"]
+    first, second = said.index("trip order-1: completed"), said.index(
+        "trip order-2: recovered, plan of cost 15"
+    )
+    assert said[first + 1 : second] == [
+        "  committed flight",
+        "  committed car",
+        "  committed tour",
+        "all went well",
+    ]
+    assert said[second + 1 : second + 4] == [
+        "  committed flight",
+        "  undone    car",
+        "  failed    tour: RuntimeError: the tour is full",
+    ]
     worker = said[said.index("what the worker did:") + 1 :]
     assert worker.count("  a car for seat 12A") == 2 and worker.count("  car 7 is given back") == 1

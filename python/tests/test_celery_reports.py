@@ -85,14 +85,14 @@ def late(broker: Broker, place: str, monkeypatch: pytest.MonkeyPatch) -> Late:
 
 
 @pytest.mark.parametrize("by", ["program", "command"])
-def test_done_was_reported_before(
-    late: Late, by: str, capsys: pytest.CaptureFixture[str]
-) -> None:
+def test_done_was_reported_before(late: Late, by: str, capsys: pytest.CaptureFixture[str]) -> None:
     """The operator speaks before the program has heard of the report, which counts all the same."""
 
     async def main() -> None:
         async with late.held() as store:
-            desk_of(late.place).report(late.orders[0], Outcome(outcomes.SUCCEEDED, '"by the worker"'))
+            desk_of(late.place).report(
+                late.orders[0], Outcome(outcomes.SUCCEEDED, '"by the worker"')
+            )
             if by == "program":
                 with pytest.raises(sagas.StepNotWaiting, match="its worker has reported"):
                     await store.fail("k", "once", "I gave up")

@@ -51,7 +51,9 @@ def messages(broker: Broker, shop: Shop) -> int:
 
     One that is on its way from a queue to a worker is nowhere, for a moment."""
     queue = str(shop.words["queue"])
-    with redis.Redis(unix_socket_path=str(broker.folder / "socket")) as link, link.pipeline() as both:
+    with redis.Redis(
+        unix_socket_path=str(broker.folder / "socket")
+    ) as link, link.pipeline() as both:
         waiting, taken = both.llen(queue).hvals("unacked").execute()
     return int(waiting) + sum(json.loads(one)[2] == queue for one in taken)
 
@@ -80,8 +82,12 @@ def test_while_the_function_runs(broker: Broker, tmp_path: pathlib.Path, name: s
             if not messages(broker, shop):
                 found.add("acknowledged-early")
             if not name:
-                told = await until(lambda: shop.app.control.inspect().active(), 60)  # asks each second, until a worker answers
-                assert [(task["id"], task["name"]) for task in sum(told.values(), [])] == [(shop.calls("k")[0]["token"], "sagas.held.once.run")]
+                told = await until(
+                    lambda: shop.app.control.inspect().active(), 60
+                )  # asks each second, until a worker answers
+                assert [(task["id"], task["name"]) for task in sum(told.values(), [])] == [
+                    (shop.calls("k")[0]["token"], "sagas.held.once.run")
+                ]
             shop.release()
             assert (await going.wait()).phase == "completed"
 
@@ -91,7 +97,9 @@ def test_while_the_function_runs(broker: Broker, tmp_path: pathlib.Path, name: s
 
 
 @pytest.mark.parametrize("name", [name for name in NAMES if OF[name].STRIKES == "store"])
-def test_when_the_store_cannot_be_written(broker: Broker, tmp_path: pathlib.Path, name: str) -> None:
+def test_when_the_store_cannot_be_written(
+    broker: Broker, tmp_path: pathlib.Path, name: str
+) -> None:
     """For longer than the queue has patience: the broker has the message no more. With a right worker it has (test_celery.py)."""
     shop = shop_in(broker, tmp_path, patience=0.2)
 
@@ -99,7 +107,9 @@ def test_when_the_store_cannot_be_written(broker: Broker, tmp_path: pathlib.Path
         async with shop.open(shutdown_timeout=0) as store:
             await store.start(shop.held, "k")
             await until(lambda: shop.calls("k"), 60)
-            with contextlib.closing(sqlite3.connect(tmp_path / "store.db", isolation_level=None)) as db:
+            with contextlib.closing(
+                sqlite3.connect(tmp_path / "store.db", isolation_level=None)
+            ) as db:
                 db.execute("BEGIN EXCLUSIVE")
                 try:
                     shop.release()

@@ -104,8 +104,10 @@ async def opened_at(place: str, shop: Shop, *keys: str) -> None:
         for key in keys:
             await store.start(shop.saga, key, {"amount": 314159})
         await until(
-            lambda: sum(any(one.waits == "approval"
-            for one in store.active_attempts(key)) for key in keys) == len(keys)
+            lambda: sum(
+                any(one.waits == "approval" for one in store.active_attempts(key)) for key in keys
+            )
+            == len(keys)
         )
 
 
@@ -117,17 +119,23 @@ async def parked(store: sagas.Store, key: str = "k") -> list[sagas.Attention]:
     return found
 
 
-@pytest.mark.parametrize("change, why", [
-    ({"ship_as": Wants}, "saga 'shop', step 'ship': input: missing 'address', which Wants requires"),
-    (
-        {"ship_as": Old, "gives": Fewer},
-        "saga 'shop', step 'ship': result of 'charge': not a value of Fewer",
-    ),
-    (
-        {"ship_as": Optional[Wants]},
-        "saga 'shop', step 'ship': input: missing 'address', which Wants requires",
-    ),
-])
+@pytest.mark.parametrize(
+    "change, why",
+    [
+        (
+            {"ship_as": Wants},
+            "saga 'shop', step 'ship': input: missing 'address', which Wants requires",
+        ),
+        (
+            {"ship_as": Old, "gives": Fewer},
+            "saga 'shop', step 'ship': result of 'charge': not a value of Fewer",
+        ),
+        (
+            {"ship_as": Optional[Wants]},
+            "saga 'shop', step 'ship': input: missing 'address', which Wants requires",
+        ),
+    ],
+)
 def test_a_type_that_changed_parks_the_attempt(
     place: str, change: dict[str, Any], why: str, caplog: pytest.LogCaptureFixture
 ) -> None:
@@ -144,7 +152,11 @@ def test_a_type_that_changed_parks_the_attempt(
             await store.complete("k", "ok")
             (one,) = await parked(store)
             assert (one.key, one.why, one.step, one.undo, one.detail) == (
-                "k", "cannot_decode", "ship", False, why
+                "k",
+                "cannot_decode",
+                "ship",
+                False,
+                why,
             )
             assert one.why is sagas.AttentionReason.CANNOT_DECODE
             with pytest.raises(
@@ -155,8 +167,10 @@ def test_a_type_that_changed_parks_the_attempt(
             assert len(await parked(store)) == 1 and new.calls == []
         async with sagas.open(place, [mended.saga]) as store:
             assert (
-                await store.wait("k")
-            ).ok and mended.calls == ["ship 314159"] and await store.attention() == []
+                (await store.wait("k")).ok
+                and mended.calls == ["ship 314159"]
+                and await store.attention() == []
+            )
 
     with caplog.at_level(logging.WARNING):
         run(main())
@@ -197,9 +211,9 @@ def test_a_person_may_say_how_it_ended(place: str) -> None:
             assert await store.abort("k")
             await store.fail("k", "ship", "it was never shipped")
             end = await store.wait("k")
-            assert end.aborted and end.states["charge"] == "undone" and new.calls == [
-                "refund 314159"
-            ]
+            assert (
+                end.aborted and end.states["charge"] == "undone" and new.calls == ["refund 314159"]
+            )
             assert await store.attention() == []
 
     run(main())
@@ -311,7 +325,8 @@ def test_a_worker_of_celery_that_reads_the_result_of_a_child() -> None:
         return decimal.Decimal(1)
 
     @parent.step(needs=[stay, price], queue=queue)
-    def tour(task: sagas.Task[Wants]) -> Any: ...
+    def tour(task: sagas.Task[Wants]) -> Any:
+        ...
 
     work = worker.Work(queue, tour, "run", tour.run)
     assert [*work.decoders] == ["price"]
@@ -349,10 +364,13 @@ def test_a_step_that_was_added(place: str) -> None:
         async with sagas.open(place, [after]) as store:
             await store.complete("old", "ok")
             assert (await store.wait("old", timeout=60)).states == {
-                "ok": "committed", "a": "committed"
+                "ok": "committed",
+                "a": "committed",
             }
             run = await store.start(after, "new")
-            await until(lambda: any(one.waits == "approval" for one in store.active_attempts("new")))
+            await until(
+                lambda: any(one.waits == "approval" for one in store.active_attempts("new"))
+            )
             await run.complete("ok")
             assert list((await run.wait(timeout=60)).states) == ["ok", "a", "b"]
 
@@ -395,7 +413,9 @@ def test_both_versions(place: str) -> None:
             await store.complete("old", "ok")
             assert (await store.wait("old", timeout=60)).ok
             run = await store.start(two, "new")
-            await until(lambda: any(one.waits == "approval" for one in store.active_attempts("new")))
+            await until(
+                lambda: any(one.waits == "approval" for one in store.active_attempts("new"))
+            )
             await run.complete("ok")
             assert (await run.wait(timeout=60)).ok
 

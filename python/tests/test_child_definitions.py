@@ -47,7 +47,11 @@ class World:
 
     def undo(self, task: Task) -> None:
         """What each compensation does."""
-        assert task.result == f"done {task.step}" and task.key.endswith("/:stay") and task.saga == "child"
+        assert (
+            task.result == f"done {task.step}"
+            and task.key.endswith("/:stay")
+            and task.saga == "child"
+        )
         self.done.append(f"undo {task.step} {' '.join(task.results)}".strip())
 
     def parent(self, child: sagas.Saga, **options: Any) -> list[sagas.Saga]:
@@ -62,7 +66,9 @@ class World:
         """One is started, by a program that ends once the child has completed."""
         async with sagas.open(place, known) as store:
             await store.start(known[0], key)
-            await until(lambda: [one for one in store.active_attempts(key) if one.waits == "approval"])
+            await until(
+                lambda: [one for one in store.active_attempts(key) if one.waits == "approval"]
+            )
 
     async def failed(self, store: sagas.Store, key: str = "t") -> dict[str, str]:
         """The states of its steps once it has ended."""
@@ -127,15 +133,23 @@ def test_the_program_changes_while_a_child_is_undone(place: str) -> None:
         world.done.append(f"undo {task.step} {' '.join(task.results)}".strip())
 
     world.undo = undo  # type: ignore[method-assign]
-    old, new, less = (world.parent(world.child(*steps)) for steps in (("x", "y"), ("z", "y", "x"), ("x-", "y")))
+    old, new, less = (
+        world.parent(world.child(*steps)) for steps in (("x", "y"), ("z", "y", "x"), ("x-", "y"))
+    )
 
     async def main() -> None:
         await world.started(place, old)
         async with sagas.open(place, new) as store:
             await store.fail("t", "sign", "no")
-            await until(lambda: [one for one in store.active_attempts("t/:stay:undo") if one.waits == "exhausted"])
+            await until(
+                lambda: [
+                    one for one in store.active_attempts("t/:stay:undo") if one.waits == "exhausted"
+                ]
+            )
         if not place.startswith("postgresql"):
-            with pytest.raises(sagas.MissingStep, match="but step 'x' has no compensation in this program"):
+            with pytest.raises(
+                sagas.MissingStep, match="but step 'x' has no compensation in this program"
+            ):
                 await sagas.open(place, less).__aenter__()
         broken[0] = False
         async with sagas.open(place, new) as store:
@@ -153,7 +167,9 @@ def test_who_may_undo_a_child(tmp_path: pathlib.Path) -> None:
     async def main() -> None:
         for number, options in enumerate(({"undo": sagas.NEVER}, {}, {"undo": 3})):
             world, at = World(), f"{place}.{number}"
-            own, now = world.parent(world.child("x"), **options), new.parent(new.child("x2"), **options)
+            own, now = world.parent(world.child("x"), **options), new.parent(
+                new.child("x2"), **options
+            )
             if not options:
                 for one in own, now:
                     one[0].steps[0].compensation(lambda task: world.done.append(task.result["key"]))
@@ -161,12 +177,17 @@ def test_who_may_undo_a_child(tmp_path: pathlib.Path) -> None:
             if number < 2:
                 async with sagas.open(at, now) as store:
                     states = await new.failed(store)
-                assert states["stay"] == ("committed" if number == 0 else "undone") and world.done[1:] == ["t/:stay"] * number
+                assert (
+                    states["stay"] == ("committed" if number == 0 else "undone")
+                    and world.done[1:] == ["t/:stay"] * number
+                )
             else:
                 with pytest.raises(sagas.MissingStep):
                     await sagas.open(at, now).__aenter__()
                 second = new.child("x2", version=2)
-                async with sagas.open(at, [*new.parent(second), own[1]]) as store:  # the parent starts version 2 from now on
+                async with sagas.open(
+                    at, [*new.parent(second), own[1]]
+                ) as store:  # the parent starts version 2 from now on
                     assert (await new.failed(store))["stay"] == "undone"
                 assert world.done == ["x", "undo x"]
 
@@ -176,7 +197,9 @@ def test_who_may_undo_a_child(tmp_path: pathlib.Path) -> None:
 def family(world: World, leaf: str) -> list[sagas.Saga]:
     """A parent whose child has a child of one step."""
     below = sagas.Saga("below")
-    below.step(lambda task: world.done.append(task.key), name=leaf, keep=9).compensation(lambda task: world.done.append(f"undo {task.key}"))
+    below.step(lambda task: world.done.append(task.key), name=leaf, keep=9).compensation(
+        lambda task: world.done.append(f"undo {task.key}")
+    )
     child = sagas.Saga("child")
     child.child(below, input=lambda task: None)
     return [*world.parent(child), below]
@@ -186,15 +209,26 @@ def test_a_child_of_a_child(place: str, capsys: pytest.CaptureFixture[str]) -> N
     """It is looked for at the opening, too, and undone by its own definition. Operators see how many there are."""
     world, shell = World(), Shell(place, capsys)
     old, new, more = family(world, "x"), family(world, "x2"), family(world, "x")
-    more[2].step(lambda task: None, name="z", keep=1).compensation(lambda task: world.done.append("undo z"))
+    more[2].step(lambda task: None, name="z", keep=1).compensation(
+        lambda task: world.done.append("undo z")
+    )
 
     async def main() -> None:
         await world.started(place, old)
-        counts = [row.split() for row in (await asyncio.to_thread(shell, "definitions")).splitlines()]
+        counts = [
+            row.split() for row in (await asyncio.to_thread(shell, "definitions")).splitlines()
+        ]
         assert counts[0] == ["SAGA", "VERSION", "OPEN", "UNDOABLE", "TOTAL"]
-        assert counts[1:] == [["below", "1", "0", "1", "1"], ["child", "1", "0", "1", "1"], ["parent", "1", "1", "0", "1"]]
+        assert counts[1:] == [
+            ["below", "1", "0", "1", "1"],
+            ["child", "1", "0", "1", "1"],
+            ["parent", "1", "1", "0", "1"],
+        ]
         if not place.startswith("postgresql"):
-            with pytest.raises(sagas.MissingStep, match="open sagas may undo a child of saga 'below' .version 1., but step 'x' has no comp"):
+            with pytest.raises(
+                sagas.MissingStep,
+                match="open sagas may undo a child of saga 'below' .version 1., but step 'x' has no comp",
+            ):
                 await sagas.open(place, new).__aenter__()
         async with sagas.open(place, more) as store:
             assert await world.failed(store) == UNDONE
@@ -233,14 +267,20 @@ def test_a_node_that_cannot_undo_a_child_leaves_it(url: str) -> None:
             started = await one.start(known[0], "t")
             (listed,) = await one.list()
             async with sagas.open(url, parent(old), node="old") as two:
-                assert await two._starter.start_child(old, "t/:stay", None, StartOptions(parent=listed.id))
+                assert await two._starter.start_child(
+                    old, "t/:stay", None, StartOptions(parent=listed.id)
+                )
                 await two.wait("t/:stay", 60)
             gate.set()
             await until(lambda: [a for a in one.active_attempts("t") if a.step == "end"])
             await one.fail("t", "end", "no")
             (need,) = await until(one.attention)
             assert (need.why, need.step, need.undo) == ("cannot_decode", "stay", True)
-            assert need.detail and "a child of saga 'child' (version 1) is to be undone, but step 'x' has no comp" in need.detail
+            assert (
+                need.detail
+                and "a child of saga 'child' (version 1) is to be undone, but step 'x' has no comp"
+                in need.detail
+            )
             async with sagas.open(url, parent(old), node="old"):
                 assert (await started.wait(60)).states["stay"] == "undone"
         assert [one.name for one in told if one.name == "step_cannot_decode"]
@@ -255,27 +295,45 @@ def test_a_node_that_cannot_undo_a_child_leaves_it(url: str) -> None:
 def test_a_compensation_is_in_the_definition(place: str) -> None:
     """So its removal is seen also where a step has nothing to undo now; a definition of an older release does not say it."""
     had, has = World().child("x"), World().child("x-")
-    assert "\n# compensated\n" in had.toml() and "# compensated" not in has.toml() and definition_text.declared(had) == had.toml()
+    assert (
+        "\n# compensated\n" in had.toml()
+        and "# compensated" not in has.toml()
+        and definition_text.declared(had) == had.toml()
+    )
     older = had.toml().replace("# compensated\n", "")
-    assert undo_sagas.lacks(has, older) is None and undo_sagas.lacks(has, had.toml()) == "step 'x' has no compensation in this program"
+    assert (
+        undo_sagas.lacks(has, older) is None
+        and undo_sagas.lacks(has, had.toml()) == "step 'x' has no compensation in this program"
+    )
     shaped = sagas.Saga("shaped")
     shaped.step(name="x", for_each="items", undo=0)(lambda task: None)
     without = shaped.toml({"items": [1, 2]})
     shaped.steps[0].compensation(lambda task: None)
     text = shaped.toml({"items": [1, 2]})
-    assert [step.is_compensated for step in listed_steps.of(text)] == [True, True] and text.replace("# compensated\n", "") == without
+    assert [step.is_compensated for step in listed_steps.of(text)] == [True, True] and text.replace(
+        "# compensated\n", ""
+    ) == without
     saga, plain = sagas.Saga("plain"), sagas.Saga("plain")
     for one in saga, plain:
-        one.approval(lambda task: None, name="a", needs=[one.step(name="x", keep=9, undo=0)(lambda task: None)])
+        one.approval(
+            lambda task: None,
+            name="a",
+            needs=[one.step(name="x", keep=9, undo=0)(lambda task: None)],
+        )
         one.step(name="end", needs=["a"])(lambda task: None)
     saga.steps[0].compensation(lambda task: None)
 
     async def main() -> None:
         async with sagas.open(place, [saga]) as store:
             await store.start(saga, "t")
-            await until(lambda: [one for one in store.active_attempts("t") if one.waits == "approval"])
+            await until(
+                lambda: [one for one in store.active_attempts("t") if one.waits == "approval"]
+            )
         if not place.startswith("postgresql"):
-            with pytest.raises(sagas.MissingStep, match="saga 'plain' .version 1. has open sagas, but step 'x' has no compensation"):
+            with pytest.raises(
+                sagas.MissingStep,
+                match="saga 'plain' .version 1. has open sagas, but step 'x' has no compensation",
+            ):
                 await sagas.open(place, [plain]).__aenter__()
 
     run(main())
@@ -291,16 +349,34 @@ def test_definitions_that_undo_children() -> None:
         '\n[[step]]\nname = "x"\n# sees\nneeds = ["y"]\nundo = "never"\nskip = 9\n'
     )
     steps = undo_text.read(saga.toml())
-    assert undo_text.write("child", 3, steps) == saga.toml() and undo_text.child_of(child.toml()) is None
-    older = "".join(line for line in saga.toml().splitlines(keepends=True) if not line.startswith(("# undoes", "# sees")))
+    assert (
+        undo_text.write("child", 3, steps) == saga.toml()
+        and undo_text.child_of(child.toml()) is None
+    )
+    older = "".join(
+        line
+        for line in saga.toml().splitlines(keepends=True)
+        if not line.startswith(("# undoes", "# sees"))
+    )
     kind = Shelf(world.parent(child)).kind(older)
-    assert kind.undoes == "child" and kind.lacks() is None and kind.saga and kind.saga.undo_text == older
+    assert (
+        kind.undoes == "child"
+        and kind.lacks() is None
+        and kind.saga
+        and kind.saga.undo_text == older
+    )
     other = sagas.Saga("child-undo", version=3)
     other.step(lambda task: None, name="x")
-    assert Shelf([other]).kind(saga.toml()).lacks() == "this program did not open the store with that saga"
+    assert (
+        Shelf([other]).kind(saga.toml()).lacks()
+        == "this program did not open the store with that saga"
+    )
     less = Shelf(world.parent(world.child("x", version=3))).kind(saga.toml())
     assert less.lacks() == "step 'y' has no compensation in this program"
-    assert [(step.name, step.sees, step.tries) for step in undo_text.read(older)] == [("y", (), 1), ("x", (), 1)]
+    assert [(step.name, step.sees, step.tries) for step in undo_text.read(older)] == [
+        ("y", (), 1),
+        ("x", (), 1),
+    ]
 
 
 def test_a_child_of_which_nothing_can_be_undone(caplog: pytest.LogCaptureFixture) -> None:
@@ -308,8 +384,14 @@ def test_a_child_of_which_nothing_can_be_undone(caplog: pytest.LogCaptureFixture
     child = World().child("x")
     child.step(name="held", needs=["x"])(lambda task: None)
     (warning,) = World().parent(child, undo=1, keep=9)[0].warnings()
-    assert "undo=1, but nothing of its child saga 'child' can be undone, because 'held' cannot be" in warning
-    assert not World().parent(child, undo=sagas.NEVER)[0].warnings() and not World().parent(World().child("x"), undo=1, keep=9)[0].warnings()
+    assert (
+        "undo=1, but nothing of its child saga 'child' can be undone, because 'held' cannot be"
+        in warning
+    )
+    assert (
+        not World().parent(child, undo=sagas.NEVER)[0].warnings()
+        and not World().parent(World().child("x"), undo=1, keep=9)[0].warnings()
+    )
     assert not World().parent(World().child("x-"), undo=1, keep=9)[0].warnings()
 
 
@@ -326,7 +408,9 @@ def leaf() -> list[sagas.Saga]:
 
 def opened(place: str, node: str, **words: Any) -> sagas.Store:
     """A store that serves workers."""
-    store = sagas.open(place, leaf(), node=node if place.startswith("postgresql") else None, **words)
+    store = sagas.open(
+        place, leaf(), node=node if place.startswith("postgresql") else None, **words
+    )
     store.leased = True
     return store
 
@@ -341,7 +425,9 @@ class Backwards:
         return data[::-1]
 
 
-def test_workers_undo_a_child(place: str, capsys: pytest.CaptureFixture[str], monkeypatch: pytest.MonkeyPatch) -> None:
+def test_workers_undo_a_child(
+    place: str, capsys: pytest.CaptureFixture[str], monkeypatch: pytest.MonkeyPatch
+) -> None:
     """The worker of the child's step is handed its compensation, as of the child, also by another node; until one claims it, that is listed."""
     monkeypatch.setattr(backlog, "UNCLAIMED", -1.0)
     shell, codec = Shell(place, capsys), Backwards()
@@ -349,7 +435,11 @@ def test_workers_undo_a_child(place: str, capsys: pytest.CaptureFixture[str], mo
     async def main() -> None:
         async with contextlib.AsyncExitStack() as stack:
             one = await stack.enter_async_context(opened(place, "one", codec=codec))
-            other = await stack.enter_async_context(opened(place, "other", codec=codec)) if place.startswith("postgresql") else one
+            other = (
+                await stack.enter_async_context(opened(place, "other", codec=codec))
+                if place.startswith("postgresql")
+                else one
+            )
             started = await one.start(one.sagas[0], "t")
             (task,) = await other.workers.claim([("leaf", "room", "run")], wait=60, lease=60)
             await other.workers.report(task.attempt_id, task.lease, result="R-7")
@@ -358,17 +448,40 @@ def test_workers_undo_a_child(place: str, capsys: pytest.CaptureFixture[str], mo
             assert not await other.workers.claim([("leaf-undo", "room", "run")], wait=0, lease=60)
             ready = await until(other.workers.queues)
             assert [(q.saga, q.step, q.undo, q.ready) for q in ready] == [("leaf", "room", True, 1)]
-            listed = {row[0]: row for row in map(str.split, (await asyncio.to_thread(shell, "pending")).splitlines())}
-            assert "a worker: none has claimed it for" in " ".join(listed["t/:stay:undo"]) and "child" in listed["t"]
+            listed = {
+                row[0]: row
+                for row in map(str.split, (await asyncio.to_thread(shell, "pending")).splitlines())
+            }
+            assert (
+                "a worker: none has claimed it for" in " ".join(listed["t/:stay:undo"])
+                and "child" in listed["t"]
+            )
             (undo,) = await other.workers.claim([("leaf", "room", "undo")], wait=60, lease=60)
             found = undo.task
-            assert (found.saga, found.key, found.step, found.is_compensation, found.attempt) == ("leaf", "t/:stay", "room", True, 1)
-            assert (found.result, found.results, found.input) == ("R-7", {"plan": {"rooms": 2}}, None)
+            assert (found.saga, found.key, found.step, found.is_compensation, found.attempt) == (
+                "leaf",
+                "t/:stay",
+                "room",
+                True,
+                1,
+            )
+            assert (found.result, found.results, found.input) == (
+                "R-7",
+                {"plan": {"rooms": 2}},
+                None,
+            )
             assert found.original_idempotency_key == task.task.idempotency_key
             assert found.idempotency_key == task.task.idempotency_key.replace("-run", "-undo")
-            told = worker_task.task_of(json_views.task(undo, one.now()), Context())  # as a `Worker` gets it
-            assert worker_task.word_of(told) == "leaf/room/undo" and (told.result, told.key) == (found.result, found.key)
-            assert told.idempotency_key == found.idempotency_key and told.attempt_id != undo.attempt_id
+            told = worker_task.task_of(
+                json_views.task(undo, one.now()), Context()
+            )  # as a `Worker` gets it
+            assert worker_task.word_of(told) == "leaf/room/undo" and (told.result, told.key) == (
+                found.result,
+                found.key,
+            )
+            assert (
+                told.idempotency_key == found.idempotency_key and told.attempt_id != undo.attempt_id
+            )
             await other.workers.report(undo.attempt_id, undo.lease, result=None)
             assert (await started.wait(60)).states == UNDONE
             assert (await one.wait("t/:stay:undo", 60)).ok
@@ -416,9 +529,13 @@ def test_children_of_an_earlier_release(tmp_path: pathlib.Path, is_aborted: bool
             await store.start(middle, "u")
             for key in ("u/:stay", "t/:trip/:stay"):
                 await until(lambda: store.active_attempts(key))
-                await until(lambda: [one for one in store.active_attempts(key) if one.waits == "approval"])
+                await until(
+                    lambda: [one for one in store.active_attempts(key) if one.waits == "approval"]
+                )
             await store.complete("u/:stay", sign.name)
-            await until(lambda: [one for one in store.active_attempts("u") if one.waits == "approval"])
+            await until(
+                lambda: [one for one in store.active_attempts("u") if one.waits == "approval"]
+            )
             await store.fail("u", end.name, "no")
             await until(lambda: store.active_attempts("u/:stay:undo"))
         with contextlib.closing(sqlite3.connect(place)) as link, link:
@@ -431,7 +548,11 @@ def test_children_of_an_earlier_release(tmp_path: pathlib.Path, is_aborted: bool
                 await store.abort("t")
             else:
                 await store.complete("t/trip/stay", sign.name)
-                await until(lambda: [one for one in store.active_attempts("t/trip") if one.waits == "approval"])
+                await until(
+                    lambda: [
+                        one for one in store.active_attempts("t/trip") if one.waits == "approval"
+                    ]
+                )
                 await store.complete("t/trip", end.name)
             for _ in range(2 if is_aborted else 1):
                 (undo,) = await store.workers.claim([("leaf", "room", "undo")], wait=60)
@@ -439,7 +560,10 @@ def test_children_of_an_earlier_release(tmp_path: pathlib.Path, is_aborted: bool
             assert (await store.wait("t", 60)).ok is not is_aborted
             assert (await store.wait("u", 60)).states["stay"] == "undone"
             keys = {one.key for one in await store.list()}
-            assert keys == {"t", "t/trip", "t/trip/stay", "u", "u/stay", "u/stay:undo"} and calls == ["room"] * 2
+            assert (
+                keys == {"t", "t/trip", "t/trip/stay", "u", "u/stay", "u/stay:undo"}
+                and calls == ["room"] * 2
+            )
 
     run(main())
 
@@ -451,13 +575,18 @@ def test_children_of_items(place: str) -> None:
     """Each item has a child of its own, which is undone with its own key and input."""
     world, group, top = World(), sagas.Saga("group"), sagas.Saga("top")
     child = sagas.Saga("child")
-    child.step(lambda task: task.input, name="x", keep=9).compensation(lambda task: world.done.append(f"{task.key} {task.result}"))
+    child.step(lambda task: task.input, name="x", keep=9).compensation(
+        lambda task: world.done.append(f"{task.key} {task.result}")
+    )
     group.child(child, name="stay", input=lambda task: task.input)
     trips = top.include(group, name="trip", for_each="items")
 
     @top.step(needs=[trips])
     def end(task: Task) -> None:
-        assert [one["results"] for one in task.result_of(trips[group.steps[0]])] == [{"x": 5}, {"x": 7}]
+        assert [one["results"] for one in task.result_of(trips[group.steps[0]])] == [
+            {"x": 5},
+            {"x": 7},
+        ]
         raise sagas.Fail("no")
 
     async def main() -> None:
@@ -473,7 +602,10 @@ def test_a_child_with_items(place: str) -> None:
     """No saga undoes it, so the parent's own function does."""
     world, child = World(), sagas.Saga("child")
     child.step(lambda task: task.item, name="x", for_each="items", undo=0)
-    with pytest.raises(sagas.DefinitionError, match="its steps come from its input, so its costs as a child are not known"):
+    with pytest.raises(
+        sagas.DefinitionError,
+        match="its steps come from its input, so its costs as a child are not known",
+    ):
         sagas.open(place, world.parent(child))
     known = world.parent(child, keep=9, undo=1)
     known[0].steps[0].run.function = lambda task: {"items": [5, 7]}
@@ -510,11 +642,17 @@ def test_the_second_child_is_undone(place: str) -> None:
         async with sagas.open(place, old) as store:
             await store.start(old[0], "t")
             await until(lambda: store.get("t/:stay"))
-            assert (await store.wait("t/:stay", 60)).phase == "stuck" and len(await store.attention()) == 1
+            assert (await store.wait("t/:stay", 60)).phase == "stuck" and len(
+                await store.attention()
+            ) == 1
             await store.resolve("t/:stay", "seen to")
-            await until(lambda: [one for one in store.active_attempts("t") if one.waits == "exhausted"])
+            await until(
+                lambda: [one for one in store.active_attempts("t") if one.waits == "exhausted"]
+            )
             await store.retry("t", "stay")
-            await until(lambda: [one for one in store.active_attempts("t") if one.waits == "approval"])
+            await until(
+                lambda: [one for one in store.active_attempts("t") if one.waits == "approval"]
+            )
         if not place.startswith("postgresql"):
             with pytest.raises(sagas.MissingStep, match="step 'x' has no compensation"):
                 await sagas.open(place, known("x2")).__aenter__()

@@ -98,7 +98,11 @@ def test_a_child_completes(place: str) -> None:
         async with world.open(place) as store:
             end = await (await store.start(world.trip, "t", {"days": 4})).wait(60)
             assert end.ok
-            told = {"key": "t/:stay", "phase": "completed", "results": {"room": {"nights": 3}, "breakfast": 3}}
+            told = {
+                "key": "t/:stay",
+                "phase": "completed",
+                "results": {"room": {"nights": 3}, "breakfast": 3},
+            }
             assert end.results == {"flight": 4, "stay": told, "tour": told}
             assert (await store.wait("t/:stay", 60)).ok
 
@@ -118,8 +122,13 @@ def test_a_completed_child_is_undone(place: str, capsys: pytest.CaptureFixture[s
 
     run(main())
     assert world.done == ["room t/:stay", "fast 5", "cancel t/:stay 5", "back"]
-    assert "\nchild    t/:stay (completed)\nchild    t/:stay:undo (completed)\n" in shell("show", "t", *APP)
-    assert "\nparent   t\n" in shell("show", "t/:stay:undo", *APP) and shell.json("show", "t/:stay", *APP)["parent"] == "t"
+    assert "\nchild    t/:stay (completed)\nchild    t/:stay:undo (completed)\n" in shell(
+        "show", "t", *APP
+    )
+    assert (
+        "\nparent   t\n" in shell("show", "t/:stay:undo", *APP)
+        and shell.json("show", "t/:stay", *APP)["parent"] == "t"
+    )
     with Snapshot(place) as store:
         for keys, count in ({"t"}, 3), ({"t*"}, 3), ({"t/*"}, 0), ({"T*", "s"}, 0), ({"x", "t"}, 3):
             scope = Scope(keys=frozenset(keys))
@@ -128,11 +137,19 @@ def test_a_completed_child_is_undone(place: str, capsys: pytest.CaptureFixture[s
             assert len(held) == count
         views = [store.saga(key) for key in ("t", "t/:stay")]
     told = [json_views.saga(view) for view in views]
-    assert [(one["step"], one["definition"]) for one in told[0]["children"]] == [("stay", "hotel"), ("stay:undo", "hotel-undo")]
-    assert told[0]["parent"] is None and told[1]["parent"]["key"] == "t" and told[1]["children"] == []
+    assert [(one["step"], one["definition"]) for one in told[0]["children"]] == [
+        ("stay", "hotel"),
+        ("stay:undo", "hotel-undo"),
+    ]
+    assert (
+        told[0]["parent"] is None and told[1]["parent"]["key"] == "t" and told[1]["children"] == []
+    )
     seen = families.seen_by(views[0], Scope(frozenset({"hotel"})))
     assert [one.key for one in seen.children] == ["t/:stay", "t/:stay:undo"]
-    assert families.seen_by(views[0], NOTHING).children == [] and families.seen_by(views[1], NOTHING).parent is None
+    assert (
+        families.seen_by(views[0], NOTHING).children == []
+        and families.seen_by(views[1], NOTHING).parent is None
+    )
 
 
 def test_a_child_fails(place: str) -> None:
@@ -170,7 +187,8 @@ class Slow:
             return task.input
 
         @self.child.approval(needs=[below])
-        def sign(task: Task) -> None: ...
+        def sign(task: Task) -> None:
+            ...
 
         self.top.child(self.child, name="stay", input=lambda task: "x", **costs)
 
@@ -182,10 +200,15 @@ class Slow:
         found = await store.start(self.top, "t", **words)
 
         async def asks() -> bool:
-            return bool([one for one in store.active_attempts("t/:stay") if one.waits == "approval"])
+            return bool(
+                [one for one in store.active_attempts("t/:stay") if one.waits == "approval"]
+            )
 
         await until(asks)
-        assert await store.waits_for("t") == ["stay waits for the end of its child saga", "beside waits for an external worker"]
+        assert await store.waits_for("t") == [
+            "stay waits for the end of its child saga",
+            "beside waits for an external worker",
+        ]
         return found
 
 
@@ -196,7 +219,10 @@ def test_an_abort_goes_down(place: str, capsys: pytest.CaptureFixture[str]) -> N
     async def main() -> None:
         async with sagas.open(place, world.all, concurrency=1) as store:
             top = await world.started(store, labels={"customer": "7"}, deadline=3600)
-            waits = {line.split()[0]: line for line in (await asyncio.to_thread(shell, "pending")).splitlines()}
+            waits = {
+                line.split()[0]: line
+                for line in (await asyncio.to_thread(shell, "pending")).splitlines()
+            }
             assert "the end of its child saga" in waits["t"] and "an approval" in waits["t/:stay"]
             below = await store.list(labels={"customer": "7"})
             assert {one.key for one in below} == {"t", "t/:stay", "t/:stay/:below"}
@@ -248,9 +274,13 @@ def test_another_child_behind_one_that_failed(place: str) -> None:
         async with sagas.open(place, [top, failing]) as store:
             found = await store.start(top, "t")
             for key in ("t/:failing", "t/:failing/2"):
-                assert (await until(lambda: store.get(key))) and (await store.wait(key, 60)).phase == "stuck"
+                assert (await until(lambda: store.get(key))) and (
+                    await store.wait(key, 60)
+                ).phase == "stuck"
                 await store.resolve(key, "seen to", by="ann")
-                await until(lambda: [one for one in store.active_attempts("t") if one.waits == "exhausted"])
+                await until(
+                    lambda: [one for one in store.active_attempts("t") if one.waits == "exhausted"]
+                )
                 await store.retry("t", "failing")
             end = await found.wait(60)
             assert end.ok and end.results["failing"]["key"] == "t/:failing/3"
@@ -264,7 +294,10 @@ def test_definitions_that_cannot_be() -> None:
     hotel, trip = sagas.Saga("hotel"), sagas.Saga("trip")
     hotel.step(name="room")(lambda task: None)
     trip.child(hotel, input=lambda task: None)
-    with pytest.raises(sagas.DefinitionError, match=r"'hotel' \(version 1, .* is missing.*open\(\.\.\., \[trip, hotel\]\)"):
+    with pytest.raises(
+        sagas.DefinitionError,
+        match=r"'hotel' \(version 1, .* is missing.*open\(\.\.\., \[trip, hotel\]\)",
+    ):
         sagas.open("x.db", [trip])
     queue = sagas.celery.Queue(celery.Celery("app", broker="memory://"), "shop")
     hotel.steps[0].compensation(queue=queue)(lambda task: None)
@@ -277,7 +310,8 @@ def test_definitions_that_cannot_be() -> None:
     with pytest.raises(sagas.DefinitionError, match="must be a plain function"):
 
         @trip.child(sagas.Saga("other"))
-        async def later(task: Task) -> None: ...
+        async def later(task: Task) -> None:
+            ...
 
     with pytest.raises(sagas.DefinitionError, match="on_exhausted='retry'"):
         trip.child(sagas.Saga("other"), name="c", input=lambda task: None, on_exhausted="retry")  # type: ignore[call-overload]
@@ -303,10 +337,16 @@ def test_keys_and_inputs_that_cannot_be(place: str) -> None:
             await store._starter.start_child(world.hotel, "t/:stay", {"nights": 1}, StartOptions())
             other = await store.get("t/:stay")
             assert other
-            ends = [await (await store.start(world.trip, key, {"days": days})).wait(60) for key, days in (("t", 3), ("u", 2), ("v", 4))]
+            ends = [
+                await (await store.start(world.trip, key, {"days": days})).wait(60)
+                for key, days in (("t", 3), ("u", 2), ("v", 4))
+            ]
             assert (await other.wait(60)).ok
         assert "key 't/:stay' belongs to saga" in ends[0].errors["stay"]
-        assert [end.errors["bad"].partition(":")[0] for end in ends[1:]] == ["NotSerializable", "KeyError"]
+        assert [end.errors["bad"].partition(":")[0] for end in ends[1:]] == [
+            "NotSerializable",
+            "KeyError",
+        ]
 
     run(main())
 
@@ -315,17 +355,32 @@ def test_in_a_simulation() -> None:
     """Children are run as well; what happens to their steps is said by the path."""
     world = Trip()
     ok = sagas.testing.run(world.trip, {"days": 4})
-    assert ok.ok and ok.results["tour"] == {"key": "test/:stay", "phase": "completed", "results": {"room": {"nights": 3}, "breakfast": 3}}
+    assert ok.ok and ok.results["tour"] == {
+        "key": "test/:stay",
+        "phase": "completed",
+        "results": {"room": {"nights": 3}, "breakfast": 3},
+    }
     undone = sagas.testing.run(world.trip, {"days": 6})
     assert undone.states == {"flight": "undone", "stay": "undone", "tour": "failed"}
-    assert [(key, end.phase) for key, end in undone.children.items()] == [("test/:stay", "completed"), ("test/:stay:undo", "completed")]
+    assert [(key, end.phase) for key, end in undone.children.items()] == [
+        ("test/:stay", "completed"),
+        ("test/:stay:undo", "completed"),
+    ]
     room = undone.children["test/:stay"].calls[0].attempt_id
     assert undone.children["test/:stay:undo"].calls[-1].attempt_id != room.replace("run", "undo")
     failed = sagas.testing.run(world.trip, {"days": 4}, fail={"stay/breakfast": 1})
     assert failed.states["stay"] == "failed" and "the test says so" in failed.errors["stay"]
     (room_step, breakfast) = world.hotel.steps
-    left = sagas.testing.run(world.trip, {"days": 6}, fail_undo={breakfast: sagas.Fail("no")}, answers={breakfast: RuntimeError("left")})
-    assert left.states["stay"] == "undo_failed" and left.children["test/:stay:undo"].states == {"breakfast": "failed", "room": "waiting"}
+    left = sagas.testing.run(
+        world.trip,
+        {"days": 6},
+        fail_undo={breakfast: sagas.Fail("no")},
+        answers={breakfast: RuntimeError("left")},
+    )
+    assert left.states["stay"] == "undo_failed" and left.children["test/:stay:undo"].states == {
+        "breakfast": "failed",
+        "room": "waiting",
+    }
     with pytest.raises(KeyError, match="no child step 'stya'; did you mean 'stay'"):
         sagas.testing.run(world.trip, {"days": 4}, fail={"stya/room": 1})
     with pytest.raises(KeyError, match="saga 'hotel' has no step 'rom'"):
@@ -333,11 +388,18 @@ def test_in_a_simulation() -> None:
     slow = Slow()
     trial = sagas.testing.run(slow.top, key="t", answers={"stay/sign": "by Ann", "beside": None})
     assert trial.ok and trial.results["stay"]["results"]["sign"] == "by Ann"
-    trial = sagas.testing.run(slow.top, key="t", answers={"stay/sign": "by Ann"}, fail={"beside": sagas.Fail("no")})
-    assert trial.states == {"stay": "undone", "beside": "failed"} and slow.done == ["undeep t/:stay/:below"]
+    trial = sagas.testing.run(
+        slow.top, key="t", answers={"stay/sign": "by Ann"}, fail={"beside": sagas.Fail("no")}
+    )
+    assert trial.states == {"stay": "undone", "beside": "failed"} and slow.done == [
+        "undeep t/:stay/:below"
+    ]
 
 
-def until_survived(open_store: Callable[[Callable[[sagas.Event], None]], sagas.Store], work: Callable[[sagas.Store], Coroutine[Any, Any, None]]) -> int:
+def until_survived(
+    open_store: Callable[[Callable[[sagas.Event], None]], sagas.Store],
+    work: Callable[[sagas.Store], Coroutine[Any, Any, None]],
+) -> int:
     """Runs a program that is killed at its first event, then at its fourth, and so on, until it survives; how often it was killed."""
     for count in itertools.count(1, 3):
         child = os.fork()
@@ -381,7 +443,9 @@ def test_kills_at_any_event(place: str, tmp_path: pathlib.Path, way: str) -> Non
     note(slow.sub.steps[0])
 
     def open_store(die: Callable[[sagas.Event], None]) -> sagas.Store:
-        return sagas.open(place, [world.trip, world.hotel, *slow.all], node="one", lease=2, on_event=die)
+        return sagas.open(
+            place, [world.trip, world.hotel, *slow.all], node="one", lease=2, on_event=die
+        )
 
     async def undone(store: sagas.Store) -> None:
         end = await (await store.start(world.trip, "t", {"days": 6})).wait(60)
@@ -389,8 +453,15 @@ def test_kills_at_any_event(place: str, tmp_path: pathlib.Path, way: str) -> Non
 
     async def aborted(store: sagas.Store) -> None:
         found = await store.start(slow.top, "t")
-        asks = asyncio.ensure_future(until(lambda: [one for one in store.active_attempts("t/:stay") if one.waits == "approval"]))
-        await asyncio.wait([asks, ending := asyncio.ensure_future(found.wait(60))], return_when=asyncio.FIRST_COMPLETED)
+        asks = asyncio.ensure_future(
+            until(
+                lambda: [one for one in store.active_attempts("t/:stay") if one.waits == "approval"]
+            )
+        )
+        await asyncio.wait(
+            [asks, ending := asyncio.ensure_future(found.wait(60))],
+            return_when=asyncio.FIRST_COMPLETED,
+        )
         asks.cancel()
         if not ending.done():
             await store.abort("t")
@@ -406,7 +477,11 @@ def test_kills_at_any_event(place: str, tmp_path: pathlib.Path, way: str) -> Non
         async with open_store(lambda event: None) as store:
             assert await store.count(phase="open") == 0
             keys = [one.key for one in await store.list()]
-            below = ["t/:stay", "t/:stay:undo"] if way == "undone" else ["t/:stay", "t/:stay/:below", "t/:stay/:below:undo"]
+            below = (
+                ["t/:stay", "t/:stay:undo"]
+                if way == "undone"
+                else ["t/:stay", "t/:stay/:below", "t/:stay/:below:undo"]
+            )
             assert sorted(keys) == ["t", *below]
 
     run(look())
@@ -425,13 +500,19 @@ def test_a_child_of_another_node(url: str) -> None:
     top.child(child, needs=[first], input=lambda task: "another input")
 
     async def main() -> None:
-        async with sagas.open(url, [top, child], node="one") as one, sagas.open(url, [top, child], node="two") as two:
+        async with sagas.open(url, [top, child], node="one") as one, sagas.open(
+            url, [top, child], node="two"
+        ) as two:
             started = await one.start(top, "t")
             (listed,) = await one.list()
-            assert await two._starter.start_child(child, "t/:child", "x", StartOptions(parent=listed.id))
+            assert await two._starter.start_child(
+                child, "t/:child", "x", StartOptions(parent=listed.id)
+            )
             gate.set()
             await until(lambda: [a for a in one.active_attempts("t") if a.waits == "child"])
-            await until(lambda: [a for a in two.active_attempts("t/:child") if a.waits == "approval"])
+            await until(
+                lambda: [a for a in two.active_attempts("t/:child") if a.waits == "approval"]
+            )
             await one.abort("t")
             end = await started.wait(60)
             assert end.aborted and end.states["child"] == "failed"
@@ -449,7 +530,10 @@ def test_children_stay_with_their_parents(place: str, monkeypatch: pytest.Monkey
         """So many shards are closed."""
 
         async def are() -> bool:
-            return len(await store._inside.store.read("SELECT 1 FROM shards WHERE closed = 1")) == count
+            return (
+                len(await store._inside.store.read("SELECT 1 FROM shards WHERE closed = 1"))
+                == count
+            )
 
         await until(are)
 

@@ -348,9 +348,12 @@ class Claims:
     ],
 )
 def test_what_was_claimed_and_is_not_answered(
-    second: list[str] | BaseException, of_report: BaseException | None,
-    found: list[str] | None, back: list[str], monkeypatch: pytest.MonkeyPatch,
-) -> None:  # fmt: skip
+    second: list[str] | BaseException,
+    of_report: BaseException | None,
+    found: list[str] | None,
+    back: list[str],
+    monkeypatch: pytest.MonkeyPatch,
+) -> None:
     """It is given back, whether the report or the claim behind it raises."""
     monkeypatch.setattr(task_claims.json_views, "task", lambda one, now: one)
 

@@ -32,7 +32,8 @@ def shop() -> sagas.Saga:
         return {"for": task.key}
 
     @reserve.compensation
-    async def release(task: Task) -> None: ...
+    async def release(task: Task) -> None:
+        ...
 
     @shop.step(needs=[reserve])
     async def charge(task: Task) -> str:
@@ -105,14 +106,29 @@ def test_a_client_starts_and_waits(url: str) -> None:
     async def main() -> None:
         async with sagas.open(url, [kind], node="a"), sagas.open(url, [kind], node="b"):
             async with sagas.Client(url) as one, sagas.Client(url) as other:
-                runs = await asyncio.gather(*(client.start(kind, f"k{number}", number) for number in range(40) for client in (one, other)))
+                runs = await asyncio.gather(
+                    *(
+                        client.start(kind, f"k{number}", number)
+                        for number in range(40)
+                        for client in (one, other)
+                    )
+                )
                 ends = await asyncio.gather(*(run.wait() for run in runs))
-                assert all(end.ok and end.results["reserve"] == {"for": end.key} for end in ends) and len(ends) == 80
-                assert (await (await one.start(kind, "bad", "fails")).wait()).states == {"reserve": "undone", "charge": "failed"}
+                assert (
+                    all(end.ok and end.results["reserve"] == {"for": end.key} for end in ends)
+                    and len(ends) == 80
+                )
+                assert (await (await one.start(kind, "bad", "fails")).wait()).states == {
+                    "reserve": "undone",
+                    "charge": "failed",
+                }
                 with pytest.raises(sagas.KeyConflict):
                     await other.start(kind, "bad", "other input")
                 assert await other.get("bad") is not None and await other.get("none") is None
-                assert len(await other.list(limit=1000)) == 41 and [row.key for row in await one.list(phase="stuck")] == []
+                assert (
+                    len(await other.list(limit=1000)) == 41
+                    and [row.key for row in await one.list(phase="stuck")] == []
+                )
                 with pytest.raises(sagas.NoSuchSaga):
                     await one.wait("none")
                 with pytest.raises(sagas.InvalidKey):
@@ -155,7 +171,10 @@ def test_a_start_waits_for_a_node(url: str, capsys: pytest.CaptureFixture[str]) 
                 said = capsys.readouterr().out
                 assert "No node has accepted these starts:" in said and "shop (version 1)" in said
                 assert await asyncio.to_thread(store_command.main, [url, "show", "k"]) == 1
-                assert "k has not started: it waits for a node that has shop (version 1)" in capsys.readouterr().err
+                assert (
+                    "k has not started: it waits for a node that has shop (version 1)"
+                    in capsys.readouterr().err
+                )
                 async with sagas.open(url, [kind]):
                     assert (await started.wait()).ok
 
@@ -189,15 +208,20 @@ def test_a_start_whose_caller_is_cancelled_takes_no_connection_away(url: str) ->
 def waits_for_a_lock(url: str) -> list[Any]:
     """The server's processes that wait for a lock in this database."""
     with psycopg.connect(url) as link:
-        return link.execute("SELECT 1 FROM pg_stat_activity WHERE datname = current_database() AND wait_event_type = 'Lock'").fetchall()
+        return link.execute(
+            "SELECT 1 FROM pg_stat_activity WHERE datname = current_database() AND wait_event_type = 'Lock'"
+        ).fetchall()
 
 
-def test_a_start_that_no_node_has_taken_is_withdrawn(url: str, capsys: pytest.CaptureFixture[str]) -> None:
+def test_a_start_that_no_node_has_taken_is_withdrawn(
+    url: str, capsys: pytest.CaptureFixture[str]
+) -> None:
     """`waiting` lists it, and `abort` takes it back. One that a node has just taken is aborted by that, once it has begun."""
     kind, other = sagas.Saga("signed"), shop()
 
     @kind.approval
-    def sign(task: Task) -> None: ...
+    def sign(task: Task) -> None:
+        ...
 
     async def asked(*words: str) -> str:
         assert await asyncio.to_thread(store_command.main, [url, *words]) == 0
@@ -207,16 +231,31 @@ def test_a_start_that_no_node_has_taken_is_withdrawn(url: str, capsys: pytest.Ca
         async with sagas.open(url, [other]), sagas.Client(url) as client:
             started = await client.start(kind, "t1")
             (one,) = json.loads(await asked("pending", "--json"))
-            assert (one["key"], one["kind"], one["why"], one["saga"], one["version"], one["step"]) == ("t1", "start", "node", "signed", 1, None)
+            assert (
+                one["key"],
+                one["kind"],
+                one["why"],
+                one["saga"],
+                one["version"],
+                one["step"],
+            ) == ("t1", "start", "node", "signed", 1, None)
             assert "a node with signed version 1" in await asked("pending")
-            assert await asked("abort", "t1") == "t1: start withdrawn; no node had accepted it, and nothing has started\n"
+            assert (
+                await asked("abort", "t1")
+                == "t1: start withdrawn; no node had accepted it, and nothing has started\n"
+            )
             assert inbox(url) == 0 and json.loads(await asked("pending", "--json")) == []
             with pytest.raises(sagas.NoSuchSaga):
                 await started.wait()
-            assert await asyncio.to_thread(store_command.main, [url, "abort", "t1"]) == 1 and "no saga has the key t1" in capsys.readouterr().err
+            assert (
+                await asyncio.to_thread(store_command.main, [url, "abort", "t1"]) == 1
+                and "no saga has the key t1" in capsys.readouterr().err
+            )
             await client.start(kind, "t2")
             with psycopg.connect(url, autocommit=True) as link:  # a node is about to open it
-                link.execute("UPDATE sagas.pending_starts SET node = (SELECT node FROM sagas.nodes)")
+                link.execute(
+                    "UPDATE sagas.pending_starts SET node = (SELECT node FROM sagas.nodes)"
+                )
             assert json.loads(await asked("pending", "--json")) == []
             abort = asyncio.create_task(asked("abort", "t2", "--timeout", "60"))
             await until(lambda: requests(url))
@@ -369,12 +408,18 @@ def test_an_abort_and_a_node_at_once(url: str) -> None:
         found: set[str] = set()
         async with sagas.Client(url, connections=8) as client:
             for turn in range(5):
-                before = asyncio.create_task(answers(await started(client, f"before{turn}"), 0.01 + 0.002 * turn))
+                before = asyncio.create_task(
+                    answers(await started(client, f"before{turn}"), 0.01 + 0.002 * turn)
+                )
                 async with sagas.open(url, [kind], node="a"), sagas.open(url, [kind], node="b"):
                     async with asyncio.timeout(60):
                         found.update(await before)
                         for part in range(3):
-                            found.update(await answers(await started(client, f"beside{turn}-{part}"), 0.0002 * turn))
+                            found.update(
+                                await answers(
+                                    await started(client, f"beside{turn}-{part}"), 0.0002 * turn
+                                )
+                            )
             assert "withdrawn" in found and inbox(url) == requests(url) == 0
             for key in {*called}:
                 assert called.count(key) == 1 and await client.get(key) is not None
@@ -439,7 +484,12 @@ def test_a_start_that_somebody_is_at_holds_up_no_other(url: str) -> None:
                 stranger.execute("SELECT 1 FROM sagas.pending_starts WHERE key = 'k2' FOR UPDATE")
                 async with sagas.open(url, [kind]):
                     async with asyncio.timeout(15):
-                        assert all(end.ok for end in await asyncio.gather(*(one.wait() for one in runs if one.key != "k2")))
+                        assert all(
+                            end.ok
+                            for end in await asyncio.gather(
+                                *(one.wait() for one in runs if one.key != "k2")
+                            )
+                        )
                     assert inbox(url) == 1
                     stranger.rollback()
                     assert (await runs[2].wait()).ok
@@ -469,7 +519,8 @@ def test_abort_and_finish_by_a_client(url: str) -> None:
     saga = sagas.Saga("signed")
 
     @saga.approval()
-    def sign(task: Task) -> None: ...
+    def sign(task: Task) -> None:
+        ...
 
     async def main() -> None:
         async with sagas.open(url, [saga]):
@@ -524,7 +575,9 @@ def test_a_start_that_fails_in_the_callers_transaction(url: str, how: str, plain
         link.execute("CREATE TABLE orders(number integer)")
 
     async def main(stranger: psycopg.Connection[Any]) -> None:
-        async with await psycopg.AsyncConnection.connect(url, **late) as link, sagas.Client(url) as client:
+        async with await psycopg.AsyncConnection.connect(url, **late) as link, sagas.Client(
+            url
+        ) as client:
             for number in range(2) if how == "begun" else ():
                 await link.execute("INSERT INTO orders VALUES(%s)", (number,))
             with pytest.raises(sagas.StoreUnavailable, match="lock timeout"):
@@ -572,13 +625,23 @@ def test_a_client_in_a_forked_child(url: str) -> None:
     kind = shop()
     text = "the client was opened in another process, before a fork. Create and open one in this process"
     with sagas.open_sync(url, [kind]), sagas.SyncClient(url) as client:
-        calls: list[Any] = [lambda: client.start(kind, "c"), lambda: client.wait("k", timeout=60), client.list, client.__enter__]
+        calls: list[Any] = [
+            lambda: client.start(kind, "c"),
+            lambda: client.wait("k", timeout=60),
+            client.list,
+            client.__enter__,
+        ]
         for call in calls:
             said = in_child(call)
             assert said.startswith("Closed: ") and text in said
         assert in_child(client.close) == "None"
         inner = client._inner
-        calls = [lambda: inner.start(kind, "c"), lambda: inner.wait("k"), lambda: inner.abort("k"), inner.__aenter__]
+        calls = [
+            lambda: inner.start(kind, "c"),
+            lambda: inner.wait("k"),
+            lambda: inner.abort("k"),
+            inner.__aenter__,
+        ]
         for call in calls:
             assert text in in_child(lambda: asyncio.run(call()))
         assert in_child(lambda: asyncio.run(inner.close())) == "None"
@@ -645,7 +708,10 @@ def test_closing_ends_the_waits_of_other_threads(
 def test_a_client_by_the_other_kind_of_with() -> None:
     """`with` and `async with` each say what is meant."""
     url = "postgresql://a@127.0.0.1/b"
-    with pytest.raises(TypeError, match=r"^a sagas.Client needs `async with`. Without async, use `with sagas\.SyncClient\(\.\.\.\)`$"):
+    with pytest.raises(
+        TypeError,
+        match=r"^a sagas.Client needs `async with`. Without async, use `with sagas\.SyncClient\(\.\.\.\)`$",
+    ):
         with sagas.Client(url):  # type: ignore[attr-defined]
             pass
 
@@ -664,7 +730,9 @@ def test_a_connection_of_the_other_kind(url: str) -> None:
 
     async def main() -> None:
         async with sagas.Client(url) as client:
-            with psycopg.connect(url) as link, pytest.raises(TypeError, match="sagas.Client needs a psycopg.AsyncConnection"):
+            with psycopg.connect(url) as link, pytest.raises(
+                TypeError, match="sagas.Client needs a psycopg.AsyncConnection"
+            ):
                 await client.start(kind, "k", connection=link)  # type: ignore[arg-type]
         with sagas.SyncClient(url) as plain:
             async with await psycopg.AsyncConnection.connect(url) as other:
@@ -686,10 +754,15 @@ def test_what_a_clients_run_tells(url: str) -> None:
             again, found = await client.start(kind, "bad", "fails"), await client.get("bad")
             assert run.new and not again.new and found and not found.new
             assert await run.log() == [] and await run.plan() is None
-            with pytest.raises(TimeoutError, match="'bad' is still open after 0.01 s: no node has started it yet"):
+            with pytest.raises(
+                TimeoutError, match="'bad' is still open after 0.01 s: no node has started it yet"
+            ):
                 await run.wait(timeout=0.01)
             async with sagas.open(url, [kind]) as store:
-                assert (await run.wait(timeout=60)).states == {"reserve": "undone", "charge": "failed"}
+                assert (await run.wait(timeout=60)).states == {
+                    "reserve": "undone",
+                    "charge": "failed",
+                }
                 assert await run.log() == await store.log("bad")
                 assert await run.plan() == await store.plan("bad") is not None
                 with pytest.raises(sagas.NoSuchSaga):
@@ -698,7 +771,9 @@ def test_what_a_clients_run_tells(url: str) -> None:
     run(main())
     with sagas.open_sync(url, [kind]) as store, sagas.SyncClient(url) as plain:
         again = plain.start(kind, "bad", "fails")
-        assert not again.new and again.log() == store.log("bad") and again.plan() == store.plan("bad")
+        assert (
+            not again.new and again.log() == store.log("bad") and again.plan() == store.plan("bad")
+        )
         assert plain.start(kind, "well").new and plain.plan("bad") is not None
 
 
@@ -707,11 +782,14 @@ def test_a_client_waits_too_long(url: str) -> None:
     saga = sagas.Saga("signed")
 
     @saga.approval()
-    def sign(task: Task) -> None: ...
+    def sign(task: Task) -> None:
+        ...
 
     with sagas.open_sync(url, [saga]), sagas.SyncClient(url) as client:
         started = client.start(saga, "k")
-        hears(lambda: started.wait(0.01), "'k' is still open after 0.01 s: sign waits for an approval")
+        hears(
+            lambda: started.wait(0.01), "'k' is still open after 0.01 s: sign waits for an approval"
+        )
         client.complete("k", sign)
         assert client.wait("k", timeout=60).ok
 
@@ -748,12 +826,16 @@ CREATE TRIGGER stays_once BEFORE DELETE ON sagas.pending_starts
 
 
 @pytest.mark.parametrize("is_seen", [True, False], ids=["seen", "met"])
-def test_a_start_whose_key_has_a_saga_goes_away(url: str, monkeypatch: pytest.MonkeyPatch, is_seen: bool) -> None:
+def test_a_start_whose_key_has_a_saga_goes_away(
+    url: str, monkeypatch: pytest.MonkeyPatch, is_seen: bool
+) -> None:
     """The commit that takes it out fails: it is taken out by the next one, and never begun."""
     kind, told = shop(), list[str]()
 
     async def main() -> None:
-        async with sagas.open(url, [kind], on_event=lambda event: told.append(event.name)) as store, sagas.Client(url) as client:
+        async with sagas.open(
+            url, [kind], on_event=lambda event: told.append(event.name)
+        ) as store, sagas.Client(url) as client:
             with psycopg.connect(url) as stranger:
                 stranger.execute(STAYS)
             async with await psycopg.AsyncConnection.connect(url) as link:
@@ -778,7 +860,9 @@ def test_a_start_whose_key_has_a_saga_goes_away(url: str, monkeypatch: pytest.Mo
 
 
 @pytest.mark.parametrize("where", ["starts", "find", "new_log"])
-def test_a_start_that_fails_at_first_is_taken_again(url: str, where: str, monkeypatch: pytest.MonkeyPatch) -> None:
+def test_a_start_that_fails_at_first_is_taken_again(
+    url: str, where: str, monkeypatch: pytest.MonkeyPatch
+) -> None:
     """The answer to its taking is lost, or the node cannot open it then: the node, which has it, takes it up again by itself."""
     kind = shop()
 
@@ -827,7 +911,9 @@ def test_a_race_for_one_key_fails_no_other_start(url: str, monkeypatch: pytest.M
                 return None if blind >= 0 else await right(key)
 
             monkeypatch.setattr(database, "find", find)
-            runs = await asyncio.gather(*(one.start(kind, f"k{number}", number) for number in range(10)))
+            runs = await asyncio.gather(
+                *(one.start(kind, f"k{number}", number) for number in range(10))
+            )
             assert all(end.ok for end in await asyncio.gather(*(run.wait() for run in runs)))
             assert len(records.read(url).sagas) == 10
 
@@ -835,7 +921,9 @@ def test_a_race_for_one_key_fails_no_other_start(url: str, monkeypatch: pytest.M
 
 
 @pytest.mark.parametrize("plain", [False, True])
-def test_faults_of_the_given_connection_are_told_as_its_own(url: str, postgresql: Server, plain: bool) -> None:
+def test_faults_of_the_given_connection_are_told_as_its_own(
+    url: str, postgresql: Server, plain: bool
+) -> None:
     """Closed, in a failed transaction, to a database without the tables, or to that of another store: nothing is written, and each text says what to do."""
     kind, bare, other = shop(), postgresql.create(), postgresql.create()
     for place in (url, other):
@@ -861,8 +949,14 @@ def test_faults_of_the_given_connection_are_told_as_its_own(url: str, postgresql
 
     texts = {
         (url, "close"): "the given connection is closed. Nothing was written. Give an open one",
-        (url, "SELECT 1 / 0"): "in which a statement failed. Nothing was written. Roll it back, and start the saga in the next one",
-        (url, "SET TRANSACTION READ ONLY"): "by the given connection: cannot execute INSERT in a read-only transaction",
+        (
+            url,
+            "SELECT 1 / 0",
+        ): "in which a statement failed. Nothing was written. Roll it back, and start the saga in the next one",
+        (
+            url,
+            "SET TRANSACTION READ ONLY",
+        ): "by the given connection: cannot execute INSERT in a read-only transaction",
         (bare, ""): "the given connection is to another database (database '",
         (other, ""): "Nothing was written. Give a connection to the store's database",
     }
@@ -888,8 +982,13 @@ def test_a_given_connection_with_rows_of_its_own_kind(url: str) -> None:
     made(url, kind)
 
     async def main() -> None:
-        other: dict[str, Any] = {"row_factory": dict_row, "cursor_factory": psycopg.AsyncClientCursor}
-        async with sagas.Client(url) as client, await psycopg.AsyncConnection.connect(url, **other) as link:
+        other: dict[str, Any] = {
+            "row_factory": dict_row,
+            "cursor_factory": psycopg.AsyncClientCursor,
+        }
+        async with sagas.Client(url) as client, await psycopg.AsyncConnection.connect(
+            url, **other
+        ) as link:
             assert (await client.start(kind, "k", 1, connection=link)).new
             assert not (await client.start(kind, "k", 1, connection=link)).new
             with pytest.raises(sagas.NoSuchSaga):
@@ -898,7 +997,10 @@ def test_a_given_connection_with_rows_of_its_own_kind(url: str) -> None:
 
     run(main())
     with sagas.SyncClient(url) as plain, psycopg.connect(url, row_factory=dict_row) as link:
-        assert not plain.start(kind, "k", 1, connection=link).new and plain.start(kind, "l", connection=link).new
+        assert (
+            not plain.start(kind, "k", 1, connection=link).new
+            and plain.start(kind, "l", connection=link).new
+        )
     assert inbox(url) == 2
 
 
@@ -923,6 +1025,8 @@ def test_a_store_and_a_client_wait_by_key_for_some_time(url: str) -> None:
                 await found.wait(timeout=0.01)
             with pytest.raises(sagas.NoSuchSaga):
                 await store.wait("none", timeout=60)
-            assert (await (await store.start(kind, "l")).wait(timeout=60)).ok and (await client.wait("l", timeout=60)).ok
+            assert (await (await store.start(kind, "l")).wait(timeout=60)).ok and (
+                await client.wait("l", timeout=60)
+            ).ok
 
     run(main())

@@ -111,9 +111,7 @@ def holds_secret(place: str) -> list[str]:
         return [name for name in found if SECRET in repr(link.ask(f"SELECT * FROM {name}"))]
 
 
-def test_nothing_of_a_value_is_stored(
-    place: str, capsys: pytest.CaptureFixture[str]
-) -> None:
+def test_nothing_of_a_value_is_stored(place: str, capsys: pytest.CaptureFixture[str]) -> None:
     """Across restarts; a newer key reads what an older one wrote; callers and steps see values."""
 
     async def main() -> None:
@@ -174,8 +172,11 @@ def test_a_value_that_looks_encoded_is_data(
     made.step(external=True, name="b", needs=[a], undo=0)
     early = made.approval(lambda task: None, name="early", needs=["b"])
     late = made.approval(lambda task: None, name="late", needs=[early])
-    made.step(lambda task: [task.result_of(one) for one in "a b early late".split()], needs=[late],
-              name="all")  # fmt: skip
+    made.step(
+        lambda task: [task.result_of(one) for one in "a b early late".split()],
+        needs=[late],
+        name="all",
+    )
 
     async def main() -> None:
         store = sagas.open(place, [made], codec=codec)
@@ -188,12 +189,18 @@ def test_a_value_that_looks_encoded_is_data(
                 await store.schedule("n", made, value, every=hour)
                 assert [one.input for one in await store.schedules()] == [value]
                 await store.complete(key, "early", value)
-                (task,) = await until(lambda: store.workers.claim([("made", "b", "run")], holder="w"))
+                (task,) = await until(
+                    lambda: store.workers.claim([("made", "b", "run")], holder="w")
+                )
                 assert task.task.input == value and task.task.result_of("a") == value
                 await store.workers.report(task.attempt_id, task.lease, value, holder="w")
                 await until(lambda: asked(place) == number + 1)
         for value, key in zip(LOOKALIKES, ("k0", "k1")):
-            words = ["--result", json.dumps(value), *(["--app", "test_codec:KNOWN"] if codec else [])]
+            words = [
+                "--result",
+                json.dumps(value),
+                *(["--app", "test_codec:KNOWN"] if codec else []),
+            ]
             assert store_command.main([place, "complete", key, "late", *words]) == 0
         async with sagas.open(place, [made], codec=codec or Identity()) as store:
             for number, value in enumerate(LOOKALIKES):
@@ -284,12 +291,17 @@ def test_nodes_and_clients_agree(url: str, caplog: pytest.LogCaptureFixture) -> 
     async def main() -> None:
         async with sagas.open(url, kinds, node="plain", lease=2.0) as store:
             for opened in (sagas.open(url, kinds, codec=KNOWN), sagas.Client(url, codec=KNOWN)):
-                with pytest.raises(sagas.StoreLocked, match="node plain .* without a codec, or is of an earlier release"):
+                with pytest.raises(
+                    sagas.StoreLocked,
+                    match="node plain .* without a codec, or is of an earlier release",
+                ):
                     async with opened:
                         pass
             await store.start(outside, "o")
         async with sagas.Client(url) as plain:
-            async with sagas.open(url, kinds, codec=KNOWN), sagas.Client(url, codec=KNOWN) as client:
+            async with sagas.open(url, kinds, codec=KNOWN), sagas.Client(
+                url, codec=KNOWN
+            ) as client:
                 for write in (
                     plain.start(kind, "k", SECRET),
                     plain.complete("o", "ok", SECRET),
@@ -373,7 +385,9 @@ def test_a_client_and_a_worker(url: str) -> None:
             store = sagas.open(url, [made], codec=codec)
             store.leased = True
             async with store:
-                (task,) = await until(lambda: store.workers.claim([("made", "a", "run")], holder="w"))
+                (task,) = await until(
+                    lambda: store.workers.claim([("made", "a", "run")], holder="w")
+                )
                 assert task.task.input == {"card": SECRET}
                 await store.workers.report(task.attempt_id, task.lease, [SECRET], holder="w")
                 assert (await client.wait("k")).results == {"a": [SECRET]}

@@ -67,9 +67,16 @@ def shop() -> sagas.Saga:
         return {"place": 17}
 
     @reserve.compensation
-    def release(task: Task) -> None: ...
+    def release(task: Task) -> None:
+        ...
 
-    @shop.step(needs=[reserve], skip=sagas.NEVER, tries=2, backoff=sagas.Backoff(initial=0.01), max_unknown=1)
+    @shop.step(
+        needs=[reserve],
+        skip=sagas.NEVER,
+        tries=2,
+        backoff=sagas.Backoff(initial=0.01),
+        max_unknown=1,
+    )
     def charge(task: Task) -> str:
         if task.input == "fails":
             raise ValueError("the card is refused")
@@ -78,7 +85,8 @@ def shop() -> sagas.Saga:
         return "charged"
 
     @charge.compensation
-    def refund(task: Task) -> None: ...
+    def refund(task: Task) -> None:
+        ...
 
     return shop
 
@@ -92,10 +100,12 @@ def signed() -> sagas.Saga:
         return "letter"
 
     @write.compensation
-    def tear(task: Task) -> None: ...
+    def tear(task: Task) -> None:
+        ...
 
     @signed.approval(needs=[write])
-    def sign(task: Task) -> None: ...
+    def sign(task: Task) -> None:
+        ...
 
     return signed
 
@@ -103,7 +113,9 @@ def signed() -> sagas.Saga:
 def held(path: str) -> list[tuple[Any, ...]]:
     """What the store holds for a person: keys and why."""
     with contextlib.closing(admin.connect(path)) as link:
-        return link.ask("SELECT key, reason FROM suspensions JOIN sagas USING (id) WHERE reason = 'approval' OR reason = 'unknown' AND until IS NULL")
+        return link.ask(
+            "SELECT key, reason FROM suspensions JOIN sagas USING (id) WHERE reason = 'approval' OR reason = 'unknown' AND until IS NULL"
+        )
 
 
 async def filled(path: str, store: sagas.Store, sagas_: list[sagas.Saga]) -> None:
@@ -122,7 +134,11 @@ async def filled(path: str, store: sagas.Store, sagas_: list[sagas.Saga]) -> Non
 def path(request: pytest.FixtureRequest, tmp_path_factory: pytest.TempPathFactory) -> str:
     """A store that no program has open, over either database."""
     in_file = request.param == "sqlite"
-    path = str(tmp_path_factory.mktemp("store") / "store.db") if in_file else request.getfixturevalue("postgresql").create()
+    path = (
+        str(tmp_path_factory.mktemp("store") / "store.db")
+        if in_file
+        else request.getfixturevalue("postgresql").create()
+    )
     kinds = [shop(), signed()]
 
     async def main() -> None:
@@ -143,74 +159,136 @@ def test_list(shell: Shell) -> None:
     """In order of their starts, by phase, by name, and page by page."""
     text = shell("list")
     assert text.splitlines()[0].split() == ["KEY", "SAGA", "PHASE", "STARTED", "ENDED"]
-    assert [line.split()[:3] for line in text.splitlines()[1:3]] == [["good", "shop", "completed"], ["bad", "shop", "stuck"]]
-    assert [row["key"] for row in shell.json("list")] == ["good", "bad", "odd", "letter-1", "letter-2"]
-    assert [row["key"] for row in shell.json("list", "--phase", "open", "--saga", "signed")] == ["letter-1", "letter-2"]
+    assert [line.split()[:3] for line in text.splitlines()[1:3]] == [
+        ["good", "shop", "completed"],
+        ["bad", "shop", "stuck"],
+    ]
+    assert [row["key"] for row in shell.json("list")] == [
+        "good",
+        "bad",
+        "odd",
+        "letter-1",
+        "letter-2",
+    ]
+    assert [row["key"] for row in shell.json("list", "--phase", "open", "--saga", "signed")] == [
+        "letter-1",
+        "letter-2",
+    ]
     assert [row["key"] for row in shell.json("list", "--after", "bad", "--limit", "1")] == ["odd"]
-    assert [row["key"] for row in shell.json("list", "--newest", "--limit", "2")] == ["letter-2", "letter-1"]
-    assert [row["key"] for row in shell.json("list", "--newest", "--after", "odd")] == ["bad", "good"]
+    assert [row["key"] for row in shell.json("list", "--newest", "--limit", "2")] == [
+        "letter-2",
+        "letter-1",
+    ]
+    assert [row["key"] for row in shell.json("list", "--newest", "--after", "odd")] == [
+        "bad",
+        "good",
+    ]
 
 
 def test_show(shell: Shell) -> None:
     """A saga's steps, its plan and what it waits for."""
     text = shell("show", "bad")
-    assert "phase    stuck" in text and "no plan is feasible, because of charge" in text and "the card is refused" in text
-    assert shell("draw", "bad").startswith("digraph") and shell("draw", "good").startswith("digraph")
-    assert shell("draw", "bad", "--svg").startswith("<svg") and shell.json("draw", "bad", "--svg")["svg"].endswith("</svg>")
+    assert (
+        "phase    stuck" in text
+        and "no plan is feasible, because of charge" in text
+        and "the card is refused" in text
+    )
+    assert shell("draw", "bad").startswith("digraph") and shell("draw", "good").startswith(
+        "digraph"
+    )
+    assert shell("draw", "bad", "--svg").startswith("<svg") and shell.json("draw", "bad", "--svg")[
+        "svg"
+    ].endswith("</svg>")
     told = shell.json("show", "good")
     assert [(step["step"], step["state"], step["result"]) for step in told["steps"]] == [
-        ("reserve", "committed", {"place": 17}), ("charge", "committed", "charged"),
+        ("reserve", "committed", {"place": 17}),
+        ("charge", "committed", "charged"),
     ]
     assert "an approval" in shell("show", "letter-1")
     assert [step["attempts"] for step in shell.json("show", "bad")["steps"]] == [1, 2]
     assert re.search(r"^STEP +STATE +TRIES +STARTED +ENDED +DETAIL$", text, re.M)
-    assert len(re.findall(r" \d{4}-\d\d-\d\d \d\d:\d\d:\d\dZ", text)) == 2 + 2 * 2  # of the saga, and of its steps
+    assert (
+        len(re.findall(r" \d{4}-\d\d-\d\d \d\d:\d\d:\d\dZ", text)) == 2 + 2 * 2
+    )  # of the saga, and of its steps
     reserve, charge = told["steps"]
-    assert told["at"] <= reserve["started"] <= reserve["ended"] <= charge["started"] <= charge["ended"] <= told["ended"]
+    assert (
+        told["at"]
+        <= reserve["started"]
+        <= reserve["ended"]
+        <= charge["started"]
+        <= charge["ended"]
+        <= told["ended"]
+    )
 
 
 def test_log_and_plan(shell: Shell) -> None:
     """As the store has them: the events with their times and what came of them, and the last plan with its certificate."""
     events = shell.json("log", "bad")
-    assert [(one["event"], one["step"]) for one in events[:3]] == [("open", None), ("start_run", "reserve"), ("commit", "reserve")]
-    assert events[2]["value"] == {"place": 17} and all(a["at"] <= b["at"] for a, b in zip(events, events[1:]))
+    assert [(one["event"], one["step"]) for one in events[:3]] == [
+        ("open", None),
+        ("start_run", "reserve"),
+        ("commit", "reserve"),
+    ]
+    assert events[2]["value"] == {"place": 17} and all(
+        a["at"] <= b["at"] for a, b in zip(events, events[1:])
+    )
     text = shell("log", "bad")
-    assert text.splitlines()[0].split() == ["TIME", "EVENT", "STEP", "DETAIL"] and re.search(r"Z  fail +charge +.*the card is refused", text)
+    assert text.splitlines()[0].split() == ["TIME", "EVENT", "STEP", "DETAIL"] and re.search(
+        r"Z  fail +charge +.*the card is refused", text
+    )
     assert "no plan is feasible, because of charge" in shell("plan", "bad")
-    assert set(shell.json("plan", "bad")) == {"definition", "case", "answer"} and shell.json("plan", "good") is None
+    assert (
+        set(shell.json("plan", "bad")) == {"definition", "case", "answer"}
+        and shell.json("plan", "good") is None
+    )
     assert shell("plan", "good", status=1) == ""
 
 
 def test_counts_stuck_and_waiting(shell: Shell) -> None:
     """How many there are, which are stuck and why, and what waits for a person."""
     assert shell.json("stats") == {
-        "sagas": {"shop": {"open": 1, "completed": 1, "recovered": 0, "stuck": 1, "resolved": 0}, "signed": {"open": 2, "completed": 0, "recovered": 0, "stuck": 0, "resolved": 0}},
+        "sagas": {
+            "shop": {"open": 1, "completed": 1, "recovered": 0, "stuck": 1, "resolved": 0},
+            "signed": {"open": 2, "completed": 0, "recovered": 0, "stuck": 0, "resolved": 0},
+        },
         "undo_failed": 0,
         "attention_required": 3,
         "unused_report": 0,
         "damaged": 0,
     }
     assert "3 wait for a person" in shell("stats")
-    assert [(one["key"], one["blocking_steps"]) for one in shell.json("stuck")] == [("bad", ["charge"])]
+    assert [(one["key"], one["blocking_steps"]) for one in shell.json("stuck")] == [
+        ("bad", ["charge"])
+    ]
     assert {(one["key"], one["step"], one["why"]) for one in shell.json("pending")} == {
-        ("odd", "charge", "unknown"), ("letter-1", "sign", "approval"), ("letter-2", "sign", "approval"),
+        ("odd", "charge", "unknown"),
+        ("letter-1", "sign", "approval"),
+        ("letter-2", "sign", "approval"),
     }
     assert "a person: unknown outcome (2 times)" in shell("pending")
     assert [one["count"] for one in shell.json("pending") if one["key"] == "odd"] == [2]
 
 
-def test_audit_and_export(shell: Shell, path: str, tmp_path: pathlib.Path, capsys: pytest.CaptureFixture[str]) -> None:
+def test_audit_and_export(
+    shell: Shell, path: str, tmp_path: pathlib.Path, capsys: pytest.CaptureFixture[str]
+) -> None:
     """Each log is audited; a saga is exported with its events; a line that is changed is found."""
     assert all(log["good"] for log in shell.json("audit"))
     told = shell.json("export", "bad")
     assert [event["event"] for event in told["events"]][:3] == ["open", "start_run", "commit"]
-    assert [result["outcome"] for result in told["results"]] == ["commit", "missed", "fail"] and told["definition"].startswith("format")
+    assert [result["outcome"] for result in told["results"]] == [
+        "commit",
+        "missed",
+        "fail",
+    ] and told["definition"].startswith("format")
     if path.startswith("postgresql:"):
         return
     spoilt = tmp_path / "spoilt.db"
     source, copy = sqlite3.connect(path), sqlite3.connect(spoilt)
     source.backup(copy)
-    copy.execute("""UPDATE event_log SET text = replace(text, '"event":"fail"', '"event":"commit"')""")
+    copy.execute(
+        """UPDATE event_log SET text = replace(text, '"event":"fail"', '"event":"commit"')"""
+    )
     copy.commit()
     for link in (source, copy):
         link.close()
@@ -226,9 +304,19 @@ def test_progress_on_a_terminal(path: str, monkeypatch: pytest.MonkeyPatch) -> N
     assert re.findall(r"shards: \d+ of \d+", said.getvalue())[-1] == "shards: 1 of 1"
 
 
-def test_what_is_not_there(shell: Shell, tmp_path: pathlib.Path, capsys: pytest.CaptureFixture[str]) -> None:
+def test_what_is_not_there(
+    shell: Shell, tmp_path: pathlib.Path, capsys: pytest.CaptureFixture[str]
+) -> None:
     """Keys and files that are not there, words that are no text, and files that are no store, change nothing."""
-    for words in (["show", "none"], ["show", "\udcff"], ["resolve", "\udcff", "--note", "\udcff"], ["abort", "none"], ["export", "none"], ["resolve", "none", "--note", "x"], ["resolve", "good", "--note", "x"]):
+    for words in (
+        ["show", "none"],
+        ["show", "\udcff"],
+        ["resolve", "\udcff", "--note", "\udcff"],
+        ["abort", "none"],
+        ["export", "none"],
+        ["resolve", "none", "--note", "x"],
+        ["resolve", "good", "--note", "x"],
+    ):
         shell(*words, status=1)
     none = tmp_path / "none.db"
     assert Shell(none, capsys)("list", status=4) == "" and not none.exists()
@@ -271,12 +359,20 @@ def test_show_says_why(tmp_path: pathlib.Path, capsys: pytest.CaptureFixture[str
     text = shell("plan", "k", "--text")
     checked = subprocess.run([program.path()], input=text, capture_output=True, text=True)
     assert (checked.stdout, checked.returncode) == ("blocked\n", 0)
-    assert re.search(r'take  undo failed +1  .*Z  .*Z  \{"called": false\}; its compensation: \{"error": "sagas.Fail: it is gone"', told), told
+    assert re.search(
+        r'take  undo failed +1  .*Z  .*Z  \{"called": false\}; its compensation: \{"error": "sagas.Fail: it is gone"',
+        told,
+    ), told
     assert re.search(r'send  failed +1  .*Z  .*Z  \{"error": "sagas.Fail: no address"', told), told
-    assert [step["state"] for step in Shell(path, capsys).json("show", "k")["steps"]] == ["undo_failed", "failed"]
+    assert [step["state"] for step in Shell(path, capsys).json("show", "k")["steps"]] == [
+        "undo_failed",
+        "failed",
+    ]
 
 
-def test_texts_that_the_output_has_no_characters_for(place: str, capsys: pytest.CaptureFixture[str], caplog: pytest.LogCaptureFixture) -> None:
+def test_texts_that_the_output_has_no_characters_for(
+    place: str, capsys: pytest.CaptureFixture[str], caplog: pytest.LogCaptureFixture
+) -> None:
     """Halves of pairs are printed escaped, and so is what is beyond ASCII where the output has no more than that; JSON has them all."""
     caplog.set_level(logging.CRITICAL, "sagas")  # the tests' runner takes no halves of pairs
     odd = "half \ud800 of a pair, \N{PILE OF POO} and \xe9"
@@ -303,23 +399,38 @@ def test_texts_that_the_output_has_no_characters_for(place: str, capsys: pytest.
     run(main())
     shell = Shell(place, capsys)
     shell("resolve", "k", "--note", odd)
-    for words in (["show", "k"], ["log", "k"], ["plan", "k"], ["export", "k"], ["draw", "k", "--svg"], ["show", "l"]):
+    for words in (
+        ["show", "k"],
+        ["log", "k"],
+        ["plan", "k"],
+        ["export", "k"],
+        ["draw", "k", "--svg"],
+        ["show", "l"],
+    ):
         told = shell(*words)
         assert words[0] in ("plan", "draw") or "\\ud800 of" in told, told
         shell.json(*words)
     for words in (["list"], ["pending"], ["stats"], ["stuck"]):
         shell(*words)
     assert shell.json("show", "k")["input"] == odd
-    assert store_command.main([place, "complete", "l", odd]) == 1 and "\\ud800 of" in capsys.readouterr().err
+    assert (
+        store_command.main([place, "complete", "l", odd]) == 1
+        and "\\ud800 of" in capsys.readouterr().err
+    )
     plain = io.TextIOWrapper(io.BytesIO(), encoding="ascii")
     with contextlib.redirect_stdout(plain):
-        assert store_command.main([place, "show", "k"]) == 0 and store_command.main([place, "show", "k", "--json"]) == 0
+        assert (
+            store_command.main([place, "show", "k"]) == 0
+            and store_command.main([place, "show", "k", "--json"]) == 0
+        )
     plain.seek(0)
     text, _, rest = plain.read().partition("\n{")
     assert "\\xe9" in text and json.loads("{" + rest)["input"] == odd
 
 
-def test_no_text_adds_a_line_or_moves_a_cursor(tmp_path: pathlib.Path, capsys: pytest.CaptureFixture[str]) -> None:
+def test_no_text_adds_a_line_or_moves_a_cursor(
+    tmp_path: pathlib.Path, capsys: pytest.CaptureFixture[str]
+) -> None:
     """What callers, workers, functions and operators say: a terminal obeys none of it, each table has a line a row, and JSON has it as it is."""
     odd = "part\n40\x1b[1A\x1b[2K\x1b]0;x\x07\x7f\x9b31m\u202e"
     far, letter, place = sagas.Saga("far"), signed(), str(tmp_path / "store.db")
@@ -339,10 +450,16 @@ def test_no_text_adds_a_line_or_moves_a_cursor(tmp_path: pathlib.Path, capsys: p
         store.leased = True
         async with store:
             await store.start(far, "far", odd)
-            (task,) = await store.workers.claim([("far", "car", "run")], wait=30, lease=3600, worker=odd)
-            await store.workers.heartbeat(task.attempt_id, task.lease, 3600, progress=0.4, detail=odd)
+            (task,) = await store.workers.claim(
+                [("far", "car", "run")], wait=30, lease=3600, worker=odd
+            )
+            await store.workers.heartbeat(
+                task.attempt_id, task.lease, 3600, progress=0.4, detail=odd
+            )
             await store.start(letter, "letter")
-            assert (await ended(store, must, "good")).ok and (await ended(store, must, "bad", 1)).phase == "stuck"
+            assert (await ended(store, must, "good")).ok and (
+                await ended(store, must, "bad", 1)
+            ).phase == "stuck"
             await store.resolve("bad", odd, by=odd)
             assert (await ended(store, must, "worse", 1)).phase == "stuck"
             await until(lambda: len(shell.json("pending")) == 3)
@@ -361,12 +478,19 @@ def test_no_text_adds_a_line_or_moves_a_cursor(tmp_path: pathlib.Path, capsys: p
 
     for words in (["pending"], ["attention"], ["log", "letter"], ["log", "bad"], ["log", "good"]):
         told = printed(*words)
-        assert told.count("\n") == 1 + len(json.loads(printed(*words, "--json"))) and "\\x1b[2K" in told, told
+        assert (
+            told.count("\n") == 1 + len(json.loads(printed(*words, "--json")))
+            and "\\x1b[2K" in told
+        ), told
     for words in (["show", "far"], ["show", "bad"], ["show", "good"], ["draw", "far", "--svg"]):
         assert "\\x1b[2K" in printed(*words) and printed(*words, "--json")
     assert "\nnote     part 40\\x1b[1A" in printed("show", "bad") and printed("export", "bad")
     shown, exported = shell.json("show", "far"), shell.json("export", "far")
-    assert shown["input"] == odd and shown["steps"][0]["detail"] == odd and shell.json("show", "bad")["note"] == odd
+    assert (
+        shown["input"] == odd
+        and shown["steps"][0]["detail"] == odd
+        and shell.json("show", "bad")["note"] == odd
+    )
     assert shown.pop("plan") is None and shown.items() <= exported.items()
     assert store_command.main([place, "show", "a\nb \x1b[2K"]) == 1
     assert capsys.readouterr().err == "sagas store: no saga has the key a b \\x1b[2K\n"
@@ -392,7 +516,11 @@ def test_a_compensation_that_failed_is_seen(place: str, capsys: pytest.CaptureFi
     async def main() -> None:
         async with sagas.open(place, [row]) as store:
             end = await (await store.start(row, "bad", "gone")).wait()
-            assert end.states["take"] == "undo_failed" and "\n  undo failed take: sagas.Fail: it is gone\n  failed      send:" in str(end)
+            assert end.states[
+                "take"
+            ] == "undo_failed" and "\n  undo failed take: sagas.Fail: it is gone\n  failed      send:" in str(
+                end
+            )
             assert re.search(r"take  undo failed +5 +never  stands", str(await store.plan("bad")))
             await (await store.start(row, "undone")).wait()
             listed = [(one.key, one.phase, one.undo_failed) for one in await store.list()]
@@ -401,21 +529,36 @@ def test_a_compensation_that_failed_is_seen(place: str, capsys: pytest.CaptureFi
 
     run(main())
     shell = Shell(place, capsys)
-    assert [(one["key"], one["undo_failed"]) for one in shell.json("list", "--phase", "undo_failed")] == [("bad", True)]
+    assert [
+        (one["key"], one["undo_failed"]) for one in shell.json("list", "--phase", "undo_failed")
+    ] == [("bad", True)]
     assert "recovered, undo failed" in shell("list")
     told = shell.json("stats")
     assert told["undo_failed"] == 1 and "list --phase undo_failed" in shell("stats")
-    assert shell.json("stuck") == [] and "1 ended with a permanently failed compensation" in shell("stuck")
-    assert "phase    recovered, undo failed\n" in shell("show", "bad") and "phase    recovered\n" in shell("show", "undone")
+    assert shell.json("stuck") == [] and "1 ended with a permanently failed compensation" in shell(
+        "stuck"
+    )
+    assert "phase    recovered, undo failed\n" in shell(
+        "show", "bad"
+    ) and "phase    recovered\n" in shell("show", "undone")
     shell("resolve", "bad", "--note", "it was found")
     for key, phase in (("undone", "recovered"), ("bad", "resolved")):
         assert store_command.main([place, "abort", key]) == 1
-        assert capsys.readouterr().err == f"sagas store: {key} has ended ({phase}), so there is nothing to abort\n"
+        assert (
+            capsys.readouterr().err
+            == f"sagas store: {key} has ended ({phase}), so there is nothing to abort\n"
+        )
 
 
-def test_a_log_says_who_did_what_and_why(place: str, capsys: pytest.CaptureFixture[str], monkeypatch: pytest.MonkeyPatch) -> None:
+def test_a_log_says_who_did_what_and_why(
+    place: str, capsys: pytest.CaptureFixture[str], monkeypatch: pytest.MonkeyPatch
+) -> None:
     """Of what an operator did, also of what was refused; texts are cut for terminals alone."""
-    kind, why, shell = signed(), f"the customer {'who is well known ' * 9}called", Shell(place, capsys)
+    kind, why, shell = (
+        signed(),
+        f"the customer {'who is well known ' * 9}called",
+        Shell(place, capsys),
+    )
 
     async def main() -> None:
         async with sagas.open(place, [kind]) as store:
@@ -424,7 +567,9 @@ def test_a_log_says_who_did_what_and_why(place: str, capsys: pytest.CaptureFixtu
             await until(lambda: len(held(place)) == 3)
             await store.complete("agreed", "sign", {"long": why}, by="ann", note="known customer")
             await asyncio.to_thread(shell, "fail", "not", "sign", why)
-            await asyncio.to_thread(shell, "complete", "twice", "write", "--undo", "--note", "no letter", status=1)
+            await asyncio.to_thread(
+                shell, "complete", "twice", "write", "--undo", "--note", "no letter", status=1
+            )
             for key in ("agreed", "not"):
                 await store.wait(key)
 
@@ -434,16 +579,24 @@ def test_a_log_says_who_did_what_and_why(place: str, capsys: pytest.CaptureFixtu
         ("agreed", "complete by ann: known customer"),
         ("agreed", f'{{"long": "{why}"}}'),
         ("not", f"fail: {why}"),
-        ("twice", r"complete (undo): no letter (refused: saga 'twice', step 'write': it has not started. Report it after it starts)"),
+        (
+            "twice",
+            r"complete (undo): no letter (refused: saga 'twice', step 'write': it has not started. Report it after it starts)",
+        ),
         ("twice", "complete: as agreed (no answer yet)"),
     ):
         assert f"  {line}\n" in shell("log", key)
     monkeypatch.setattr("sys.stdout", screen := Screen())
     assert store_command.main([place, "log", "not"]) == 0
-    assert re.search(r"Z  note +sign +fail: the customer who .*\.\.\.\n", screen.getvalue()) and why not in screen.getvalue()
+    assert (
+        re.search(r"Z  note +sign +fail: the customer who .*\.\.\.\n", screen.getvalue())
+        and why not in screen.getvalue()
+    )
 
 
-def test_a_far_time_hides_nothing(tmp_path: pathlib.Path, capsys: pytest.CaptureFixture[str]) -> None:
+def test_a_far_time_hides_nothing(
+    tmp_path: pathlib.Path, capsys: pytest.CaptureFixture[str]
+) -> None:
     """An approval may wait for longer than any calendar has days."""
     kind, place = sagas.Saga("patient"), str(tmp_path / "store.db")
     kind.approval(name="sign", timeout=datetime.timedelta.max)(lambda task: None)
@@ -475,7 +628,11 @@ def test_wrong_words_of_lists(place: str, capsys: pytest.CaptureFixture[str]) ->
         for value in ("-1", "9" * 20, "x"):
             with pytest.raises(SystemExit) as usage:
                 store_command.main([place, command, "--limit", value])
-            assert usage.value.code == 2 and f"argument --limit: invalid value '{value}': use an integer from 0 to" in capsys.readouterr().err
+            assert (
+                usage.value.code == 2
+                and f"argument --limit: invalid value '{value}': use an integer from 0 to"
+                in capsys.readouterr().err
+            )
     assert store_command.main([place, "list", "--label", "x="]) == 2
     assert capsys.readouterr().err.startswith("sagas store: --label: label 'x': '': ")
     with pytest.raises(SystemExit):
@@ -488,7 +645,11 @@ def test_wrong_words_of_lists(place: str, capsys: pytest.CaptureFixture[str]) ->
         keys += [one["key"] for one in json.loads(told.out)]
         line = told.err.removeprefix("there may be more: continue with ")
         words = [*shlex.split(line), "--limit", "1"]
-    assert keys == ["a b", "-c"] and line == "--after=-c\n" and store_command.main([place, "list", *words]) == 0
+    assert (
+        keys == ["a b", "-c"]
+        and line == "--after=-c\n"
+        and store_command.main([place, "list", *words]) == 0
+    )
 
 
 FULL = "sagas store: cannot write the output or a temporary file: No space left on device\n"
@@ -496,18 +657,28 @@ FULL = "sagas store: cannot write the output or a temporary file: No space left 
 
 def test_an_output_that_takes_nothing(tmp_path: pathlib.Path) -> None:
     """Status 4, and of a disk that is full a line that says so; a pipe whose reader has ended needs none."""
-    with sagas.open_sync(place := str(tmp_path / "store.db"), [kind := simple(lambda task: None)]) as store:
+    with sagas.open_sync(
+        place := str(tmp_path / "store.db"), [kind := simple(lambda task: None)]
+    ) as store:
         store.start(kind, "k").wait()
     there, pipe = os.pipe()
     os.close(there)
     with open("/dev/full", "wb") as full, open(pipe, "wb") as broken:
-        for output, words, line in ((full, ["list"], FULL), (full, ["export", "k"], FULL), (broken, ["list", "--json"], "")):
+        for output, words, line in (
+            (full, ["list"], FULL),
+            (full, ["export", "k"], FULL),
+            (broken, ["list", "--json"], ""),
+        ):
             told = [sys.executable, "-m", "sagas", "store", place, *words]
-            done = subprocess.run(told, stdout=output, stderr=subprocess.PIPE, text=True, env=environment())
+            done = subprocess.run(
+                told, stdout=output, stderr=subprocess.PIPE, text=True, env=environment()
+            )
             assert (done.returncode, done.stderr) == (4, line)
 
 
-def test_errors_that_nobody_reads(path: str, capsys: pytest.CaptureFixture[str], monkeypatch: pytest.MonkeyPatch) -> None:
+def test_errors_that_nobody_reads(
+    path: str, capsys: pytest.CaptureFixture[str], monkeypatch: pytest.MonkeyPatch
+) -> None:
     """Where standard error is closed, the status says it alone: no error is printed between the answers."""
     for words, status in (["audit"], 0), (["show", "none"], 1), (["list", "--limit", "1"], 0):
         monkeypatch.setattr("sys.stderr", None)
@@ -533,14 +704,23 @@ def test_beside_the_running_program(place: str, capsys: pytest.CaptureFixture[st
             assert end.aborted and end.states["write"] == "undone"
             assert "phase    recovered, aborted" in await beside("show", "letter-1")
             with contextlib.closing(StoreReader(store.reader())) as looks:
-                assert [(note.what, note.told, note.answer) for note in looks.ask(one_saga.notes("letter-1"))] == [("abort", {"note": "written twice"}, True)]
-            assert await beside("abort", "letter-1", status=1) == ""  # it is over, and nobody is asked
-            assert "succeeded" in await beside("complete", "letter-2", "sign", "--result", '"signed"')
+                assert [
+                    (note.what, note.told, note.answer)
+                    for note in looks.ask(one_saga.notes("letter-1"))
+                ] == [("abort", {"note": "written twice"}, True)]
+            assert (
+                await beside("abort", "letter-1", status=1) == ""
+            )  # it is over, and nobody is asked
+            assert "succeeded" in await beside(
+                "complete", "letter-2", "sign", "--result", '"signed"'
+            )
             assert (await store.wait("letter-2")).results["sign"] == "signed"
             assert "failed" in await beside("fail", "odd", "charge", "it was not charged")
             await beside("complete", "good", "charge", status=1)
             assert "resolved" in await beside("resolve", "bad", "--note", "paid in cash")
-            assert await beside("stuck") == "KEY  SAGA  STUCK SINCE  BECAUSE\n" or "bad" not in await beside("stuck")
+            assert await beside(
+                "stuck"
+            ) == "KEY  SAGA  STUCK SINCE  BECAUSE\n" or "bad" not in await beside("stuck")
 
     run(main())
 
@@ -562,22 +742,36 @@ def test_finish_says_what_is_wrong(place: str, capsys: pytest.CaptureFixture[str
             over = "it has succeeded. This is a different outcome, and the first one counts"
             wrong = await asked("letter-1", "write")
             assert wrong == f"sagas store: saga 'letter-1', step 'write': {over}\n"
-            assert await asked("letter-1", "write", "--undo") == "sagas store: saga 'letter-1', step 'write': it has not started. Report it after it starts\n"
-            with pytest.raises(sagas.StepNotWaiting, match="saga 'letter-1' has no step 'sing'; did you mean 'sign'"):
+            assert (
+                await asked("letter-1", "write", "--undo")
+                == "sagas store: saga 'letter-1', step 'write': it has not started. Report it after it starts\n"
+            )
+            with pytest.raises(
+                sagas.StepNotWaiting,
+                match="saga 'letter-1' has no step 'sing'; did you mean 'sign'",
+            ):
                 await store.complete("letter-1", "sing")
 
     run(main())
-    assert finish("letter-1", "sing") == "sagas store: saga 'letter-1' has no step 'sing'; did you mean 'sign'?\n"  # also while no program runs
+    assert (
+        finish("letter-1", "sing")
+        == "sagas store: saga 'letter-1' has no step 'sing'; did you mean 'sign'?\n"
+    )  # also while no program runs
     assert "not JSON" in finish("letter-1", "sign", "--result", "yes", status=2)
     store_command.main([path, "complete", "letter-1", "sign", "--result", "yes"])
     assert """Write a text as '"yes"'""" in capsys.readouterr().err
-    for command, told in ("complete", "waits for an approval"), ("retry", "\n  1    no saga or step has the name, or"):
+    for command, told in ("complete", "waits for an approval"), (
+        "retry",
+        "\n  1    no saga or step has the name, or",
+    ):
         with pytest.raises(SystemExit):
             store_command.main([path, command, "--help"])
         assert told in capsys.readouterr().out
 
 
-def test_many_stuck_sagas_are_resolved_at_once(place: str, capsys: pytest.CaptureFixture[str]) -> None:
+def test_many_stuck_sagas_are_resolved_at_once(
+    place: str, capsys: pytest.CaptureFixture[str]
+) -> None:
     """By their keys, or each that nobody has resolved; those that are not stuck are told, and the others are resolved all the same."""
     shell = Shell(place, capsys)
 
@@ -590,13 +784,22 @@ def test_many_stuck_sagas_are_resolved_at_once(place: str, capsys: pytest.Captur
                 await store.wait(key)
 
     asyncio.run(main())
-    assert shell("resolve", "bad-0", "good", "bad-1", "--note", "paid in cash", status=1) == "bad-0: resolved\nbad-1: resolved\n"
+    assert (
+        shell("resolve", "bad-0", "good", "bad-1", "--note", "paid in cash", status=1)
+        == "bad-0: resolved\nbad-1: resolved\n"
+    )
     assert shell("resolve", "--all", "--note", " ", status=2) == ""
     assert shell("resolve", "--all", "--saga", "another", "--note", "x") == ""
-    assert shell.json("resolve", "--all", "--saga", "shop", "--note", "the terminal was broken") == [
-        {"key": f"bad-{number}", "note": "the terminal was broken"} for number in (2, 3, 4)
-    ]
-    assert shell.json("stats")["sagas"]["shop"] == {"open": 0, "completed": 1, "recovered": 0, "stuck": 0, "resolved": 5}
+    assert shell.json(
+        "resolve", "--all", "--saga", "shop", "--note", "the terminal was broken"
+    ) == [{"key": f"bad-{number}", "note": "the terminal was broken"} for number in (2, 3, 4)]
+    assert shell.json("stats")["sagas"]["shop"] == {
+        "open": 0,
+        "completed": 1,
+        "recovered": 0,
+        "stuck": 0,
+        "resolved": 5,
+    }
     assert "paid in cash" in shell("show", "bad-0")
     for words in ([], ["bad-0", "--all"], ["good", "--count"]):
         shell("resolve", *words, "--note", "x", status=2)
@@ -620,7 +823,10 @@ def test_without_a_program(place: str, capsys: pytest.CaptureFixture[str]) -> No
     assert "when a program has the store open" in shell("abort", "letter-1")
     assert "when a program has the store open" in shell("complete", "letter-2", "sign")
     run(second())
-    assert sum(shell.json("stats")["sagas"]["signed"][phase] for phase in ("completed", "recovered")) == 2
+    assert (
+        sum(shell.json("stats")["sagas"]["signed"][phase] for phase in ("completed", "recovered"))
+        == 2
+    )
 
 
 def test_words_for_people() -> None:
@@ -629,46 +835,79 @@ def test_words_for_people() -> None:
     record.created, record.msecs = 86400.0, 7
     assert formatting.moment(86400.0) == words.clock(86400.0) == "1970-01-02 00:00:00Z"
     assert formatting.moment(1e15) == words.clock(1e15) and formatting.moment(None) == ""
-    assert log_format.Text("%(asctime)s %(message)s").format(record) == "1970-01-02 00:00:00.007Z said"
-    assert [wording.number(count, "saga") for count in (0, 1, 2)] == ["0 sagas", "1 saga", "2 sagas"]
-    assert repr(sagas.Saga("none")) == "<saga none, version 1, 0 steps>" and repr(signed()) == "<saga signed, version 1, 2 steps>"
+    assert (
+        log_format.Text("%(asctime)s %(message)s").format(record) == "1970-01-02 00:00:00.007Z said"
+    )
+    assert [wording.number(count, "saga") for count in (0, 1, 2)] == [
+        "0 sagas",
+        "1 saga",
+        "2 sagas",
+    ]
+    assert (
+        repr(sagas.Saga("none")) == "<saga none, version 1, 0 steps>"
+        and repr(signed()) == "<saga signed, version 1, 2 steps>"
+    )
 
 
 FORGED = {
     "UPDATE sagas SET phase = CASE key WHEN 'good' THEN 'stuck' ELSE 'ended' END WHERE key IN ('good', 'bad')": [
-        "good: the row says stuck, the events say completed", "bad: the row says completed, the events say stuck",
+        "good: the row says stuck, the events say completed",
+        "bad: the row says completed, the events say stuck",
     ],
-    "UPDATE sagas SET phase = 'ended', outcome = (SELECT outcome FROM sagas WHERE key = 'good') WHERE key = 'bad'": ["bad: the row says completed, the events say stuck"],
-    "UPDATE sagas SET outcome = replace(outcome, 'committed', 'undone') WHERE key = 'good'": ["good: the row says completed with another outcome than the events"],
-    "UPDATE sagas SET recovered = 1 WHERE key = 'good'": ["good: the row says recovered, the events say completed"],
-    "UPDATE sagas SET phase = 'ended', outcome = '' WHERE key = 'odd'": ["odd: the row says completed, the events say open"],
-    "UPDATE sagas SET definition_index = 7 WHERE key = 'odd'": ["odd: the row has definition 7, the events 0"],
-    "UPDATE attempts SET event = 'missed' WHERE id = (SELECT id FROM sagas WHERE key = 'bad') AND event = 'fail'": ["bad: charge, run 2: the row says missed, the events fail"],
+    "UPDATE sagas SET phase = 'ended', outcome = (SELECT outcome FROM sagas WHERE key = 'good') WHERE key = 'bad'": [
+        "bad: the row says completed, the events say stuck"
+    ],
+    "UPDATE sagas SET outcome = replace(outcome, 'committed', 'undone') WHERE key = 'good'": [
+        "good: the row says completed with another outcome than the events"
+    ],
+    "UPDATE sagas SET recovered = 1 WHERE key = 'good'": [
+        "good: the row says recovered, the events say completed"
+    ],
+    "UPDATE sagas SET phase = 'ended', outcome = '' WHERE key = 'odd'": [
+        "odd: the row says completed, the events say open"
+    ],
+    "UPDATE sagas SET definition_index = 7 WHERE key = 'odd'": [
+        "odd: the row has definition 7, the events 0"
+    ],
+    "UPDATE attempts SET event = 'missed' WHERE id = (SELECT id FROM sagas WHERE key = 'bad') AND event = 'fail'": [
+        "bad: charge, run 2: the row says missed, the events fail"
+    ],
     "DELETE FROM attempts WHERE id = (SELECT id FROM sagas WHERE key = 'good')": [
-        "good: reserve, run 1: the row says nothing, the events commit", "good: charge, run 1: the row says nothing, the events commit",
+        "good: reserve, run 1: the row says nothing, the events commit",
+        "good: charge, run 1: the row says nothing, the events commit",
     ],
-    "INSERT INTO attempts SELECT id, 1, 'undo', 1, 'undone', NULL, 0 FROM sagas WHERE key = 'good'": ["good: charge, undo 1: the row says undone, the events nothing"],
+    "INSERT INTO attempts SELECT id, 1, 'undo', 1, 'undone', NULL, 0 FROM sagas WHERE key = 'good'": [
+        "good: charge, undo 1: the row says undone, the events nothing"
+    ],
     "DELETE FROM sagas WHERE key = 'letter-1'": ["saga 3: events, and no row"],
-    "INSERT INTO attempts SELECT id, 1, 'undo', 1, 'ok', NULL, 0 FROM sagas WHERE key = 'good'": ["good: charge, undo 1: the row says ok, the events nothing"],
+    "INSERT INTO attempts SELECT id, 1, 'undo', 1, 'ok', NULL, 0 FROM sagas WHERE key = 'good'": [
+        "good: charge, undo 1: the row says ok, the events nothing"
+    ],
     "INSERT INTO attempts SELECT id, 1, 'run', 1, 'ok', NULL, 0 FROM sagas WHERE key = 'odd'": [],  # as of a transaction that nobody has reported
     "UPDATE attempts SET value = 'null'": [],
 }
 """What is done to the rows of a store, and what the audit says of it."""
 
 
-def test_rows_that_differ_from_the_events(path: str, tmp_path: pathlib.Path, capsys: pytest.CaptureFixture[str]) -> None:
+def test_rows_that_differ_from_the_events(
+    path: str, tmp_path: pathlib.Path, capsys: pytest.CaptureFixture[str]
+) -> None:
     """The audit names each saga and each attempt of which the rows say something else; a value is in the rows alone."""
     if path.startswith("postgresql:"):
         return
     for place, (statement, told) in enumerate(FORGED.items()):
         copy = tmp_path / f"{place}.db"
-        with contextlib.closing(sqlite3.connect(path)) as source, contextlib.closing(sqlite3.connect(copy)) as forged:
+        with contextlib.closing(sqlite3.connect(path)) as source, contextlib.closing(
+            sqlite3.connect(copy)
+        ) as forged:
             source.backup(forged)
             forged.execute(statement)
             forged.commit()
         (log,) = (forger := Shell(copy, capsys)).json("audit", status=1 if told else 0)
         assert log["differences"] == told and log["audit"].startswith("yes"), statement
-        assert forger("audit", status=1 if told else 0).splitlines()[2:] == [f"shard 0: {line}" for line in told]
+        assert forger("audit", status=1 if told else 0).splitlines()[2:] == [
+            f"shard 0: {line}" for line in told
+        ]
 
 
 def test_an_audit_of_what_is_being_written(place: str) -> None:
@@ -682,7 +921,12 @@ def test_an_audit_of_what_is_being_written(place: str) -> None:
 
     async def main() -> None:
         async with sagas.open(place, [kind]) as store:
-            work = asyncio.gather(*(ended(store, kind, f"k{number}", "fails" if number % 3 else None) for number in range(60)))
+            work = asyncio.gather(
+                *(
+                    ended(store, kind, f"k{number}", "fails" if number % 3 else None)
+                    for number in range(60)
+                )
+            )
             while not work.done():
                 assert await asyncio.to_thread(differences) == []
             await work

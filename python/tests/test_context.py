@@ -115,7 +115,9 @@ def test_each_function_gets_it_and_it_is_left_behind_the_last(place: str, form: 
     run(main())
     assert clients.told == USES
     clients = Clients()
-    trial = sagas.testing.run(saga if form == "object" else shop(False), context=factories(clients)[form])
+    trial = sagas.testing.run(
+        saga if form == "object" else shop(False), context=factories(clients)[form]
+    )
     assert trial.phase == "recovered" and clients.told == USES
 
 
@@ -219,8 +221,13 @@ def test_a_store_without_one_says_so(tmp_path: pathlib.Path) -> None:
         return task.context
 
     end = sagas.testing.run(saga)
-    assert "the store was opened without one: give it by sagas.open(.., context=..)" in end.errors["asks"]
-    copied = pickle.loads(pickle.dumps(sagas.Task(Told("s", "k", "a", False, 1, "t-0", "1", {}, None))))
+    assert (
+        "the store was opened without one: give it by sagas.open(.., context=..)"
+        in end.errors["asks"]
+    )
+    copied = pickle.loads(
+        pickle.dumps(sagas.Task(Told("s", "k", "a", False, 1, "t-0", "1", {}, None)))
+    )
     with pytest.raises(RuntimeError, match="this task is a copy in another process"):
         copied.context
 

@@ -24,17 +24,28 @@ DAMAGES = {
         "DELETE FROM event_log WHERE shard = 0 AND first_seq = (SELECT min(first_seq) FROM event_log WHERE shard = 0 AND first_seq > 0)",
         "its event log has a gap",
     ),
-    "log": ("UPDATE event_log SET text = replace(text, 'commit', 'no event') WHERE shard = 0", "sagas drive: log: line 4"),
-    "definition": ("DELETE FROM shard_definitions WHERE shard = 0", "the definition of its saga 'k0' cannot be read"),
-    "contradiction": ("UPDATE sagas SET phase = 'ended', outcome = '{}' WHERE key = 'k0'", "its data was not understood"),
+    "log": (
+        "UPDATE event_log SET text = replace(text, 'commit', 'no event') WHERE shard = 0",
+        "sagas drive: log: line 4",
+    ),
+    "definition": (
+        "DELETE FROM shard_definitions WHERE shard = 0",
+        "the definition of its saga 'k0' cannot be read",
+    ),
+    "contradiction": (
+        "UPDATE sagas SET phase = 'ended', outcome = '{}' WHERE key = 'k0'",
+        "its data was not understood",
+    ),
 }
 SAVE = [
     "CREATE TABLE saved_log AS SELECT * FROM event_log WHERE shard = 0",
     "CREATE TABLE saved_definitions AS SELECT * FROM shard_definitions WHERE shard = 0",
 ]
 REPAIR = [
-    "DELETE FROM event_log WHERE shard = 0", "INSERT INTO event_log SELECT * FROM saved_log",
-    "DELETE FROM shard_definitions WHERE shard = 0", "INSERT INTO shard_definitions SELECT * FROM saved_definitions",
+    "DELETE FROM event_log WHERE shard = 0",
+    "INSERT INTO event_log SELECT * FROM saved_log",
+    "DELETE FROM shard_definitions WHERE shard = 0",
+    "INSERT INTO shard_definitions SELECT * FROM saved_definitions",
     "UPDATE sagas SET phase = NULL, outcome = NULL WHERE key = 'k0'",
 ]
 
@@ -42,7 +53,9 @@ REPAIR = [
 def write(place: str, *statements: str) -> None:
     """Change a store, whoever has it open."""
     if place.startswith("postgresql:"):
-        with psycopg.connect(place.replace("//app@", "//owner@"), options="-csearch_path=sagas") as link:
+        with psycopg.connect(
+            place.replace("//app@", "//owner@"), options="-csearch_path=sagas"
+        ) as link:
             for text in statements:
                 link.execute(text.encode())
     else:
@@ -60,7 +73,8 @@ def signed() -> sagas.Saga:
         return str(task.key)
 
     @saga.approval(needs=[write])
-    async def sign(task: Task) -> None: ...
+    async def sign(task: Task) -> None:
+        ...
 
     return saga
 
@@ -77,14 +91,18 @@ def test_a_damaged_shard_is_set_aside(
     text, why = DAMAGES[damage]
 
     async def before() -> None:
-        async with sagas.open(place, [kind], on_event=lambda event: names.append(event.name)) as store:
+        async with sagas.open(
+            place, [kind], on_event=lambda event: names.append(event.name)
+        ) as store:
             for number in range(4):
                 await store.start(kind, f"k{number}")
                 await until(lambda number=number: names.count("step_suspended") == number + 1)
 
     async def after() -> None:
         names.clear()
-        async with sagas.open(place, [kind], on_event=lambda event: names.append(event.name)) as store:
+        async with sagas.open(
+            place, [kind], on_event=lambda event: names.append(event.name)
+        ) as store:
             tries = counted(store)
             await store.complete("k2", "sign", None)
             assert (await store.wait("k2")).ok
@@ -93,7 +111,9 @@ def test_a_damaged_shard_is_set_aside(
             assert (await store.wait("new")).ok
             await until(lambda: len(tries) > 2)
             found: list[sagas.Attention] = await until(store.attention)
-            assert {one.key for one in found} >= {"k1"} and all(one.why == "damaged" and why in str(one.detail) for one in found)
+            assert {one.key for one in found} >= {"k1"} and all(
+                one.why == "damaged" and why in str(one.detail) for one in found
+            )
             await until(lambda: names.count("shard_damaged"))
             assert names.count("shard_damaged") == 1
             waits = asyncio.create_task(store.wait("k1"))
@@ -141,7 +161,11 @@ def counted(store: sagas.Store) -> list[int]:
 
 @pytest.mark.parametrize("damage", ["gap", "log"])
 def test_a_damaged_shard_is_deleted(
-    place: str, damage: str, tmp_path: pathlib.Path, monkeypatch: pytest.MonkeyPatch, capsys: pytest.CaptureFixture[str]
+    place: str,
+    damage: str,
+    tmp_path: pathlib.Path,
+    monkeypatch: pytest.MonkeyPatch,
+    capsys: pytest.CaptureFixture[str],
 ) -> None:
     """It is exported before, while a program has the store open, and its keys are free again; a sound shard is not deleted."""
     monkeypatch.setattr("sagas.definition.shelf.SHARD_CAPACITY", 2)
@@ -155,17 +179,29 @@ def test_a_damaged_shard_is_deleted(
             names.clear()
 
     async def before() -> None:
-        async with sagas.open(place, [kind], on_event=lambda event: names.append(event.name)) as store:
+        async with sagas.open(
+            place, [kind], on_event=lambda event: names.append(event.name)
+        ) as store:
             await begun(store, "k0", "k1", "k2", "k3")
 
     async def after() -> None:
-        async with sagas.open(place, [kind], on_event=lambda event: names.append(event.name)) as store:
+        async with sagas.open(
+            place, [kind], on_event=lambda event: names.append(event.name)
+        ) as store:
             await until(store.attention)
             assert command(owner, "prune", "--damaged-shard", "1") == 1
-            assert command(owner, "attention") == command(owner, "stats") == command(owner, "export", "k1") == 0
+            assert (
+                command(owner, "attention")
+                == command(owner, "stats")
+                == command(owner, "export", "k1")
+                == 0
+            )
             if place != owner:
                 assert command(owner, "nodes") == 0
-            assert command(owner, "prune", "--damaged-shard", "0", "--export", str(tmp_path / "out")) == 0
+            assert (
+                command(owner, "prune", "--damaged-shard", "0", "--export", str(tmp_path / "out"))
+                == 0
+            )
             await until(lambda: is_whole(store))
             await begun(store, "k0")
             for key in ("k0", "k2"):
@@ -177,10 +213,16 @@ def test_a_damaged_shard_is_deleted(
     write(place, DAMAGES[damage][0])
     run(after())
     out = capsys.readouterr()
-    assert "shard 1 is not damaged" in out.err and "deleted 2 sagas of shard 0, exported to" in out.out
-    assert "2 in damaged shards" in out.out and (place == owner or "because their data is damaged" in out.out)
+    assert (
+        "shard 1 is not damaged" in out.err and "deleted 2 sagas of shard 0, exported to" in out.out
+    )
+    assert "2 in damaged shards" in out.out and (
+        place == owner or "because their data is damaged" in out.out
+    )
     (folder,) = (one for one in (tmp_path / "out").iterdir() if one.is_dir())
-    assert [json.loads(line)["key"] for line in (folder / "sagas.jsonl").read_text().splitlines()] == ["k0", "k1"]
+    assert [
+        json.loads(line)["key"] for line in (folder / "sagas.jsonl").read_text().splitlines()
+    ] == ["k0", "k1"]
     assert command(owner, "audit") == 0
     if place != owner:
         assert command(owner, "record") == 0
@@ -205,12 +247,24 @@ def test_a_service_shows_damaged_shards(place: str, tmp_path: pathlib.Path) -> N
             page = when_listed(client)
             assert [one["key"] for one in page["entries"]] == ["k0", "k1"]
             (first, _) = page["entries"]
-            assert first["calls"] == [] and first["step"] is None and "sagas drive: log: line 2" in first["detail"]
+            assert (
+                first["calls"] == []
+                and first["step"] is None
+                and "sagas drive: log: line 2" in first["detail"]
+            )
             inbox = client.get("/ui?kind=damaged").text
-            assert "The stored data of their shard is damaged" in inbox and "sagas drive: log: line" in inbox and "With what is selected" not in inbox
+            assert (
+                "The stored data of their shard is damaged" in inbox
+                and "sagas drive: log: line" in inbox
+                and "With what is selected" not in inbox
+            )
             assert client.get("/ui/sagas/k0").status_code == 200
             assert 'sagas_attention_required{reason="damaged"} 2.0' in client.get("/metrics").text
-        assert service.told().count('"name":"shard_damaged"') + service.told().count('"name": "shard_damaged"') == 1, service.told()
+        assert (
+            service.told().count('"name":"shard_damaged"')
+            + service.told().count('"name": "shard_damaged"')
+            == 1
+        ), service.told()
 
 
 def when_listed(client: httpx.Client) -> Any:

@@ -39,7 +39,8 @@ def slow(**words: Any) -> sagas.Saga:
         assert task.deadline and task.deadline.timestamp() == task.result
 
     @saga.approval(needs=[hold])
-    def sign(task: Task) -> None: ...
+    def sign(task: Task) -> None:
+        ...
 
     return saga
 
@@ -138,7 +139,9 @@ def test_the_command_shows_it(place: str, capsys: pytest.CaptureFixture[str]) ->
 
     when = run(fill())
     told = datetime.datetime.fromtimestamp(when, UTC).strftime("%Y-%m-%d %H:%M:%SZ")
-    assert f"\ndeadline {told}\n" in shell("show", "k") and "\ndeadline " not in shell("show", "none")
+    assert f"\ndeadline {told}\n" in shell("show", "k") and "\ndeadline " not in shell(
+        "show", "none"
+    )
     assert shell.json("show", "k")["deadline"] == when
     assert [one["deadline"] for one in shell.json("list")] == [when, None]
 
@@ -178,7 +181,9 @@ def test_of_another_node(url: str) -> None:
     assert events.count("saga_overdue") == 1
 
 
-def chain(clock: Clock, late: str = "", dies: str = "") -> tuple[sagas.Saga, list[tuple[str, str | None]]]:
+def chain(
+    clock: Clock, late: str = "", dies: str = ""
+) -> tuple[sagas.Saga, list[tuple[str, str | None]]]:
     """Steps in a row, what they hear of an abort, and a clock that goes past the deadline in one of them."""
     saga, calls = sagas.Saga("chain"), list[tuple[str, str | None]]()
 
@@ -202,7 +207,9 @@ def test_nothing_begins_of_a_start_that_is_late(place: str) -> None:
     same saga."""
     kind, calls = chain(Clock())
     each = sagas.Saga("each")
-    item = each.step(name="item", for_each=lambda input: input["items"])(lambda task: calls.append(("item", None)))
+    item = each.step(name="item", for_each=lambda input: input["items"])(
+        lambda task: calls.append(("item", None))
+    )
     each.step(name="last", needs=[item])(lambda task: None)
     events = list[tuple[str, str]]()
 
@@ -216,23 +223,44 @@ def test_nothing_begins_of_a_start_that_is_late(place: str) -> None:
         past = datetime.datetime.now(UTC) - datetime.timedelta(days=30)
         heard = lambda one: events.append((one.key, one.name))
         async with sagas.open(place, [kind, each], codec=Codec(), on_event=heard) as store:
-            starts = [store.start(kind, f"late{n}", labels={"n": str(n)}, deadline=past) for n in range(3)]
-            starts += [store.start(kind, "soon", deadline=3600), store.start(kind, "zero", deadline=0)]
-            starts += [store.start(each, "each", {"items": [1, 2]}, deadline=past), store.start(kind, "none")]
+            starts = [
+                store.start(kind, f"late{n}", labels={"n": str(n)}, deadline=past) for n in range(3)
+            ]
+            starts += [
+                store.start(kind, "soon", deadline=3600),
+                store.start(kind, "zero", deadline=0),
+            ]
+            starts += [
+                store.start(each, "each", {"items": [1, 2]}, deadline=past),
+                store.start(kind, "none"),
+            ]
             runs = await asyncio.gather(*starts)
             assert all(run.new for run in runs)
             ends = {run.key: await run.wait(60) for run in runs}
-            assert {key for key, end in ends.items() if end.aborted} == {run.key for run in runs} - {"soon", "none"}
+            assert {key for key, end in ends.items() if end.aborted} == {
+                run.key for run in runs
+            } - {"soon", "none"}
             assert {*ends["each"].states.values()} == {*ends["zero"].states.values()} == {"waiting"}
             assert sorted(calls) == sorted((step, None) for step in "abc" for _ in range(2))
             again = await store.start(kind, "late0", deadline=3600)
             assert not again.new and (await again.wait(60)).aborted and len(calls) == 6
-            assert [one.event for one in await store.log("late1")] == ["open", "abort", "start_plan", "adopt"]
+            assert [one.event for one in await store.log("late1")] == [
+                "open",
+                "abort",
+                "start_plan",
+                "adopt",
+            ]
             with pytest.raises(sagas.KeyConflict):
                 await store.start(kind, "late0", {"another": 1}, deadline=past)
             assert all(said.startswith("yes") for said in (await store.audit()).values())
         first = [name for key, name in events if key == "zero"]
-        assert first == ["saga_started", "saga_overdue", "saga_aborted", "plan_adopted", "saga_ended"]
+        assert first == [
+            "saga_started",
+            "saga_overdue",
+            "saga_aborted",
+            "plan_adopted",
+            "saga_ended",
+        ]
 
     run(main())
 
@@ -258,7 +286,9 @@ def test_nothing_begins_behind_the_deadline_of_a_saga_that_is_taken_up(place: st
 
     async def second() -> None:
         heard = lambda one: events.append(one.name)
-        async with sagas.open(place, [kind], node="two", lease=1, clock=clock, on_event=heard) as store:
+        async with sagas.open(
+            place, [kind], node="two", lease=1, clock=clock, on_event=heard
+        ) as store:
             end = await until(lambda: store.get("k")) and await store.wait("k", 60)
             assert end.aborted and end.states == {"a": "undone", "b": "waiting", "c": "waiting"}
             assert calls == [("a", "aborted")]
@@ -301,7 +331,8 @@ def test_in_a_simulation() -> None:
     kind = sagas.Saga("days")
 
     @kind.wait(until=datetime.timedelta(days=3))
-    def later(task: Task) -> None: ...
+    def later(task: Task) -> None:
+        ...
 
     ended = sagas.testing.run(kind, deadline=datetime.timedelta(days=1))
     assert ended.aborted and ended.seconds == 86400 and ended.states == {"later": "waiting"}

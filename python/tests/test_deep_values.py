@@ -83,7 +83,8 @@ def test_by_a_store(place: str) -> None:
         return value_of(task.input)
 
     @saga.approval(needs=[gives])
-    def sign(task: Task) -> None: ...
+    def sign(task: Task) -> None:
+        ...
 
     async def main() -> None:
         async with sagas.open(place, [saga]) as store:
@@ -145,7 +146,10 @@ def test_by_http(service: Served, levels: int) -> None:
         whole = {"lease": task["lease"], "attempt_id": task["attempt_id"], "outcome": "complete"}
         ways = (
             ("/v1/sagas", '{"definition":"few","key":"none","input":%s}'),
-            (f"/v1/tasks/{task['attempt_id']}/complete", f'{{"lease":"{task["lease"]}","result":%s}}'),
+            (
+                f"/v1/tasks/{task['attempt_id']}/complete",
+                f'{{"lease":"{task["lease"]}","result":%s}}',
+            ),
             (f"/v1/sagas/o{levels}/steps/review/complete", '{"result":%s}'),
             ("/v1/tasks/claim", '{"steps":%s}'),
         )
@@ -227,7 +231,9 @@ def test_what_is_stored_already(place: str, tmp_path: pathlib.Path, levels: int)
     run(begun())
     put(place, "deep", nested(levels))
     files = {"far.toml": saga.toml()}
-    with served(tmp_path, files, "--log", "json", store=place) as service, service.client() as client:
+    with served(
+        tmp_path, files, "--log", "json", store=place
+    ) as service, service.client() as client:
         done: set[str] = set()
         while len(done) < 2:
             for task in take(client, "far/a", wait=10, most=100):
@@ -261,6 +267,8 @@ def test_a_claim_at_another_node(url: str, tmp_path: pathlib.Path) -> None:
                 assert task["key"] == "x"
                 while not (found := here.get("/v1/attention").json()["entries"]):
                     assert there.get("/health/live").status_code == 200
-                assert [(entry["key"], entry["kind"]) for entry in found] == [("deep", "cannot_decode")]
+                assert [(entry["key"], entry["kind"]) for entry in found] == [
+                    ("deep", "cannot_decode")
+                ]
                 assert take(there, "far/a", wait=0, most=100) == []
                 assert report(there, task).status_code == 200

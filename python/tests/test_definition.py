@@ -28,16 +28,20 @@ def trip() -> sagas.Saga:
     trip = sagas.Saga("trip")
 
     @trip.step(timeout=datetime.timedelta(seconds=30))
-    async def flight(task: Task) -> None: ...
+    async def flight(task: Task) -> None:
+        ...
 
     @trip.step(needs=[flight], undo=5, keep=30, tries=3, run=1, skip=sagas.NEVER)
-    def car(task: Task) -> None: ...
+    def car(task: Task) -> None:
+        ...
 
     @car.compensation(tries=2)
-    def cancel_car(task: Task) -> None: ...
+    def cancel_car(task: Task) -> None:
+        ...
 
     @trip.step(needs=["car", flight])
-    def tour(task: Task) -> None: ...
+    def tour(task: Task) -> None:
+        ...
 
     return trip
 
@@ -50,21 +54,39 @@ def test_toml(tmp_path: pathlib.Path) -> None:
         "name": "trip",
         "step": [
             {"name": "flight", "undo": "never"},
-            {"name": "car", "needs": ["flight"], "run": 1, "undo": 5, "skip": "never", "keep": 30, "tries": 3, "undo_tries": 2},
+            {
+                "name": "car",
+                "needs": ["flight"],
+                "run": 1,
+                "undo": 5,
+                "skip": "never",
+                "keep": 30,
+                "tries": 3,
+                "undo_tries": 2,
+            },
             {"name": "tour", "needs": ["car", "flight"], "undo": "never"},
         ],
     }
     assert trip().steps[0].run.timeout == 30
     path = tmp_path / "trip.toml"
     path.write_text(text)
-    assert subprocess.run([program(), "draw", str(path)], capture_output=True, check=True).stdout.startswith(b"digraph")
+    assert subprocess.run(
+        [program(), "draw", str(path)], capture_output=True, check=True
+    ).stdout.startswith(b"digraph")
 
 
 def test_what_the_package_shows() -> None:
     """Its names for users, and none of the modules inside."""
     shown = dir(sagas)
-    assert set(sagas.__all__) < set(shown) and {"testing", "celery", "inspection", "__version__"} < set(shown)
-    assert not {"coordinator", "pump", "sqlite", "definition"} & set(shown) and len(shown) == len(set(shown))
+    assert set(sagas.__all__) < set(shown) and {
+        "testing",
+        "celery",
+        "inspection",
+        "__version__",
+    } < set(shown)
+    assert not {"coordinator", "pump", "sqlite", "definition"} & set(shown) and len(shown) == len(
+        set(shown)
+    )
     assert all(hasattr(sagas, name) for name in shown)
 
 
@@ -86,15 +108,18 @@ def test_version() -> None:
 
 def two_of_a_name(saga: sagas.Saga) -> None:
     @saga.step
-    def a(task: Task) -> None: ...
+    def a(task: Task) -> None:
+        ...
 
     @saga.step(name="a")
-    def b(task: Task) -> None: ...
+    def b(task: Task) -> None:
+        ...
 
 
 def no_argument(saga: sagas.Saga) -> None:
     @saga.step  # type: ignore[arg-type]
-    def a() -> None: ...
+    def a() -> None:
+        ...
 
 
 def a_generator(saga: sagas.Saga) -> None:
@@ -105,138 +130,169 @@ def a_generator(saga: sagas.Saga) -> None:
 
 def a_need_that_is_not_there(saga: sagas.Saga) -> None:
     @saga.step(needs=["b"])
-    def a(task: Task) -> None: ...
+    def a(task: Task) -> None:
+        ...
 
 
 def a_need_twice(saga: sagas.Saga) -> None:
     @saga.step
-    def a(task: Task) -> None: ...
+    def a(task: Task) -> None:
+        ...
 
     @saga.step(needs=[a, "a"])
-    def b(task: Task) -> None: ...
+    def b(task: Task) -> None:
+        ...
 
 
 def a_circle(saga: sagas.Saga) -> None:
     @saga.step(needs=["b"])
-    def a(task: Task) -> None: ...
+    def a(task: Task) -> None:
+        ...
 
     @saga.step(needs=["a"])
-    def b(task: Task) -> None: ...
+    def b(task: Task) -> None:
+        ...
 
 
 def undo_without_a_compensation(saga: sagas.Saga) -> None:
     @saga.step(undo=3)
-    def a(task: Task) -> None: ...
+    def a(task: Task) -> None:
+        ...
 
 
 def never_with_a_compensation(saga: sagas.Saga) -> None:
     @saga.step(undo=sagas.NEVER)
-    def a(task: Task) -> None: ...
+    def a(task: Task) -> None:
+        ...
 
     @a.compensation
-    def b(task: Task) -> None: ...
+    def b(task: Task) -> None:
+        ...
 
 
 def two_compensations(saga: sagas.Saga) -> None:
     @saga.step
-    def a(task: Task) -> None: ...
+    def a(task: Task) -> None:
+        ...
 
     @a.compensation
-    def b(task: Task) -> None: ...
+    def b(task: Task) -> None:
+        ...
 
     @a.compensation
-    def c(task: Task) -> None: ...
+    def c(task: Task) -> None:
+        ...
 
 
 def a_price_below_0(saga: sagas.Saga) -> None:
     @saga.step(keep=-1)
-    def a(task: Task) -> None: ...
+    def a(task: Task) -> None:
+        ...
 
 
 def a_price_that_is_no_number(saga: sagas.Saga) -> None:
     @saga.step(keep=1.5)  # type: ignore[call-overload, misc]
-    def a(task: Task) -> None: ...
+    def a(task: Task) -> None:
+        ...
 
 
 def ten_tries(saga: sagas.Saga) -> None:
     @saga.step(tries=10)
-    def a(task: Task) -> None: ...
+    def a(task: Task) -> None:
+        ...
 
 
 def ten_tries_of_a_compensation(saga: sagas.Saga) -> None:
     @saga.step
-    def a(task: Task) -> None: ...
+    def a(task: Task) -> None:
+        ...
 
     @a.compensation(tries=10)
-    def b(task: Task) -> None: ...
+    def b(task: Task) -> None:
+        ...
 
 
 def a_step_of_another_saga(saga: sagas.Saga) -> None:
     other = sagas.Saga("other").step(name="x")(lambda task: None)
 
     @saga.step(needs=[other])
-    def a(task: Task) -> None: ...
+    def a(task: Task) -> None:
+        ...
 
 
 def a_name_with_capitals(saga: sagas.Saga) -> None:
     @saga.step(name="No")
-    def a(task: Task) -> None: ...
+    def a(task: Task) -> None:
+        ...
 
 
 def a_time_of_0(saga: sagas.Saga) -> None:
     @saga.step(timeout=0)
-    def a(task: Task) -> None: ...
+    def a(task: Task) -> None:
+        ...
 
 
 def a_limit_of_0(saga: sagas.Saga) -> None:
     @saga.step(concurrency=0)
-    def a(task: Task) -> None: ...
+    def a(task: Task) -> None:
+        ...
 
 
 def a_time_without_a_zone(saga: sagas.Saga) -> None:
     @saga.wait(until=datetime.datetime(2030, 1, 1))
-    def a(task: Task) -> None: ...
+    def a(task: Task) -> None:
+        ...
 
 
 def a_need_by_itself(saga: sagas.Saga) -> None:
     @saga.step
-    def flight(task: Task) -> None: ...
+    def flight(task: Task) -> None:
+        ...
 
     @saga.step(needs=flight)  # type: ignore[call-overload, misc]
-    def a(task: Task) -> None: ...
+    def a(task: Task) -> None:
+        ...
 
 
 def a_name_by_itself(saga: sagas.Saga) -> None:
     @saga.step
-    def flight(task: Task) -> None: ...
+    def flight(task: Task) -> None:
+        ...
 
     @saga.step(needs="flight")
-    def a(task: Task) -> None: ...
+    def a(task: Task) -> None:
+        ...
 
 
 def a_pause_in_seconds(saga: sagas.Saga) -> None:
     @saga.step(backoff=3)  # type: ignore[call-overload, misc]
-    def a(task: Task) -> None: ...
+    def a(task: Task) -> None:
+        ...
 
 
 def a_pause_below_0(saga: sagas.Saga) -> None:
     @saga.step(backoff=sagas.Backoff(initial=-1))
-    def a(task: Task) -> None: ...
+    def a(task: Task) -> None:
+        ...
 
 
 def a_need_that_is_misspelt(saga: sagas.Saga) -> None:
     @saga.step
-    def flight(task: Task) -> None: ...
+    def flight(task: Task) -> None:
+        ...
 
     @saga.step(needs=["fligth"])
-    def a(task: Task) -> None: ...
+    def a(task: Task) -> None:
+        ...
 
 
 def a_need_that_is_no_step(saga: sagas.Saga) -> None:
-    def flight(task: Task) -> None: ...
+    def flight(task: Task) -> None:
+        ...
 
     @saga.step(needs=[flight])  # type: ignore[list-item]
-    def a(task: Task) -> None: ...
+    def a(task: Task) -> None:
+        ...
 
 
 def a_step_on_a_circle(saga: sagas.Saga) -> None:
@@ -247,19 +303,22 @@ def a_step_on_a_circle(saga: sagas.Saga) -> None:
 
 def an_approval_within_a_text(saga: sagas.Saga) -> None:
     @saga.approval(timeout="3600")  # type: ignore[call-overload, misc]
-    def a(task: Task) -> None: ...
+    def a(task: Task) -> None:
+        ...
 
 
 def an_approval_within_no_time(saga: sagas.Saga) -> None:
     @saga.approval(timeout=0)
-    def a(task: Task) -> None: ...
+    def a(task: Task) -> None:
+        ...
 
 
 def a_decorator_as_a_need(saga: sagas.Saga) -> None:
     pause = saga.wait(until=datetime.timedelta(1), name="pause")
 
     @saga.step(needs=[pause])  # type: ignore[list-item]
-    def a(task: Task) -> None: ...
+    def a(task: Task) -> None:
+        ...
 
 
 def a_wait_that_is_left_alone(saga: sagas.Saga) -> None:
@@ -274,22 +333,26 @@ def an_approval_that_is_left_alone(saga: sagas.Saga) -> None:
 
 def a_pause_that_is_less_than_the_first(saga: sagas.Saga) -> None:
     @saga.step(backoff=sagas.Backoff(initial=1, maximum=0.1))
-    def a(task: Task) -> None: ...
+    def a(task: Task) -> None:
+        ...
 
 
 def a_rate_in_a_text(saga: sagas.Saga) -> None:
     @saga.step(rate_limit=(100, "minute"))  # type: ignore[arg-type]
-    def a(task: Task) -> None: ...
+    def a(task: Task) -> None:
+        ...
 
 
 def one_exception_by_itself(saga: sagas.Saga) -> None:
     @saga.step(unknown=TimeoutError)  # type: ignore[call-overload, misc]
-    def a(task: Task) -> None: ...
+    def a(task: Task) -> None:
+        ...
 
 
 def a_queue_by_its_name(saga: sagas.Saga) -> None:
     @saga.step(queue="slow")  # type: ignore[call-overload, misc]
-    def a(task: Task) -> None: ...
+    def a(task: Task) -> None:
+        ...
 
 
 def no_name(saga: sagas.Saga) -> None:
@@ -304,9 +367,15 @@ FAULTY: list[tuple[Callable[[sagas.Saga], None], str]] = [
     (a_need_that_is_not_there, "needs unknown step 'b'"),
     (a_need_twice, "twice"),
     (a_circle, "a needs b needs a"),
-    (undo_without_a_compensation, "undo=3, but it has no compensation. Declare @a.compensation, or set undo=0 if there is nothing to undo"),
+    (
+        undo_without_a_compensation,
+        "undo=3, but it has no compensation. Declare @a.compensation, or set undo=0 if there is nothing to undo",
+    ),
     (never_with_a_compensation, "never called. Remove one"),
-    (two_compensations, "two compensations, but one must undo everything. Call both from one function, or remove one"),
+    (
+        two_compensations,
+        "two compensations, but one must undo everything. Call both from one function, or remove one",
+    ),
     (a_price_below_0, "an integer from 0"),
     (a_price_that_is_no_number, "an integer from 0"),
     (ten_tries, "1 to 9"),
@@ -326,8 +395,14 @@ FAULTY: list[tuple[Callable[[sagas.Saga], None], str]] = [
     (an_approval_within_a_text, "seconds or a timedelta"),
     (an_approval_within_no_time, "a timedelta, > 0"),
     (a_decorator_as_a_need, "needs s.wait(...) of"),
-    (a_wait_that_is_left_alone, "s.wait(...) declares nothing, because it is a decorator. Apply it to a function"),
-    (an_approval_that_is_left_alone, "s.approval(...) declares nothing, because it is a decorator. Apply it to a function"),
+    (
+        a_wait_that_is_left_alone,
+        "s.wait(...) declares nothing, because it is a decorator. Apply it to a function",
+    ),
+    (
+        an_approval_that_is_left_alone,
+        "s.approval(...) declares nothing, because it is a decorator. Apply it to a function",
+    ),
     (a_pause_that_is_less_than_the_first, "Set maximum=1 or more"),
     (a_rate_in_a_text, "seconds or a timedelta"),
     (one_exception_by_itself, "unknown=(TimeoutError,)"),
@@ -358,23 +433,31 @@ def test_a_saga_without_steps_and_two_of_a_name(tmp_path: pathlib.Path) -> None:
     with pytest.raises(sagas.DefinitionError, match="another saga"):
         sagas.open(tmp_path / "store.db", [trip(), trip()])
     for what in (trip(), [trip().steps[0]], 17):
-        with pytest.raises(sagas.DefinitionError, match="expected a (list of sagas|sagas.Saga), got"):
+        with pytest.raises(
+            sagas.DefinitionError, match="expected a (list of sagas|sagas.Saga), got"
+        ):
             sagas.open(tmp_path / "store.db", what)  # type: ignore[arg-type]
 
 
-def test_a_compensation_that_is_never_called(tmp_path: pathlib.Path, caplog: pytest.LogCaptureFixture) -> None:
+def test_a_compensation_that_is_never_called(
+    tmp_path: pathlib.Path, caplog: pytest.LogCaptureFixture
+) -> None:
     """It is sound, and probably not meant: a warning, with file and line, which `open` logs; prices of both kinds are quiet."""
     saga = sagas.Saga("s")
 
     @saga.step(undo=5, keep=3)
-    def a(task: Task) -> None: ...
+    def a(task: Task) -> None:
+        ...
 
     @a.compensation
-    def not_a(task: Task) -> None: ...
+    def not_a(task: Task) -> None:
+        ...
 
     (warning,) = saga.warnings()
     assert "can never be called" in warning and warning.startswith(f"{__file__}:")
-    assert warning.endswith("(keep=3) costs less than undoing it (undo=5). Set keep= to more than 5, or remove the compensation")
+    assert warning.endswith(
+        "(keep=3) costs less than undoing it (undo=5). Set keep= to more than 5, or remove the compensation"
+    )
     assert trip().warnings() == []
 
     async def main() -> None:
@@ -382,7 +465,9 @@ def test_a_compensation_that_is_never_called(tmp_path: pathlib.Path, caplog: pyt
             pass
 
     run(main())
-    assert [record.getMessage() for record in caplog.records if record.levelname == "WARNING"] == [warning]
+    assert [record.getMessage() for record in caplog.records if record.levelname == "WARNING"] == [
+        warning
+    ]
 
 
 def chained(receipt: Any = ..., behind: bool = True) -> tuple[sagas.Saga, list[str]]:
@@ -390,7 +475,9 @@ def chained(receipt: Any = ..., behind: bool = True) -> tuple[sagas.Saga, list[s
     saga, undone = sagas.Saga("order"), list[str]()
     charge = saga.step(name="charge")(lambda task: None)
     charge.compensation(lambda task: undone.append(task.step))
-    said = saga.step(name="receipt", needs=[charge], **({} if receipt is ... else {"undo": receipt}))(lambda task: None)
+    said = saga.step(
+        name="receipt", needs=[charge], **({} if receipt is ... else {"undo": receipt})
+    )(lambda task: None)
 
     def send(task: Task) -> None:
         raise sagas.Fail("no such address")
@@ -420,7 +507,9 @@ def test_nothing_to_undo(place: str) -> None:
     ]
     assert needed == [None, None, None]
     assert one.states == {"charge": "committed", "receipt": "committed", "send": "failed"}
-    assert other.states == {"charge": "undone", "receipt": "undone", "send": "failed"} and gone[1] == ["charge"]
+    assert other.states == {"charge": "undone", "receipt": "undone", "send": "failed"} and gone[
+        1
+    ] == ["charge"]
 
 
 def test_a_compensation_behind_undo_0() -> None:
@@ -430,7 +519,9 @@ def test_a_compensation_behind_undo_0() -> None:
     assert sagas.testing.run(saga).states["charge"] == "undone" and undone == ["receipt", "charge"]
     plain = chained(0)[0].toml()
     assert tomllib.loads(saga.toml()) == tomllib.loads(plain)
-    assert saga.toml().replace('"receipt"\n# compensated\n', '"receipt"\n') == plain  # so that a program without it is told
+    assert (
+        saga.toml().replace('"receipt"\n# compensated\n', '"receipt"\n') == plain
+    )  # so that a program without it is told
 
 
 def test_what_keeps_others_from_being_undone() -> None:
@@ -469,18 +560,30 @@ def test_what_keeps_others_is_told_once() -> None:
 
 def test_why_a_step_stands() -> None:
     """Because another that stands, or is run, needs it; not where it costs less that it stands, or cannot go."""
-    text = '''
+    text = """
         format = 2
         name = "s"
         step = [
             {name = "a", keep = 1}, {name = "b", needs = ["a"], undo = 5, keep = 3}, {name = "c", needs = ["a"], skip = 9},
             {name = "d", undo = "never", needs = ["b"]}, {name = "e", needs = ["a"]},
         ]
-    '''
+    """
     states = ["committed", "committed", "waiting", "committed", "failed"]
     plan = sagas.Plan("s", "k", text, {"states": states}, {"cost": 4, "kept": [0, 1, 2, 3]})
-    assert [choice.detail for choice in plan.choices] == ["stands: b needs it", "stands", "is run", "stands", "is left out"]
-    assert [choice.decision for choice in plan.choices] == ["stands", "stands", "is run", "stands", "is left out"]
+    assert [choice.detail for choice in plan.choices] == [
+        "stands: b needs it",
+        "stands",
+        "is run",
+        "stands",
+        "is left out",
+    ]
+    assert [choice.decision for choice in plan.choices] == [
+        "stands",
+        "stands",
+        "is run",
+        "stands",
+        "is left out",
+    ]
 
 
 def test_hints_that_are_not_read() -> None:
@@ -488,7 +591,8 @@ def test_hints_that_are_not_read() -> None:
     saga = sagas.Saga("s")
 
     @saga.step
-    def a(task: sagas.Task[Elsewhere]) -> None: ...  # type: ignore[name-defined]
+    def a(task: sagas.Task[Elsewhere]) -> None:
+        ...  # type: ignore[name-defined]
 
     (warning,) = saga.warnings()
     assert "'Elsewhere' is not defined" in warning and warning.startswith(f"{__file__}:")
@@ -499,10 +603,13 @@ def test_decorators_with_and_without_words() -> None:
     saga = sagas.Saga("s")
 
     @saga.approval
-    def review(task: Task) -> None: ...
+    def review(task: Task) -> None:
+        ...
 
     assert (review.kind, review.name, review.approval_timeout) == ("approval", "review", None)
-    with pytest.raises(sagas.DefinitionError, match=r"test_definition\.py:\d+: saga 's': external="):
+    with pytest.raises(
+        sagas.DefinitionError, match=r"test_definition\.py:\d+: saga 's': external="
+    ):
         saga.step(external=print, name="x")  # type: ignore[call-overload]
 
 
@@ -512,14 +619,19 @@ def test_a_decorator_that_is_left_alone() -> None:
     both = saga.step(tries=2)
 
     @both
-    def a(task: Task) -> None: ...
+    def a(task: Task) -> None:
+        ...
 
     @both
-    def b(task: Task) -> None: ...
+    def b(task: Task) -> None:
+        ...
 
     assert [step.run.tries for step in saga.steps] == [2, 2] and saga.toml()
     a.compensation(tries=2)
-    with pytest.raises(sagas.DefinitionError, match=r"test_definition\.py:\d+: saga 's': a\.compensation\(\.\.\.\) declares nothing, because it is a decorator"):
+    with pytest.raises(
+        sagas.DefinitionError,
+        match=r"test_definition\.py:\d+: saga 's': a\.compensation\(\.\.\.\) declares nothing, because it is a decorator",
+    ):
         saga.toml()
 
 
@@ -531,11 +643,17 @@ def test_times_are_seconds_or_a_timedelta() -> None:
     for name, time in ways:
         step = saga.step(name=name, rate_limit=(100, time))(lambda task: None)
         assert step.bounds is not None and step.bounds.rate_limit == (100, 60)
-        assert saga.approval(name=f"{name}2", timeout=time)(lambda task: None).approval_timeout == minute
+        assert (
+            saga.approval(name=f"{name}2", timeout=time)(lambda task: None).approval_timeout
+            == minute
+        )
     assert saga.warnings() == []
     saga.step(name="c", tries=2, backoff=sagas.Backoff(initial=300))(lambda task: None)
     (warning,) = saga.warnings()
-    assert "the pauses of its function are 60.0 s, not 300 s, because that is the default maximum. Set sagas.Backoff(initial=300, maximum=300)" in warning
+    assert (
+        "the pauses of its function are 60.0 s, not 300 s, because that is the default maximum. Set sagas.Backoff(initial=300, maximum=300)"
+        in warning
+    )
 
 
 # -- types ---------------------------------------------------------------------------------------------------------------
@@ -607,9 +725,19 @@ def test_types_are_seen(tmp_path: pathlib.Path) -> None:
     path.write_text(textwrap.dedent(TYPED))
     words = ["mypy", "--strict", "--cache-dir", types_in(tmp_path), str(path)]
     try:
-        done = subprocess.run(words, capture_output=True, text=True, env={"MYPYPATH": str(HERE.parent / "src"), "PATH": "/usr/bin:/bin"}, check=False)
+        done = subprocess.run(
+            words,
+            capture_output=True,
+            text=True,
+            env={"MYPYPATH": str(HERE.parent / "src"), "PATH": "/usr/bin:/bin"},
+            check=False,
+        )
     except FileNotFoundError:
-        done = subprocess.run([sys.executable, "-m", *words], capture_output=True, text=True, check=False)
+        done = subprocess.run(
+            [sys.executable, "-m", *words], capture_output=True, text=True, check=False
+        )
     told = [line for line in done.stdout.splitlines() if line.startswith(str(path))]
-    assert ['"builtins.str"', '"builtins.int"'] == [line.split("Revealed type is ")[1] for line in told if "Revealed" in line], done.stdout
+    assert ['"builtins.str"', '"builtins.int"'] == [
+        line.split("Revealed type is ")[1] for line in told if "Revealed" in line
+    ], done.stdout
     assert len(told) == 2, done.stdout

@@ -78,8 +78,10 @@ def test_it_is_stored_and_used(place: str, capsys: pytest.CaptureFixture[str]) -
                 await trip.fail("visa", "secret")
             await store.complete("k", "flight", "LH1", by="ada")
             assert await rows() == [
-                (0, 1, "approval"), (1, 0, "early_result"), (2, 0, "early_result"),
-            ]  # fmt: skip
+                (0, 1, "approval"),
+                (1, 0, "early_result"),
+                (2, 0, "early_result"),
+            ]
             assert "visa    waiting" in (told := await asyncio.to_thread(shell, "show", "k"))
             assert told.count("reported early: complete") == 2
             steps = (await asyncio.to_thread(shell.json, "show", "k"))["steps"]
@@ -302,7 +304,8 @@ def test_one_whose_needs_are_committed_is_committed_before_a_recovery(place: str
     saga, calls, gate = sagas.Saga("order"), list[Any](), asyncio.Event()
 
     @saga.step(keep=9)
-    def reserve(task: Task) -> None: ...
+    def reserve(task: Task) -> None:
+        ...
 
     reserve.compensation(lambda task: calls.append("release"))
 
@@ -329,7 +332,12 @@ def test_one_whose_needs_are_committed_is_committed_before_a_recovery(place: str
             gate.set()
             end = await run.wait(60)
             check_ends = "failed" if way == "failure" else "undone"
-            assert end.states == {"reserve": "undone", "check": check_ends, "pay": "undone", "ship": "undone"}
+            assert end.states == {
+                "reserve": "undone",
+                "check": check_ends,
+                "pay": "undone",
+                "ship": "undone",
+            }
             assert calls == [("ship", "boxed", 1), ("pay", {"euros": 40}, 1), "release"]
             assert await store._access.inside.store.read("SELECT 1 FROM suspensions") == []
             assert all(said.startswith("yes") for said in (await store.audit()).values())

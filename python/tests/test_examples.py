@@ -52,7 +52,9 @@ def test_an_example_runs(name: str) -> None:
     assert f"PYTHONPATH=python/src python3 examples/python/{name}.py" in path.read_text()
     environment = os.environ | {"PYTHONPATH": "python/src"}
     words = [sys.executable, str(path.relative_to(TOP))]
-    done = subprocess.run(words, cwd=TOP, env=environment, capture_output=True, text=True, timeout=60, check=False)
+    done = subprocess.run(
+        words, cwd=TOP, env=environment, capture_output=True, text=True, timeout=60, check=False
+    )
     assert done.returncode == 0, done.stderr
     lines = iter(done.stdout.splitlines())
     for wanted in SAYS[name]:

@@ -372,9 +372,7 @@ def test_from_elsewhere(url: str, tmp_path: pathlib.Path) -> None:
     run(main())
 
 
-def test_the_command(
-    tmp_path: pathlib.Path, capsys: pytest.CaptureFixture[str]
-) -> None:
+def test_the_command(tmp_path: pathlib.Path, capsys: pytest.CaptureFixture[str]) -> None:
     """What waits is listed, and retried one by one or all of a name."""
     notes, place = Notes(tmp_path), str(tmp_path / "store.db")
     kind = alone(notes, on_exhausted="ask")
@@ -398,17 +396,28 @@ def test_the_command(
             assert done == "a: a is attempted again\n" and (await runs[0].wait()).ok
             every = "retry", "--all", "--saga", "alone"
             assert said(*every) == "1 step: --yes retries it\n" == said(*every, "--step", "a")
-            assert said(*every, "--step", "b") == said("retry", "--all", "--label", "x=1") == "0 steps\n"
+            assert (
+                said(*every, "--step", "b")
+                == said("retry", "--all", "--label", "x=1")
+                == "0 steps\n"
+            )
             done = await asyncio.to_thread(said, *every, "--yes")
             assert done == "b: a is attempted again\n" and (await runs[1].wait()).ok
             assert await asyncio.to_thread(said, "retry", "--all", "--yes") == ""
 
     run(main())
     for words in (
-        ["retry"], ["retry", "a"], ["retry", "a", "a", "--all"], ["retry", "a", "a", "--yes"],
-        ["complete", "a"], ["complete", "--all", "--undo"], ["complete", "a", "a", "--step", "a"],
-        ["fail", "a", "a"], ["fail", "--all"], ["fail", "a", "a", "no", "--error", "no"],
-    ):  # fmt: skip
+        ["retry"],
+        ["retry", "a"],
+        ["retry", "a", "a", "--all"],
+        ["retry", "a", "a", "--yes"],
+        ["complete", "a"],
+        ["complete", "--all", "--undo"],
+        ["complete", "a", "a", "--step", "a"],
+        ["fail", "a", "a"],
+        ["fail", "--all"],
+        ["fail", "a", "a", "no", "--error", "no"],
+    ):
         assert store_command.main([place, *words]) == 2
 
 
@@ -421,7 +430,9 @@ def all_asked(place: str, count: int) -> None:
             time.sleep(0.01)
 
 
-def test_the_command_reports_all(place: str, tmp_path: pathlib.Path, capsys: pytest.CaptureFixture[str]) -> None:
+def test_the_command_reports_all(
+    place: str, tmp_path: pathlib.Path, capsys: pytest.CaptureFixture[str]
+) -> None:
     """A count first; then each of the filter alone has the result, or has failed."""
     notes = Notes(tmp_path)
     kind, lots = alone(notes, on_exhausted="ask"), {"x": "done", "y": "failed", "z": "left"}
@@ -450,11 +461,15 @@ def test_the_command_reports_all(place: str, tmp_path: pathlib.Path, capsys: pyt
             words = [*done, "--yes", "--note", "seen", "--timeout", "60"]
             job = asyncio.create_task(asyncio.to_thread(said, *words))
             await asyncio.sleep(0)
-            all_asked(place, 2)  # while nothing here can answer: no step waits for another one's answer
+            all_asked(
+                place, 2
+            )  # while nothing here can answer: no step waits for another one's answer
             assert sorted((await job).splitlines()) == ["x-0: a succeeded", "x-1: a succeeded"]
             told = json.loads(await asyncio.to_thread(said, *failed, "--yes", "--json"))
             entry = {"step": "a", "kind": "run", "asked": "fail", "answer": True}
-            assert sorted(told, key=lambda one: one["key"]) == [{"key": key} | entry for key in ("y-0", "y-1")]
+            assert sorted(told, key=lambda one: one["key"]) == [
+                {"key": key} | entry for key in ("y-0", "y-1")
+            ]
             assert json.loads(await asyncio.to_thread(said, *failed, "--yes", "--json")) == []
             for number in range(2):
                 assert (await runs[f"x-{number}"].wait()).results == {"a": 7}
@@ -504,10 +519,16 @@ def test_in_a_simulation() -> None:
 @pytest.mark.parametrize(
     ("words", "told"),
     [
-        ({"on_exhausted": "again"}, "on_exhausted='again' of its function: must be one of fail, ask"),
+        (
+            {"on_exhausted": "again"},
+            "on_exhausted='again' of its function: must be one of fail, ask",
+        ),
         ({"max_attempts": 0}, "max_attempts=0 of its function: must be an integer >= tries="),
         ({"max_attempts": 2, "tries": 3}, "max_attempts=2 .*: must be an integer >= tries=3"),
-        ({"max_attempts": 20, "on_exhausted": "retry"}, "max_attempts=20 .* has no effect with on_exhausted='retry'"),
+        (
+            {"max_attempts": 20, "on_exhausted": "retry"},
+            "max_attempts=20 .* has no effect with on_exhausted='retry'",
+        ),
     ],
 )
 def test_wrong_words(words: dict[str, Any], told: str, tmp_path: pathlib.Path) -> None:

@@ -24,7 +24,19 @@ from typing import Any
 
 import pytest
 import records
-from cases import PLACES, QUICK, Task, asked_of, ended, in_child, pairs, run, simple, surely_ended, until
+from cases import (
+    PLACES,
+    QUICK,
+    Task,
+    asked_of,
+    ended,
+    in_child,
+    pairs,
+    run,
+    simple,
+    surely_ended,
+    until,
+)
 from driving import program
 from kills import children
 from world import started
@@ -42,8 +54,16 @@ HERE = pathlib.Path(__file__).resolve().parent
 def script(path: pathlib.Path, text: str, *words: str) -> subprocess.Popen[str]:
     """Starts a Python program, with the package and the tests in its path."""
     path.write_text(textwrap.dedent(text))
-    environment = os.environ | {"PYTHONPATH": f"{HERE.parent / 'src'}{os.pathsep}{HERE}", "SAGAS_PROGRAM": program()}
-    return subprocess.Popen([sys.executable, "-u", str(path), *words], stdout=subprocess.PIPE, text=True, env=environment)
+    environment = os.environ | {
+        "PYTHONPATH": f"{HERE.parent / 'src'}{os.pathsep}{HERE}",
+        "SAGAS_PROGRAM": program(),
+    }
+    return subprocess.Popen(
+        [sys.executable, "-u", str(path), *words],
+        stdout=subprocess.PIPE,
+        text=True,
+        env=environment,
+    )
 
 
 def test_is_killed_with_the_program(tmp_path: pathlib.Path, place: str) -> None:
@@ -71,7 +91,9 @@ def test_is_killed_with_the_program(tmp_path: pathlib.Path, place: str) -> None:
     first, _ = script(tmp_path / "first.py", program, "kill").communicate(timeout=60)
     then, _ = script(tmp_path / "then.py", program).communicate(timeout=60)
     told = [line.split() for line in first.splitlines()]
-    assert sorted(told)[-1] == ["started"] and [line[0] for line in told if line != ["started"]] == ["a", "b"]
+    assert sorted(told)[-1] == ["started"] and [
+        line[0] for line in told if line != ["started"]
+    ] == ["a", "b"]
     b = next(" ".join(line) for line in told if line[0] == "b")
     assert sorted(then.splitlines()) == sorted([b, "started", "{'a': 1, 'b': 2}"])
 
@@ -96,7 +118,10 @@ def test_serves_without_async_until_it_is_told_to_end(tmp_path: pathlib.Path) ->
     """
     process = script(tmp_path / "serves.py", program)
     told, _ = process.communicate(timeout=60)
-    assert told.splitlines() == ["serves no more", "a has ended", "is closed True"] and process.returncode == 0
+    assert (
+        told.splitlines() == ["serves no more", "a has ended", "is closed True"]
+        and process.returncode == 0
+    )
 
 
 # -- two programs, forks, the child --------------------------------------------------------------------------------
@@ -187,7 +212,9 @@ def test_a_look_is_no_program(tmp_path: pathlib.Path, monkeypatch: pytest.Monkey
 
 @pytest.mark.parametrize("version", [0, 1])
 @pytest.mark.parametrize("mode", ["delete", "wal"])
-def test_a_database_of_another_program(tmp_path: pathlib.Path, capsys: pytest.CaptureFixture[str], mode: str, version: int) -> None:
+def test_a_database_of_another_program(
+    tmp_path: pathlib.Path, capsys: pytest.CaptureFixture[str], mode: str, version: int
+) -> None:
     """It is neither opened nor migrated, and nothing of it changes; an empty one becomes a store."""
     saga, path = simple(lambda task: 1), tmp_path / "other.db"
 
@@ -244,7 +271,9 @@ def test_a_log_handler_raises(place: str, capsys: pytest.CaptureFixture[str]) ->
         logging.getLogger("sagas").addHandler(handler)
         try:
             async with sagas.open(place, [saga], concurrency=2) as store:
-                ends = await asyncio.gather(*(ended(store, saga, f"k{number}") for number in range(8)))
+                ends = await asyncio.gather(
+                    *(ended(store, saga, f"k{number}") for number in range(8))
+                )
                 assert {end.states["a"] for end in ends} == {"failed"}
         finally:
             logging.getLogger("sagas").removeHandler(handler)
@@ -259,7 +288,9 @@ exec {program} "$@"
 """
 
 
-def test_an_audit_is_killed(tmp_path: pathlib.Path, place: str, monkeypatch: pytest.MonkeyPatch) -> None:
+def test_an_audit_is_killed(
+    tmp_path: pathlib.Path, place: str, monkeypatch: pytest.MonkeyPatch
+) -> None:
     """It has said nothing of the log, which is audited again, and is closed as a good one."""
     monkeypatch.setattr("sagas.definition.shelf.SHARD_CAPACITY", 2)
     killed, once, told = tmp_path / "killed", tmp_path / "once", list[str]()
@@ -269,17 +300,25 @@ def test_an_audit_is_killed(tmp_path: pathlib.Path, place: str, monkeypatch: pyt
     saga = simple(lambda task: 1)
 
     async def main() -> None:
-        async with sagas.open(place, [saga], program=str(killed), on_event=lambda event: told.append(event.name)) as store:
+        async with sagas.open(
+            place, [saga], program=str(killed), on_event=lambda event: told.append(event.name)
+        ) as store:
             for number in range(3):
                 assert (await ended(store, saga, f"k{number}")).ok
             await until(lambda: "shard_closed" in told)
 
     run(main())
-    assert [log.closed for log in records.read(place).logs.values()] == [True, False] and "audit_failed" not in told and not once.exists()
+    assert (
+        [log.closed for log in records.read(place).logs.values()] == [True, False]
+        and "audit_failed" not in told
+        and not once.exists()
+    )
 
 
 @pytest.mark.parametrize("name", ["store.db", "store.db-wal"])
-def test_a_file_that_is_deleted_under_the_program(tmp_path: pathlib.Path, name: str, caplog: pytest.LogCaptureFixture) -> None:
+def test_a_file_that_is_deleted_under_the_program(
+    tmp_path: pathlib.Path, name: str, caplog: pytest.LogCaptureFixture
+) -> None:
     """Nothing is told any more that nobody would find: who starts a saga hears why, and the log says it once."""
     saga = simple(lambda task: 1)
 
@@ -296,7 +335,9 @@ def test_a_file_that_is_deleted_under_the_program(tmp_path: pathlib.Path, name: 
 
 
 @pytest.mark.parametrize("large", [False, True])
-def test_a_file_that_is_replaced_under_the_program(tmp_path: pathlib.Path, monkeypatch: pytest.MonkeyPatch, large: bool) -> None:
+def test_a_file_that_is_replaced_under_the_program(
+    tmp_path: pathlib.Path, monkeypatch: pytest.MonkeyPatch, large: bool
+) -> None:
     """The next commit is refused, in the loop and in the writer's thread: nobody had the time to look for the file."""
     monkeypatch.setattr("sagas.storage.sqlite.storage.LOOK", 3600)
     if large:
@@ -306,11 +347,15 @@ def test_a_file_that_is_replaced_under_the_program(tmp_path: pathlib.Path, monke
     async def main() -> None:
         async with sagas.open(path, [saga]) as store:
             assert (await ended(store, saga, "before")).ok
-            with contextlib.closing(sqlite3.connect(path)) as link, contextlib.closing(sqlite3.connect(tmp_path / "copy.db")) as copy:
+            with contextlib.closing(sqlite3.connect(path)) as link, contextlib.closing(
+                sqlite3.connect(tmp_path / "copy.db")
+            ) as copy:
                 link.backup(copy)
             (tmp_path / "copy.db").replace(path)
             for _ in range(2):
-                with pytest.raises(sagas.StoreUnavailable, match="store.db was deleted or replaced"):
+                with pytest.raises(
+                    sagas.StoreUnavailable, match="store.db was deleted or replaced"
+                ):
                     await ended(store, saga, "behind")
 
     run(main())
@@ -342,7 +387,9 @@ def test_the_lock_is_deleted(tmp_path: pathlib.Path, caplog: pytest.LogCaptureFi
         fcntl.flock(file, fcntl.LOCK_EX | fcntl.LOCK_NB)
 
 
-def test_the_program_goes_elsewhere(tmp_path: pathlib.Path, monkeypatch: pytest.MonkeyPatch) -> None:
+def test_the_program_goes_elsewhere(
+    tmp_path: pathlib.Path, monkeypatch: pytest.MonkeyPatch
+) -> None:
     """A store of a relative path stays where it was opened, also what it opens later."""
     saga = sagas.Saga("row")
     saga.step(name="a", rate_limit=(100, 1))(lambda task: 1)
@@ -373,7 +420,9 @@ def test_an_older_copy_in_place_of_the_store(tmp_path: pathlib.Path) -> None:
         async with sagas.open(path, [saga], shutdown_timeout=0.0) as store:
             await store.start(saga, "open")
             await ended(store, saga, "first")
-            with contextlib.closing(sqlite3.connect(path)) as link, contextlib.closing(sqlite3.connect(tmp_path / "copy.db")) as copy:
+            with contextlib.closing(sqlite3.connect(path)) as link, contextlib.closing(
+                sqlite3.connect(tmp_path / "copy.db")
+            ) as copy:
                 link.backup(copy)
             for number in range(3):
                 await ended(store, saga, f"lost-{number}")
@@ -387,7 +436,9 @@ def test_an_older_copy_in_place_of_the_store(tmp_path: pathlib.Path) -> None:
     run(before(tmp_path / "store.db"))
     waits.clear()
     run(after(tmp_path / "copy.db"))
-    assert {frozenset(keys) for keys in whose.values()} == {frozenset({key}) for keys in whose.values() for key in keys} and len(whose) == 8
+    assert {frozenset(keys) for keys in whose.values()} == {
+        frozenset({key}) for keys in whose.values() for key in keys
+    } and len(whose) == 8
 
 
 @pytest.mark.parametrize("times", [1, 2])
@@ -429,7 +480,9 @@ def test_ctrl_c(tmp_path: pathlib.Path, times: int) -> None:
         if times == 1:
             go.touch()
             process.wait(60)
-        for _ in range(60 if times == 2 else 0):  # one that comes while the function has its turn is raised there
+        for _ in range(
+            60 if times == 2 else 0
+        ):  # one that comes while the function has its turn is raised there
             process.send_signal(signal.SIGINT)
             with contextlib.suppress(subprocess.TimeoutExpired):
                 process.wait(1)
@@ -475,18 +528,28 @@ def test_what_is_no_file(tmp_path: pathlib.Path) -> None:
     for path in (None, b"store.db", 17):
         with pytest.raises(sagas.InvalidStore, match="must be the path of a file"):
             sagas.open(path, [saga])  # type: ignore[arg-type]
-    for word, number in (("concurrency", 0), ("threads", 1.5), ("threads", 0), ("engine_processes", -1)):
+    for word, number in (
+        ("concurrency", 0),
+        ("threads", 1.5),
+        ("threads", 0),
+        ("engine_processes", -1),
+    ):
         with pytest.raises(ValueError, match=f"{word}=.*an integer >= 1"):
             sagas.open(tmp_path / "store.db", [saga], **{word: number})  # type: ignore[arg-type]
 
 
-async def heard(event: sagas.Event) -> None: ...
+async def heard(event: sagas.Event) -> None:
+    ...
 
 
 @pytest.mark.parametrize(
     "words, kind, text",
     [
-        ({"shutdown_timeout": "30s"}, TypeError, "shutdown_timeout='30s': must be seconds or a timedelta, for example shutdown_timeout=30"),
+        (
+            {"shutdown_timeout": "30s"},
+            TypeError,
+            "shutdown_timeout='30s': must be seconds or a timedelta, for example shutdown_timeout=30",
+        ),
         ({"shutdown_timeout": -1}, ValueError, "shutdown_timeout=-1: .*, >= 0"),
         ({"shutdown_timeout": True}, TypeError, "shutdown_timeout=True: must be seconds"),
         ({"lease": "x"}, TypeError, "lease='x': must be seconds"),
@@ -497,14 +560,32 @@ async def heard(event: sagas.Event) -> None: ...
         ({"on_event": 5}, TypeError, "on_event=5: must be a function that takes an Event"),
         ({"on_event": heard}, TypeError, "on_event=.*: must be a plain function"),
         ({"clock": 5}, TypeError, "clock=5: must be a function that returns seconds since 1970"),
-        ({"retention": 30}, TypeError, r"retention=30: must be a timedelta >= 0, .* datetime.timedelta\(days=30\)"),
+        (
+            {"retention": 30},
+            TypeError,
+            r"retention=30: must be a timedelta >= 0, .* datetime.timedelta\(days=30\)",
+        ),
         ({"archive_dir": "."}, ValueError, "archive_dir='.': .* without retention="),
-        ({"retention": MONTH, "archive_dir": "none/archive"}, ValueError, "archive_dir='none/archive': folder .*/none does not exist. Create it"),
-        ({"retention": MONTH, "archive_dir": __file__}, ValueError, "archive_dir=.*: this is not a folder"),
-        ({"retention": MONTH, "archive_dir": 5}, TypeError, "archive_dir=5: must be the path of a folder"),
+        (
+            {"retention": MONTH, "archive_dir": "none/archive"},
+            ValueError,
+            "archive_dir='none/archive': folder .*/none does not exist. Create it",
+        ),
+        (
+            {"retention": MONTH, "archive_dir": __file__},
+            ValueError,
+            "archive_dir=.*: this is not a folder",
+        ),
+        (
+            {"retention": MONTH, "archive_dir": 5},
+            TypeError,
+            "archive_dir=5: must be the path of a folder",
+        ),
     ],
 )
-def test_what_a_store_is_not_opened_with(tmp_path: pathlib.Path, words: dict[str, Any], kind: type[Exception], text: str) -> None:
+def test_what_a_store_is_not_opened_with(
+    tmp_path: pathlib.Path, words: dict[str, Any], kind: type[Exception], text: str
+) -> None:
     """Each is refused at once, by its word, and nothing is made or locked."""
     for way in (sagas.open, sagas.open_sync):
         with pytest.raises(kind, match=f"^{text}"):
@@ -519,7 +600,13 @@ def test_times_of_a_store(tmp_path: pathlib.Path) -> None:
     async def main() -> None:
         ways: tuple[float | datetime.timedelta, ...] = (1, 1.0, second)
         for time in ways:
-            async with sagas.open(tmp_path / "store.db", [simple(lambda task: 1)], shutdown_timeout=time, lease=time, idle=time) as store:
+            async with sagas.open(
+                tmp_path / "store.db",
+                [simple(lambda task: 1)],
+                shutdown_timeout=time,
+                lease=time,
+                idle=time,
+            ) as store:
                 assert (await ended(store, store.sagas[0])).ok
                 with pytest.raises(TypeError, match="shutdown_timeout='x': must be seconds"):
                     await store.close("x")  # type: ignore[arg-type]
@@ -533,12 +620,17 @@ def test_the_other_kind_of_with(tmp_path: pathlib.Path) -> None:
     saga = simple(lambda task: 1)
     path = tmp_path / "store.db"
     for name in (path, "postgresql://a@127.0.0.1/b"):
-        with pytest.raises(TypeError, match=r"^a store of sagas.open needs `async with`. Without async, use `with sagas\.open_sync"):
+        with pytest.raises(
+            TypeError,
+            match=r"^a store of sagas.open needs `async with`. Without async, use `with sagas\.open_sync",
+        ):
             with sagas.open(name, [saga]):  # type: ignore[attr-defined]
                 pass
 
     async def main() -> None:
-        with pytest.raises(TypeError, match=r"needs `with`. With async, use `async with sagas\.open\("):
+        with pytest.raises(
+            TypeError, match=r"needs `with`. With async, use `async with sagas\.open\("
+        ):
             async with sagas.open_sync(path, [saga]):  # type: ignore[attr-defined]
                 pass
 
@@ -585,9 +677,14 @@ def test_a_store_in_a_forked_child(place: str) -> None:
     async def main() -> None:
         async with sagas.open(place, [saga]) as store:
             calls: list[Any] = [
-                lambda: store.start(saga, "c"), lambda: store.wait("k"), lambda: store.abort("k"),
-                store.__aenter__, store.list, lambda: store.get("k"), lambda: store.log("k"),
-            ]  # fmt: skip
+                lambda: store.start(saga, "c"),
+                lambda: store.wait("k"),
+                lambda: store.abort("k"),
+                store.__aenter__,
+                store.list,
+                lambda: store.get("k"),
+                lambda: store.log("k"),
+            ]
             for call in calls:
                 assert text in in_child(lambda: asyncio.run(call()))
             assert text in in_child(lambda: store.active_attempts("k"))
@@ -596,7 +693,12 @@ def test_a_store_in_a_forked_child(place: str) -> None:
 
     with sagas.open_sync(place, [saga]) as store:
         assert store.start(saga, "k").wait(240).ok
-        calls: list[Any] = [lambda: store.start(saga, "c"), lambda: store.wait("k", timeout=60), store.list, store.__enter__]
+        calls: list[Any] = [
+            lambda: store.start(saga, "c"),
+            lambda: store.wait("k", timeout=60),
+            store.list,
+            store.__enter__,
+        ]
         for call in calls:
             said = in_child(call)
             assert said.startswith("Closed: ") and text in said
@@ -626,7 +728,10 @@ def test_a_program_that_forks_under_an_open_store(tmp_path: pathlib.Path, place:
     """
     process = script(tmp_path / "forks.py", program)
     told, _ = process.communicate(timeout=240)
-    assert told.splitlines() == ["the child's status: 7", "['one', 'three']"] and process.returncode == 0
+    assert (
+        told.splitlines() == ["the child's status: 7", "['one', 'three']"]
+        and process.returncode == 0
+    )
 
 
 def test_a_store_that_is_entered_twice(place: str) -> None:
@@ -747,7 +852,9 @@ def test_the_child_is_killed_again_and_again(place: str) -> None:
             assert {end.results["b"] for end in await asyncio.gather(*work)} == {2}
 
     run(main())
-    assert len(tokens) == 120 and set(tokens.values()) == {1}  # this program lived: each function was called once
+    assert len(tokens) == 120 and set(tokens.values()) == {
+        1
+    }  # this program lived: each function was called once
 
 
 @contextlib.contextmanager
@@ -827,7 +934,9 @@ for line in sys.stdin.buffer:
 
 
 @pytest.mark.parametrize("event", ["open", "missed", "commit", "fail", "undone", "abort"])
-def test_the_child_dies_between_log_and_reply(tmp_path: pathlib.Path, place: str, event: str) -> None:
+def test_the_child_dies_between_log_and_reply(
+    tmp_path: pathlib.Path, place: str, event: str
+) -> None:
     """It has decided, and dies before it says so: the outcome is reported again, for the attempt that it is of."""
     between, once = tmp_path / "between", tmp_path / "once"
     between.write_text(BETWEEN.format(program=program(), event=event, once=str(once)))
@@ -876,7 +985,9 @@ def test_the_child_dies_between_log_and_reply(tmp_path: pathlib.Path, place: str
 
 
 @pytest.mark.parametrize("refused", ["other-attempt", "no-such-step"])
-def test_a_report_that_the_child_does_not_know(place: str, monkeypatch: pytest.MonkeyPatch, caplog: pytest.LogCaptureFixture, refused: str) -> None:
+def test_a_report_that_the_child_does_not_know(
+    place: str, monkeypatch: pytest.MonkeyPatch, caplog: pytest.LogCaptureFixture, refused: str
+) -> None:
     """The log is begun again from the store; what the function returned is reported then, and it is not called again."""
     right, spoilt = protocol.report_line, 0
 
@@ -884,7 +995,11 @@ def test_a_report_that_the_child_does_not_know(place: str, monkeypatch: pytest.M
         nonlocal spoilt
         spoilt += 1
         one_more = int(spoilt == 1)
-        return right(saga, step, task, attempt + one_more, ok) if refused == "other-attempt" else right(saga, step + one_more, task, attempt, ok)
+        return (
+            right(saga, step, task, attempt + one_more, ok)
+            if refused == "other-attempt"
+            else right(saga, step + one_more, task, attempt, ok)
+        )
 
     monkeypatch.setattr(protocol, "report_line", report_line)
     calls: list[str] = []
@@ -960,7 +1075,9 @@ ODD = (SystemExit, KeyboardInterrupt, GeneratorExit, asyncio.CancelledError, Sto
 @pytest.mark.parametrize(
     "place, kind, in_thread", pairs(PLACES, ODD, (False, True)), indirect=["place"]
 )
-def test_a_function_raises_what_it_should_not(place: str, kind: type[BaseException], in_thread: bool) -> None:
+def test_a_function_raises_what_it_should_not(
+    place: str, kind: type[BaseException], in_thread: bool
+) -> None:
     """The program goes on; the attempt is made again with its token, or fails where that was an exception as others are."""
     tokens: list[str] = []
 
@@ -1078,7 +1195,9 @@ def test_the_disk_is_full(tmp_path: pathlib.Path) -> None:
 
 
 @pytest.mark.parametrize("words", [("list",), ("abort", "k")])
-def test_the_command_on_a_full_disk(tmp_path: pathlib.Path, capsys: pytest.CaptureFixture[str], words: tuple[str, ...]) -> None:
+def test_the_command_on_a_full_disk(
+    tmp_path: pathlib.Path, capsys: pytest.CaptureFixture[str], words: tuple[str, ...]
+) -> None:
     """It says what the disk says, and not that the file is no store."""
     saga, place = simple(lambda task: 1), tmp_path / "store.db"
 
@@ -1089,7 +1208,10 @@ def test_the_command_on_a_full_disk(tmp_path: pathlib.Path, capsys: pytest.Captu
     run(main())
     with full(0):
         assert store_command.main([str(place), *words]) == 4
-    assert capsys.readouterr().err == f"sagas store: {place}: disk I/O error. Make room if the disk is full, and check it otherwise\n"
+    assert (
+        capsys.readouterr().err
+        == f"sagas store: {place}: disk I/O error. Make room if the disk is full, and check it otherwise\n"
+    )
 
 
 @pytest.mark.parametrize("size", [None, 1 << 20])
@@ -1103,12 +1225,18 @@ def test_the_wal_is_as_long_as_it_becomes(tmp_path: pathlib.Path, size: int | No
             async with sagas.open(tmp_path / "store.db", [saga]) as store:
                 assert (await ended(store, saga, "k")).ok
                 length = wal.stat().st_size
-                assert length < 1 << 19 if size else length == store_file.LENGTH * (4096 + store_file.FRAME)
+                assert (
+                    length < 1 << 19
+                    if size
+                    else length == store_file.LENGTH * (4096 + store_file.FRAME)
+                )
                 for number in range(20):
                     assert (await ended(store, saga, f"k{number}")).ok
                 assert size or wal.stat().st_size == length
                 (tmp_path / "copy").mkdir()
-                subprocess.run(["cp", tmp_path / "store.db", wal, tmp_path / "copy"], check=True)  # as a machine that fails leaves them
+                subprocess.run(
+                    ["cp", tmp_path / "store.db", wal, tmp_path / "copy"], check=True
+                )  # as a machine that fails leaves them
         async with sagas.open(tmp_path / "copy" / "store.db", [saga]) as store:
             assert len(await store.list(phase="completed")) == 21
             assert not (await store.start(saga, "k7")).new
@@ -1116,7 +1244,9 @@ def test_the_wal_is_as_long_as_it_becomes(tmp_path: pathlib.Path, size: int | No
     run(main())
 
 
-def test_a_commit_fails_again_and_again(tmp_path: pathlib.Path, monkeypatch: pytest.MonkeyPatch) -> None:
+def test_a_commit_fails_again_and_again(
+    tmp_path: pathlib.Path, monkeypatch: pytest.MonkeyPatch
+) -> None:
     """The pauses between two tries grow to two seconds, and no further."""
     assert shard_runner.MOST_PAUSE == 2.0
     monkeypatch.setattr(shard_runner, "MOST_PAUSE", 2 * shard_runner.FIRST_PAUSE)
@@ -1128,11 +1258,15 @@ def test_a_commit_fails_again_and_again(tmp_path: pathlib.Path, monkeypatch: pyt
 
     async def main() -> None:
         saga = simple(hold)
-        async with sagas.open(tmp_path / "store.db", [saga], on_event=lambda event: tries.update([event.name])) as store:
+        async with sagas.open(
+            tmp_path / "store.db", [saga], on_event=lambda event: tries.update([event.name])
+        ) as store:
             going = await store.start(saga, "k")
             with full():
                 gate.set()
-                await until(lambda: tries["commit_failed"] + tries["engine_died"] > 12, 30)  # with pauses that went on growing, minutes
+                await until(
+                    lambda: tries["commit_failed"] + tries["engine_died"] > 12, 30
+                )  # with pauses that went on growing, minutes
             assert (await going.wait()).ok
 
     run(main())
@@ -1150,7 +1284,9 @@ def test_a_failure_for_good_is_not_kept_at_first(tmp_path: pathlib.Path) -> None
         raise sagas.Fail("for good")
 
     async def main() -> None:
-        async with sagas.open(tmp_path / "store.db", [saga], on_event=lambda event: told.update([event.name])) as store:
+        async with sagas.open(
+            tmp_path / "store.db", [saga], on_event=lambda event: told.update([event.name])
+        ) as store:
             going = await store.start(saga, "k")
             await until(lambda: calls)
             with full():
@@ -1259,7 +1395,9 @@ def test_closing_while_starts_wait(place: str, monkeypatch: pytest.MonkeyPatch) 
 
     async def main() -> None:
         async with sagas.open(place, [saga], concurrency=1, engine_processes=2) as store:
-            starts = [asyncio.create_task(store.start(saga, key=f"k{number}")) for number in range(60)]
+            starts = [
+                asyncio.create_task(store.start(saga, key=f"k{number}")) for number in range(60)
+            ]
             await begun.wait()
             gate.set()
             async with asyncio.timeout(20):
@@ -1267,12 +1405,16 @@ def test_closing_while_starts_wait(place: str, monkeypatch: pytest.MonkeyPatch) 
             told = await asyncio.gather(*starts, return_exceptions=True)
         assert all(isinstance(one, (sagas.Run, sagas.Closed)) for one in told)
         kept = records.read(place)
-        assert {f"k{number}" for number, one in enumerate(told) if isinstance(one, sagas.Run)} <= set(kept.sagas)
+        assert {
+            f"k{number}" for number, one in enumerate(told) if isinstance(one, sagas.Run)
+        } <= set(kept.sagas)
 
     run(main())
 
 
-def test_closing_says_what_it_waits_for(tmp_path: pathlib.Path, caplog: pytest.LogCaptureFixture, monkeypatch: pytest.MonkeyPatch) -> None:
+def test_closing_says_what_it_waits_for(
+    tmp_path: pathlib.Path, caplog: pytest.LogCaptureFixture, monkeypatch: pytest.MonkeyPatch
+) -> None:
     """A function that runs for long: closing waits for its end, and says so."""
     monkeypatch.setattr(coordinator, "QUIET", 0.01)
 
@@ -1315,7 +1457,9 @@ def test_closing_goes_on_where_its_caller_is_cancelled(place: str, seconds: int 
         async with sagas.open(place, [kind]) as store:
             await store.start(kind, "k")
             await begun.wait()
-            idle, closing = asyncio.create_task(store.wait_idle()), asyncio.create_task(store.close())
+            idle, closing = asyncio.create_task(store.wait_idle()), asyncio.create_task(
+                store.close()
+            )
             await asyncio.sleep(0)
             await asyncio.sleep(0)
             with pytest.raises(sagas.Closed):
@@ -1356,7 +1500,9 @@ def test_a_retry_that_cannot_be_stored_hears_that_the_store_is_closed(
         async with sagas.open(tmp_path / "store.db", [kind], on_event=hears) as store:
             await store.start(kind, "k")
             await until(lambda: asked_of(store))
-            with contextlib.closing(sqlite3.connect(tmp_path / "store.db", isolation_level=None)) as other:
+            with contextlib.closing(
+                sqlite3.connect(tmp_path / "store.db", isolation_level=None)
+            ) as other:
                 other.execute("BEGIN IMMEDIATE")
                 asked = asyncio.create_task(store.retry("k", "a"))
                 await failed.wait()

@@ -18,9 +18,56 @@ from sagas.storage.filters import Filter
 
 ODD = ("order-1", "ORDER-2", "order_3", "order%4", "Order-é5", "order-É6", "a\\b7", "x'y8", 'q"9')
 ODD += ("ordEr-10", "ß11", "SS12", "*13", "[a]14", "İ15", "{16}")
-ERRORS = ("no licence", "No Licence", "100%", "1000", "a_b", "axb", "back\\slash", "é", "É", "İ", 'q"', "😀")
-PARTS = ("order", "ORDER", "_", "%", "\\", "'", '"', "é", "É", "ß", "ss", "*", "[a]", "-1", "-", "Er")
-PARTS += ("😀", "u00e9", "30", "licence", "Licence", "0%", "a_b", "İ", "i", "final", "error", "called", "true", "{", "}", ":")
+ERRORS = (
+    "no licence",
+    "No Licence",
+    "100%",
+    "1000",
+    "a_b",
+    "axb",
+    "back\\slash",
+    "é",
+    "É",
+    "İ",
+    'q"',
+    "😀",
+)
+PARTS = (
+    "order",
+    "ORDER",
+    "_",
+    "%",
+    "\\",
+    "'",
+    '"',
+    "é",
+    "É",
+    "ß",
+    "ss",
+    "*",
+    "[a]",
+    "-1",
+    "-",
+    "Er",
+)
+PARTS += (
+    "😀",
+    "u00e9",
+    "30",
+    "licence",
+    "Licence",
+    "0%",
+    "a_b",
+    "İ",
+    "i",
+    "final",
+    "error",
+    "called",
+    "true",
+    "{",
+    "}",
+    ":",
+)
 VALUES = ("7", "77", "7 ", "a", "A")
 
 

@@ -81,8 +81,17 @@ def test_a_limit_holds_over_all_nodes(url: str) -> None:
 
     async def main() -> None:
         async with contextlib.AsyncExitStack() as stack:
-            nodes = [await stack.enter_async_context(sagas.open(url, [kind], node=f"n{number}")) for number, kind in enumerate(kinds)]
-            await asyncio.gather(*(ended(node, kind, f"{at}-{number}") for at, (node, kind) in enumerate(zip(nodes, kinds)) for number in range(20)))
+            nodes = [
+                await stack.enter_async_context(sagas.open(url, [kind], node=f"n{number}"))
+                for number, kind in enumerate(kinds)
+            ]
+            await asyncio.gather(
+                *(
+                    ended(node, kind, f"{at}-{number}")
+                    for at, (node, kind) in enumerate(zip(nodes, kinds))
+                    for number in range(20)
+                )
+            )
 
     run(main())
     assert count.most == 4 and count.by == {f"n{number}": 20 for number in range(3)}
@@ -129,7 +138,9 @@ def test_a_killed_nodes_places_are_free_after_its_lease(url: str, tmp_path: path
     script = tmp_path / "node.py"
     script.write_text(textwrap.dedent(NODE.format(url=url)))
     environment = os.environ | {"PYTHONPATH": str(HERE.parent / "src"), "SAGAS_PROGRAM": program()}
-    process = subprocess.Popen([sys.executable, "-u", str(script)], stdout=subprocess.PIPE, text=True, env=environment)
+    process = subprocess.Popen(
+        [sys.executable, "-u", str(script)], stdout=subprocess.PIPE, text=True, env=environment
+    )
     kind = simple(lambda task: 1, fleet_concurrency=1)
 
     async def main() -> None:
@@ -174,22 +185,39 @@ def test_no_more_than_its_rate(place: str) -> None:
     run(main())
     assert len(count.at) == 12 and time.monotonic() - began >= 2 * PERIOD
     for first, fifth in zip(count.at, count.at[4:]):
-        assert fifth - first > PERIOD / 2, count.at  # counted when the place is given, which is before the call by as much as this machine is busy
+        assert (
+            fifth - first > PERIOD / 2
+        ), (
+            count.at
+        )  # counted when the place is given, which is before the call by as much as this machine is busy
 
 
 def test_a_rate_holds_over_all_nodes(url: str) -> None:
     """Two nodes, and a limit beside it."""
     count = Count()
-    kinds = [counted(count, f"n{number}", seconds=0.05, rate_limit=(6, PERIOD), fleet_concurrency=2) for number in range(2)]
+    kinds = [
+        counted(count, f"n{number}", seconds=0.05, rate_limit=(6, PERIOD), fleet_concurrency=2)
+        for number in range(2)
+    ]
 
     async def main() -> None:
-        async with sagas.open(url, [kinds[0]], node="one") as one, sagas.open(url, [kinds[1]], node="other") as other:
-            await asyncio.gather(*(ended(node, kind, f"{at}-{number}") for at, (node, kind) in enumerate(zip((one, other), kinds)) for number in range(10)))
+        async with sagas.open(url, [kinds[0]], node="one") as one, sagas.open(
+            url, [kinds[1]], node="other"
+        ) as other:
+            await asyncio.gather(
+                *(
+                    ended(node, kind, f"{at}-{number}")
+                    for at, (node, kind) in enumerate(zip((one, other), kinds))
+                    for number in range(10)
+                )
+            )
 
     began = time.monotonic()
     run(main())
     assert sum(count.by.values()) == 20 and count.most <= 2
-    assert time.monotonic() - began >= 2.75 * PERIOD  # three of them by the server's clock, which may be set a little meanwhile
+    assert (
+        time.monotonic() - began >= 2.75 * PERIOD
+    )  # three of them by the server's clock, which may be set a little meanwhile
 
 
 def test_a_clock_that_jumped_back_stops_no_rate(place: str) -> None:
@@ -229,7 +257,9 @@ def test_places_are_not_lost_with_their_answers(url: str, monkeypatch: pytest.Mo
 
     def taken() -> int:
         with psycopg.connect(url) as link:
-            return len(link.execute("SELECT 1 FROM sagas.limit_slots WHERE node IS NOT NULL").fetchall())
+            return len(
+                link.execute("SELECT 1 FROM sagas.limit_slots WHERE node IS NOT NULL").fetchall()
+            )
 
     async def main() -> None:
         async with sagas.open(url, [kind]) as store:
@@ -241,7 +271,9 @@ def test_places_are_not_lost_with_their_answers(url: str, monkeypatch: pytest.Mo
     assert count.most <= 2
 
 
-def test_what_is_in_doubt_is_told_by_its_own_gate(url: str, monkeypatch: pytest.MonkeyPatch) -> None:
+def test_what_is_in_doubt_is_told_by_its_own_gate(
+    url: str, monkeypatch: pytest.MonkeyPatch
+) -> None:
     """An answer for a key is lost, and other keys come meanwhile: what is told of that later gives back no place of the key's next call."""
     monkeypatch.setattr(fleet_limits, "MOST_GATES", 1)
     monkeypatch.setattr(fleet_limits, "LOOK", 0.05)
@@ -260,7 +292,10 @@ def test_what_is_in_doubt_is_told_by_its_own_gate(url: str, monkeypatch: pytest.
 
     def is_taken() -> bool:
         with psycopg.connect(url) as link:
-            return link.execute("SELECT 1 FROM sagas.limit_slots WHERE node IS NOT NULL").fetchone() is not None
+            return (
+                link.execute("SELECT 1 FROM sagas.limit_slots WHERE node IS NOT NULL").fetchone()
+                is not None
+            )
 
     async def step(task: Task) -> None:
         if task.key == "second":
@@ -282,11 +317,16 @@ def test_what_is_in_doubt_is_told_by_its_own_gate(url: str, monkeypatch: pytest.
 def test_what_is_no_limit_is_refused() -> None:
     """Told by step, with what is allowed."""
     for words, said in (
-        ({"fleet_concurrency": 0}, "fleet_concurrency=0"), ({"fleet_concurrency": True}, "fleet_concurrency=True"), ({"rate_limit": (10, 0)}, "rate_limit="), ({"rate_limit": 5}, "rate_limit=5"),
+        ({"fleet_concurrency": 0}, "fleet_concurrency=0"),
+        ({"fleet_concurrency": True}, "fleet_concurrency=True"),
+        ({"rate_limit": (10, 0)}, "rate_limit="),
+        ({"rate_limit": 5}, "rate_limit=5"),
         ({"rate_limit": (10_001, 60)}, "10,000 calls"),
     ):
         with pytest.raises(sagas.DefinitionError, match=said):
             simple(lambda task: 1, **words)
     saga = sagas.Saga("elsewhere")
-    with pytest.raises(sagas.DefinitionError, match="step is external.* Remove fleet_concurrency and rate_limit"):
+    with pytest.raises(
+        sagas.DefinitionError, match="step is external.* Remove fleet_concurrency and rate_limit"
+    ):
         saga.step(external=True, name="a", fleet_concurrency=2)  # type: ignore[call-overload]

@@ -123,19 +123,34 @@ def test_a_database_that_differs(
 @pytest.mark.parametrize(
     ("text", "gap"),
     [
-        ("DELETE FROM event_log WHERE first_seq = 0", "a commit follows event .*, and the one before ends at 0"),
-        ("DELETE FROM event_log WHERE first_seq = (SELECT min(first_seq) FROM event_log WHERE first_seq > 0)", "a commit follows event .*"),
-        ("UPDATE event_log SET first_seq = first_seq - 1 WHERE first_seq > 0", "a commit follows event .*"),
+        (
+            "DELETE FROM event_log WHERE first_seq = 0",
+            "a commit follows event .*, and the one before ends at 0",
+        ),
+        (
+            "DELETE FROM event_log WHERE first_seq = (SELECT min(first_seq) FROM event_log WHERE first_seq > 0)",
+            "a commit follows event .*",
+        ),
+        (
+            "UPDATE event_log SET first_seq = first_seq - 1 WHERE first_seq > 0",
+            "a commit follows event .*",
+        ),
     ],
 )
 def test_a_log_with_a_gap(
-    store: str, judge: Callable[..., list[Json]], capsys: pytest.CaptureFixture[str], text: str, gap: str
+    store: str,
+    judge: Callable[..., list[Json]],
+    capsys: pytest.CaptureFixture[str],
+    text: str,
+    gap: str,
 ) -> None:
     """Without files, too: each commit says how many events are before it."""
     assert judge()[0]["gaps"] == []
     change(store, text)
     (one,) = judge(status=1)
-    assert not one["good"] and re.fullmatch(gap, one["gaps"][0]) and one["answer"].startswith("yes ")
+    assert (
+        not one["good"] and re.fullmatch(gap, one["gaps"][0]) and one["answer"].startswith("yes ")
+    )
     assert store_command.main([store, "record"]) == 1
     shown = capsys.readouterr().out
     assert "  NO    yes sessions " in shown and f"shard 0: gap: {one['gaps'][0]}" in shown
@@ -367,6 +382,9 @@ def test_an_answer_of_an_older_epoch_that_comes_late(tmp_path: pathlib.Path) -> 
     record.close()
     found = [words for words in words_of(tmp_path / "record") if words[0] in ("took", "told")]
     assert [(words[0], words[3], words[4]) for words in found] == [
-        ("took", "9", line), ("took", "10", line), ("told", "9", line), ("told", "10", line),
+        ("took", "9", line),
+        ("took", "10", line),
+        ("told", "9", line),
+        ("told", "10", line),
         ("took", "10", "00000002"),
-    ]  # fmt: skip
+    ]

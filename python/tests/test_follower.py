@@ -16,16 +16,24 @@ from hypothesis import strategies as st
 
 Json = dict[str, Any]
 
-EXAMPLES = settings(max_examples=60, deadline=None, suppress_health_check=[HealthCheck.too_slow, HealthCheck.data_too_large])
+EXAMPLES = settings(
+    max_examples=60,
+    deadline=None,
+    suppress_health_check=[HealthCheck.too_slow, HealthCheck.data_too_large],
+)
 
 
 def request(draw: st.DataObject, follower: Follower) -> Json:
     """A request that is mostly one that may be granted."""
     busy = follower.busy()
     many = len(follower.sagas)
-    do = draw.draw(st.sampled_from(["next"] * 5 + ["report"] * 5 + ["open", "show", "busy", "abort", "wild"]))
+    do = draw.draw(
+        st.sampled_from(["next"] * 5 + ["report"] * 5 + ["open", "show", "busy", "abort", "wild"])
+    )
     if do == "open" or not many:
-        number = draw.draw(st.sampled_from([{}, {"saga": many}, {"saga": many}, {"saga": many + 1}]))
+        number = draw.draw(
+            st.sampled_from([{}, {"saga": many}, {"saga": many}, {"saga": many + 1}])
+        )
         return {"do": "open", "def": draw.draw(st.integers(0, len(follower.definitions)))} | number
     if do == "report" and busy:
         task = draw.draw(st.sampled_from(busy))
@@ -34,7 +42,12 @@ def request(draw: st.DataObject, follower: Follower) -> Json:
         of = draw.draw(st.sampled_from([{}, {"task": task["task"], "attempt": attempt}]))
         return {"do": "report", "outcome": outcome, "saga": task["saga"], "step": task["step"]} | of
     if do == "wild":
-        return {"do": "report", "outcome": "ok", "saga": draw.draw(st.integers(0, many)), "step": draw.draw(st.integers(0, 6))}
+        return {
+            "do": "report",
+            "outcome": "ok",
+            "saga": draw.draw(st.integers(0, many)),
+            "step": draw.draw(st.integers(0, 6)),
+        }
     if do in ("show", "abort"):
         return {"do": do, "saga": draw.draw(st.integers(0, many))}
     if do == "next" and draw.draw(st.booleans()):
@@ -105,8 +118,17 @@ tries = 2
 
 def trip_log() -> list[Json]:
     """A whole history of the trip, with a miss."""
-    words = [("start_run", 0), ("commit", 0), ("start_run", 1), ("missed", 1), ("start_run", 1), ("commit", 1)]
-    return [{"def": 0, "event": "open", "saga": 0}] + [{"event": word, "saga": 0, "step": step} for word, step in words]
+    words = [
+        ("start_run", 0),
+        ("commit", 0),
+        ("start_run", 1),
+        ("missed", 1),
+        ("start_run", 1),
+        ("commit", 1),
+    ]
+    return [{"def": 0, "event": "open", "saga": 0}] + [
+        {"event": word, "saga": 0, "step": step} for word, step in words
+    ]
 
 
 def test_the_follower_follows_a_history() -> None:
@@ -136,13 +158,31 @@ def test_the_follower_finds_an_event_doubled(number: int) -> None:
 
 @pytest.mark.parametrize(
     "change",
-    [{"cost": 4}, {"kept": [0]}, {"kept": [1]}, {"kept": [0, 1], "cost": 0}, {"stand": [3, 0]}, {"links": [1]}, {"leave": [0, 0]}],
+    [
+        {"cost": 4},
+        {"kept": [0]},
+        {"kept": [1]},
+        {"kept": [0, 1], "cost": 0},
+        {"stand": [3, 0]},
+        {"links": [1]},
+        {"leave": [0, 0]},
+    ],
 )
 def test_the_follower_finds_a_plan_that_is_not_right(change: Json) -> None:
     """The trip is aborted once all is done: all is kept for 3, and no other answer will do."""
-    right: Json = {"cost": 3, "kept": [0, 1], "kind": "plan", "leave": [0, 3], "links": [0], "stand": [0, 3]}
+    right: Json = {
+        "cost": 3,
+        "kept": [0, 1],
+        "kind": "plan",
+        "leave": [0, 3],
+        "links": [0],
+        "stand": [0, 3],
+    }
     plan = {"event": "start_plan", "saga": 0}
     head = [*trip_log()[:-1], {"event": "abort", "saga": 0}, trip_log()[-1], plan]
-    assert follow([TRIP], [*head, {"answer": right, "event": "adopt", "saga": 0}]).sagas[0].phase == "ended"
+    assert (
+        follow([TRIP], [*head, {"answer": right, "event": "adopt", "saga": 0}]).sagas[0].phase
+        == "ended"
+    )
     with pytest.raises(Illegal):
         follow([TRIP], [*head, {"answer": right | change, "event": "adopt", "saga": 0}])

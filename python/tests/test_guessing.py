@@ -78,7 +78,9 @@ def test_a_new_key_is_not_looked_for(place: str, looks: list[str]) -> None:
         async with sagas.open(place, [kind]) as store:
             for number in range(5):
                 assert (await ended(store, kind, f"k{number}", number)).results == {"a": number}
-            ends = await asyncio.gather(*(ended(store, kind, f"more-{number}", number) for number in range(200)))
+            ends = await asyncio.gather(
+                *(ended(store, kind, f"more-{number}", number) for number in range(200))
+            )
             assert [end.results["a"] for end in ends] == list(range(200))
             assert looks == []
 
@@ -101,12 +103,18 @@ def test_keys_that_are_there_among_new_ones(place: str, looks: list[str], old: i
 
     async def main() -> None:
         async with sagas.open(place, [kind]) as store:
-            await asyncio.gather(*(ended(store, kind, f"old-{number}", number) for number in range(old)))
+            await asyncio.gather(
+                *(ended(store, kind, f"old-{number}", number) for number in range(old))
+            )
         async with sagas.open(place, [kind]) as store:
             waiting = [await store.start(kind, f"open-{number}", "waits") for number in range(10)]
-            keys = [f"new-{number}" for number in range(30)] + [f"old-{number}" for number in range(old)]
+            keys = [f"new-{number}" for number in range(30)] + [
+                f"old-{number}" for number in range(old)
+            ]
             given: list[Any] = [*range(30), *range(old)]
-            runs = await asyncio.gather(*(store.start(kind, key, value) for key, value in zip(keys, given)))
+            runs = await asyncio.gather(
+                *(store.start(kind, key, value) for key, value in zip(keys, given))
+            )
             assert [run.new for run in runs] == [True] * 30 + [False] * old
             gate.set()
             assert [(await run.wait()).results["a"] for run in runs] == given
@@ -149,10 +157,13 @@ def test_a_key_of_another_node(url: str, looks: list[str]) -> None:
     kinds, other = [step(gate), step()], sagas.Saga("other")
 
     @other.step
-    async def b(task: Task) -> None: ...
+    async def b(task: Task) -> None:
+        ...
 
     async def main() -> None:
-        async with sagas.open(url, [kinds[0]]) as first, sagas.open(url, [kinds[1], other]) as second:
+        async with sagas.open(url, [kinds[0]]) as first, sagas.open(
+            url, [kinds[1], other]
+        ) as second:
             await first.start(kinds[0], "k", 1)
             there = await second.start(kinds[1], "k", 1)
             assert not there.new
@@ -201,7 +212,8 @@ def test_a_key_that_a_client_started(url: str, looks: list[str]) -> None:
     kind, other = step(), sagas.Saga("other")
 
     @other.step
-    async def b(task: Task) -> None: ...
+    async def b(task: Task) -> None:
+        ...
 
     async def main() -> None:
         async with sagas.open(url, [kind]) as store, sagas.Client(url) as client:
@@ -226,10 +238,23 @@ def test_who_asks_meanwhile(url: str, looks: list[str]) -> None:
             await asyncio.sleep(0)  # it has begun
             assert store._inside and "k" in store._inside.sagas.by_key
             told = await asyncio.gather(
-                store.abort("k"), store.wait("k"), store.start(kind, "k", 2), store.start(kind, "k", 1), store.complete("k", "a", 3), return_exceptions=True
+                store.abort("k"),
+                store.wait("k"),
+                store.start(kind, "k", 2),
+                store.start(kind, "k", 1),
+                store.complete("k", "a", 3),
+                return_exceptions=True,
             )
-            assert told[0] is False and isinstance(told[1], sagas.SagaResult) and told[1].results == {"a": 1}
-            assert isinstance(told[2], sagas.KeyConflict) and isinstance(told[3], sagas.Run) and not told[3].new
+            assert (
+                told[0] is False
+                and isinstance(told[1], sagas.SagaResult)
+                and told[1].results == {"a": 1}
+            )
+            assert (
+                isinstance(told[2], sagas.KeyConflict)
+                and isinstance(told[3], sagas.Run)
+                and not told[3].new
+            )
             assert isinstance(told[4], sagas.StepNotWaiting) and "it has succeeded" in str(told[4])
             assert not (await starting).new
             assert all(said.startswith("yes") for said in (await store.audit()).values())
@@ -238,7 +263,9 @@ def test_who_asks_meanwhile(url: str, looks: list[str]) -> None:
     assert count(url) == 1
 
 
-def test_an_answer_that_is_lost(url: str, looks: list[str], monkeypatch: pytest.MonkeyPatch) -> None:
+def test_an_answer_that_is_lost(
+    url: str, looks: list[str], monkeypatch: pytest.MonkeyPatch
+) -> None:
     """The commit of each start is done, and the answer to it lost: the saga is there once, and its start is answered."""
     kind, lost, read = step(), list[str](), Writer._read
 
@@ -261,7 +288,9 @@ def test_an_answer_that_is_lost(url: str, looks: list[str], monkeypatch: pytest.
 
 
 @pytest.mark.parametrize("fast", [True, False])
-def test_a_wrong_guess_in_a_file(tmp_path: pathlib.Path, looks: list[str], monkeypatch: pytest.MonkeyPatch, fast: bool) -> None:
+def test_a_wrong_guess_in_a_file(
+    tmp_path: pathlib.Path, looks: list[str], monkeypatch: pytest.MonkeyPatch, fast: bool
+) -> None:
     """Of its log nothing is written, by the loop as by the thread, and the other logs of that commit are; then all its sagas are begun."""
     monkeypatch.setattr("sagas.definition.shelf.SHARD_CAPACITY", 10)
     monkeypatch.setattr(writer, "AT_ONCE", 60.0 if fast else 0.0)
@@ -280,7 +309,10 @@ def test_a_wrong_guess_in_a_file(tmp_path: pathlib.Path, looks: list[str], monke
         async with sagas.open(path, [kind]) as store:
             await ended(store, kind, "old", 1)
         async with sagas.open(path, [kind]) as store:
-            ends = await asyncio.gather(*(ended(store, kind, f"k{number}", number) for number in range(35)), ended(store, kind, "old", 1))
+            ends = await asyncio.gather(
+                *(ended(store, kind, f"k{number}", number) for number in range(35)),
+                ended(store, kind, "old", 1),
+            )
             assert [end.results["a"] for end in ends] == [*range(35), 1]
             assert lost and looks
             assert all(said.startswith("yes") for said in (await store.audit()).values())
@@ -298,9 +330,15 @@ def test_a_store_that_takes_nothing(url: str, looks: list[str]) -> None:
             await ended(store, kind, "k", 1)
         async with sagas.open(url, [kind]) as store:
             with psycopg.connect(url, autocommit=True) as link:
-                link.execute("CREATE FUNCTION refuse() RETURNS trigger LANGUAGE plpgsql AS $$ BEGIN RAISE EXCEPTION 'full'; END $$")
-                link.execute("CREATE TRIGGER refuse BEFORE INSERT OR UPDATE ON sagas.shards FOR EACH ROW EXECUTE FUNCTION refuse()")
-                link.execute("CREATE TRIGGER refuse BEFORE INSERT ON sagas.event_log FOR EACH ROW EXECUTE FUNCTION refuse()")
+                link.execute(
+                    "CREATE FUNCTION refuse() RETURNS trigger LANGUAGE plpgsql AS $$ BEGIN RAISE EXCEPTION 'full'; END $$"
+                )
+                link.execute(
+                    "CREATE TRIGGER refuse BEFORE INSERT OR UPDATE ON sagas.shards FOR EACH ROW EXECUTE FUNCTION refuse()"
+                )
+                link.execute(
+                    "CREATE TRIGGER refuse BEFORE INSERT ON sagas.event_log FOR EACH ROW EXECUTE FUNCTION refuse()"
+                )
             again = await store.start(kind, "k", 1)
             assert not again.new and (await again.wait()).results == {"a": 1}
             with pytest.raises(sagas.KeyConflict):

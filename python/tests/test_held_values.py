@@ -33,7 +33,9 @@ def kinds() -> list[sagas.Saga]:
 
     ok = made.approval(lambda task: None, name="ok", needs=[first], skip=9)
     work = made.step(external=True, name="work", needs=[ok], undo=0)
-    child = made.child(inner, name="child", needs=[work], input=lambda task: task.result_of("first"))
+    child = made.child(
+        inner, name="child", needs=[work], input=lambda task: task.result_of("first")
+    )
 
     @made.step(needs=[child], undo=0)
     async def last(task: Task) -> Any:
@@ -95,7 +97,9 @@ def test_values_are_read_when_they_are_needed(
         async with opened() as store:
             nothing_held(store)
             await store.complete("k", "ok")
-            (task,) = await until(lambda: store.workers.claim([("made", "work", "run")], holder="w"))
+            (task,) = await until(
+                lambda: store.workers.claim([("made", "work", "run")], holder="w")
+            )
             assert task.task.input == GIVEN and task.task.result_of("first") == [BIG]
             nothing_held(store)
             await store.workers.report(task.attempt_id, task.lease, {"big": BIG}, holder="w")

@@ -72,13 +72,17 @@ WRONG: list[tuple[dict[str, Any], str]] = [
     ({"amount": True}, ".amount: must be an integer, not true or false"),
     ({"weight": SECRET}, ".weight: must be a number, not a text"),
     ({"paid": 1}, ".paid: must be true or false, not an integer"),
-    ({"items": [{"name": "a", "price": 1}, {"name": 2, "price": 1}]},
-     ".items[1].name: must be a text, not an integer"),
+    (
+        {"items": [{"name": "a", "price": 1}, {"name": 2, "price": 1}]},
+        ".items[1].name: must be a text, not an integer",
+    ),
     ({"items": [{"name": "a", "price": SECRET}]}, ".items[0].price: matches none of its types"),
     ({"items": [{"name": "a"}]}, ".items[0]: missing 'price', which Item requires"),
     ({"items": SECRET}, ".items: must be a list"),
-    ({"by_name": {"x y": {"name": "a", "price": 1, "count": "2"}}},
-     '.by_name["x y"].count: must be an integer, not a text'),
+    (
+        {"by_name": {"x y": {"name": "a", "price": 1, "count": "2"}}},
+        '.by_name["x y"].count: must be an integer, not a text',
+    ),
     ({"color": SECRET}, ".color: not a value of Color"),
     ({"at": SECRET}, ".at: cannot be read as datetime"),
     ({"id": SECRET}, ".id: cannot be read as UUID"),
@@ -87,9 +91,11 @@ WRONG: list[tuple[dict[str, Any], str]] = [
     ({"pair": [1, 2]}, ".pair[1]: must be a text, not an integer"),
     ({"numbers": [1, None, SECRET]}, ".numbers[2]: matches none of its types"),
     ({"note": 7}, ".note: must be a text, not an integer"),
-    ({"parent": {"amount": 1, "parent": {"amount": SECRET}}},
-     ".parent.parent.amount: must be an integer"),
-]  # fmt: skip
+    (
+        {"parent": {"amount": 1, "parent": {"amount": SECRET}}},
+        ".parent.parent.amount: must be an integer",
+    ),
+]
 WELL: list[Any] = [
     {"amount": 1, "weight": 2, "note": None, "more": [SECRET], "strange": 1},
     {"amount": 1, "items": [{"name": "a", "price": "2.50"}], "color": "red", "gift": "a ring"},
@@ -202,11 +208,14 @@ def test_an_optional_field_that_was_added(place: str, client: bool) -> None:
                 for same in (Newer("a", 1), given, {**given, "count": 1}, Item("a", 1)):
                     assert not (await starter.start(after, key, same)).new
                 for other, at in (
-                    (Newer("a", 1, color=SECRET), ".color"), (Newer(SECRET, 2), ".name, .price")
+                    (Newer("a", 1, color=SECRET), ".color"),
+                    (Newer(SECRET, 2), ".name, .price"),
                 ):
                     with pytest.raises(sagas.KeyConflict) as error:
                         await starter.start(after, key, other)
-                    told = f"key {key!r} belongs to a saga with another input, which differs at {at}"
+                    told = (
+                        f"key {key!r} belongs to a saga with another input, which differs at {at}"
+                    )
                     assert str(error.value) == f"{told}. Use another key"
             if client:
                 await starter.close()
@@ -219,10 +228,12 @@ def test_what_a_reader_without_a_type_sees_counts(place: str) -> None:
     saga = sagas.Saga("both")
 
     @saga.step
-    def typed(task: sagas.Task[Item]) -> None: ...
+    def typed(task: sagas.Task[Item]) -> None:
+        ...
 
     @saga.step
-    def plain(task: Task) -> None: ...
+    def plain(task: Task) -> None:
+        ...
 
     async def main() -> None:
         async with sagas.open(place, [saga]) as store:
@@ -231,7 +242,10 @@ def test_what_a_reader_without_a_type_sees_counts(place: str) -> None:
             assert not (await store.start(saga, "k", same)).new
             with pytest.raises(sagas.KeyConflict) as error:
                 await store.start(saga, "k", {"name": "a", "price": 1, "x": [1, {"y": 2}, 3]})
-            assert str(error.value) == "key 'k' belongs to a saga with another input, which differs at .x[1].y, .x[2]. Use another key"
+            assert (
+                str(error.value)
+                == "key 'k' belongs to a saga with another input, which differs at .x[1].y, .x[2]. Use another key"
+            )
             await store.start(saga, "whole", {"name": "a", "price": 1})
             with pytest.raises(sagas.KeyConflict, match=r"differs at \.name"):
                 await store.start(saga, "whole", {"name": SECRET, "price": 1})
@@ -256,7 +270,9 @@ def test_conflicts_show_no_values(place: str) -> None:
                 await store.start(saga, f"k{number}", one)
                 with pytest.raises(sagas.KeyConflict) as error:
                     await store.start(saga, f"k{number}", other)
-                told = f"key 'k{number}' belongs to a saga with another input, which differs at {at}"
+                told = (
+                    f"key 'k{number}' belongs to a saga with another input, which differs at {at}"
+                )
                 assert str(error.value) == f"{told}. Use another key"
 
     run(main())
@@ -266,7 +282,9 @@ def test_how_long_a_value_is_said_to_be() -> None:
     """Its own letters, without the quotation marks of Python."""
     with pytest.raises(sagas.InvalidKey, match=r"\(513 characters\): must be a text of 1 to 512"):
         arguments.key("k" * 513)
-    assert arguments.shown(["k" * 513]).endswith("..") and "characters" not in arguments.shown(["k" * 513])
+    assert arguments.shown(["k" * 513]).endswith("..") and "characters" not in arguments.shown(
+        ["k" * 513]
+    )
 
 
 def test_what_a_wait_gives_is_not_told(place: str, caplog: pytest.LogCaptureFixture) -> None:
@@ -277,7 +295,9 @@ def test_what_a_wait_gives_is_not_told(place: str, caplog: pytest.LogCaptureFixt
     async def main() -> None:
         async with sagas.open(place, [saga]) as store:
             end = await (await store.start(saga, "k", SECRET)).wait(timeout=60)
-            assert "until returned str: it must be a timedelta" in end.errors["w"] and SECRET not in str(end)
+            assert "until returned str: it must be a timedelta" in end.errors[
+                "w"
+            ] and SECRET not in str(end)
             with pytest.raises(TypeError, match="failed=list: must be a text"):
                 await store.fail("k", "w", [SECRET])  # type: ignore[arg-type]
 

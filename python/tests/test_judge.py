@@ -32,7 +32,11 @@ class Copy:
 
     def first(self, **wanted: Any) -> Json:
         """The first note that has these values."""
-        return next(note for note in self.notes if all(note.get(word) == value for word, value in wanted.items()))
+        return next(
+            note
+            for note in self.notes
+            if all(note.get(word) == value for word, value in wanted.items())
+        )
 
     def names(self) -> set[str]:
         """What the judge finds."""
@@ -46,11 +50,15 @@ def lose_a_key(copy: Copy) -> None:
 
 
 def lose_lines(copy: Copy) -> None:
-    copy.write("DELETE FROM event_log WHERE first_seq = (SELECT min(first_seq) FROM event_log WHERE first_seq > 0)")
+    copy.write(
+        "DELETE FROM event_log WHERE first_seq = (SELECT min(first_seq) FROM event_log WHERE first_seq > 0)"
+    )
 
 
 def change_a_step(copy: Copy) -> None:
-    copy.write("""UPDATE event_log SET text = replace(text, '"event":"commit"', '"event":"undone"')""")
+    copy.write(
+        """UPDATE event_log SET text = replace(text, '"event":"commit"', '"event":"undone"')"""
+    )
 
 
 def reopen(copy: Copy) -> None:
@@ -58,11 +66,15 @@ def reopen(copy: Copy) -> None:
 
 
 def change_an_end(copy: Copy) -> None:
-    copy.write("UPDATE sagas SET outcome = json_set(outcome, '$.states[0]', 'another') WHERE key = 'k4'")
+    copy.write(
+        "UPDATE sagas SET outcome = json_set(outcome, '$.states[0]', 'another') WHERE key = 'k4'"
+    )
 
 
 def lose_a_result(copy: Copy) -> None:
-    copy.write("DELETE FROM attempts WHERE (id, step, action, number) IN (SELECT id, step, action, number FROM attempts LIMIT 1)")
+    copy.write(
+        "DELETE FROM attempts WHERE (id, step, action, number) IN (SELECT id, step, action, number FROM attempts LIMIT 1)"
+    )
 
 
 def tell_too_early(copy: Copy) -> None:
@@ -89,8 +101,14 @@ def lose_an_effect(copy: Copy) -> None:
 
 
 def miss_without_a_call(copy: Copy) -> None:
-    failed = copy.db.execute("SELECT name || '-' || (id % 1000) FROM attempts JOIN shards ON shard = id / 1000 WHERE event = 'missed' LIMIT 1").fetchone()[0]
-    copy.notes = [note for note in copy.notes if note["what"] != "begin" or not note["token"].startswith(f"{failed}-")]
+    failed = copy.db.execute(
+        "SELECT name || '-' || (id % 1000) FROM attempts JOIN shards ON shard = id / 1000 WHERE event = 'missed' LIMIT 1"
+    ).fetchone()[0]
+    copy.notes = [
+        note
+        for note in copy.notes
+        if note["what"] != "begin" or not note["token"].startswith(f"{failed}-")
+    ]
 
 
 def miss_with_an_effect(copy: Copy) -> None:
@@ -99,9 +117,15 @@ def miss_with_an_effect(copy: Copy) -> None:
 
 
 def do_what_was_not_begun(copy: Copy) -> None:
-    over = next(note for note in copy.notes if note["what"] == "over" and "waiting" in note["states"].values())
+    over = next(
+        note
+        for note in copy.notes
+        if note["what"] == "over" and "waiting" in note["states"].values()
+    )
     step = next(step for step, state in over["states"].items() if state == "waiting")
-    copy.notes.append(copy.first(what="effect") | {"key": over["key"], "step": step, "token": f"x-1-{step}-run-1"})
+    copy.notes.append(
+        copy.first(what="effect") | {"key": over["key"], "step": step, "token": f"x-1-{step}-run-1"}
+    )
 
 
 def undo_again(copy: Copy) -> None:
@@ -118,7 +142,9 @@ def hand_another_input(copy: Copy) -> None:
 
 
 def hand_another_result(copy: Copy) -> None:
-    next(note for note in copy.notes if note["what"] == "effect" and "reserve" in note["results"])["results"] = {"reserve": "another"}
+    next(note for note in copy.notes if note["what"] == "effect" and "reserve" in note["results"])[
+        "results"
+    ] = {"reserve": "another"}
 
 
 SPOILT: list[tuple[Callable[[Copy], None], str]] = [
@@ -163,7 +189,9 @@ def test_a_good_store_is_good(good: pathlib.Path) -> None:
 
 
 @pytest.mark.parametrize("spoil, name", SPOILT)
-def test_what_is_spoilt_is_found(good: pathlib.Path, tmp_path: pathlib.Path, spoil: Callable[[Copy], None], name: str) -> None:
+def test_what_is_spoilt_is_found(
+    good: pathlib.Path, tmp_path: pathlib.Path, spoil: Callable[[Copy], None], name: str
+) -> None:
     """Each fault by its name."""
     for path in good.iterdir():
         if path.name.startswith("store.db") or path.name == "notes":

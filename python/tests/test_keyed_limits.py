@@ -79,7 +79,9 @@ def bank(inside: Inside, in_thread: bool, **limits: Any) -> sagas.Saga:
             while inside.is_first():
                 await asyncio.sleep(0.005)
 
-    saga.step(name="move", concurrency_by=lambda order: order.account, **limits)(wait if in_thread else later)
+    saga.step(name="move", concurrency_by=lambda order: order.account, **limits)(
+        wait if in_thread else later
+    )
     return saga
 
 
@@ -111,7 +113,9 @@ def test_a_limit_holds_for_each_key_by_itself(place: str, limit: str, in_thread:
 
 def rows_of(url: str) -> list[tuple[str, str | None]]:
     with psycopg.connect(url) as link:
-        return link.execute("SELECT name, node FROM sagas.limit_slots WHERE name NOT LIKE 'plain/%'").fetchall()
+        return link.execute(
+            "SELECT name, node FROM sagas.limit_slots WHERE name NOT LIKE 'plain/%'"
+        ).fetchall()
 
 
 def test_rows_of_keys_are_those_of_calls(url: str) -> None:
@@ -129,7 +133,11 @@ def test_rows_of_keys_are_those_of_calls(url: str) -> None:
     async def main() -> None:
         async with sagas.open(url, [saga, plain], concurrency=32) as store:
             await (await store.start(plain, "plain")).wait()
-            runs = [await store.start(saga, f"k{at}-{n}", key) for at, key in enumerate(keys) for n in range(4)]
+            runs = [
+                await store.start(saga, f"k{at}-{n}", key)
+                for at, key in enumerate(keys)
+                for n in range(4)
+            ]
             await until(lambda: len(inside) == 4 and set(inside.values()) == {3})
             names = Counter(name for name, node in rows_of(url) if node)
             assert len(rows_of(url)) == 12 and set(names.values()) == {3}
@@ -140,7 +148,10 @@ def test_rows_of_keys_are_those_of_calls(url: str) -> None:
             await until(lambda: rows_of(url) == [])
             with psycopg.connect(url) as link:
                 for slot, node in ((2, None), (3, "gone/1")):
-                    link.execute("INSERT INTO sagas.limit_slots VALUES('bank/move/\"x\"', 'limit', %s, %s)", [slot, node])
+                    link.execute(
+                        "INSERT INTO sagas.limit_slots VALUES('bank/move/\"x\"', 'limit', %s, %s)",
+                        [slot, node],
+                    )
         async with sagas.open(url, [saga, plain]):
             assert rows_of(url) == []
             with psycopg.connect(url) as link:
@@ -159,7 +170,10 @@ def test_a_place_of_a_node_that_is_gone_is_taken(url: str) -> None:
             name = f"bank/move/{fleet_limits.digest_of('bank/move', json.dumps('a'))}"
             with psycopg.connect(url) as link:
                 for slot in (1, 2):
-                    link.execute("INSERT INTO sagas.limit_slots VALUES(%s, 'limit', %s, 'gone/1')", [name, slot])
+                    link.execute(
+                        "INSERT INTO sagas.limit_slots VALUES(%s, 'limit', %s, 'gone/1')",
+                        [name, slot],
+                    )
             assert (await (await store.start(saga, "k", Order("a"))).wait()).ok
             await until(lambda: rows_of(url) == [(name, "gone/1")])
 
@@ -172,7 +186,9 @@ def test_a_key_is_of_all_nodes(url: str) -> None:
     one, two = bank(inside, False, fleet_concurrency=1), bank(inside, False, fleet_concurrency=1)
 
     async def main() -> None:
-        async with sagas.open(url, [one], node="one") as first, sagas.open(url, [two], node="two") as second:
+        async with sagas.open(url, [one], node="one") as first, sagas.open(
+            url, [two], node="two"
+        ) as second:
             runs = [await first.start(one, f"one-{n}", Order(f"a{n % 2}")) for n in range(6)]
             runs += [await second.start(two, f"two-{n}", Order(f"a{n % 2}")) for n in range(6)]
             for each in runs:
@@ -202,7 +218,11 @@ def test_a_key_that_cannot_be_said_fails_the_step(place: str) -> None:
             for number, given in enumerate([{}, "odd", {"account": None}]):
                 end = await (await store.start(saga, f"k{number}", given)).wait()
                 errors.append(end.errors.get("move", "done"))
-            assert errors[0] == "KeyError: 'account'" and errors[1].startswith("NotSerializable: ") and errors[2] == "done"
+            assert (
+                errors[0] == "KeyError: 'account'"
+                and errors[1].startswith("NotSerializable: ")
+                and errors[2] == "done"
+            )
 
     run(main())
 
@@ -211,15 +231,20 @@ def test_what_is_no_limit_with_a_key_is_refused() -> None:
     """Each error says what to do."""
     saga = sagas.Saga("s")
 
-    async def move(task: Task) -> None: ...
+    async def move(task: Task) -> None:
+        ...
 
-    def by(given: Any) -> Any: ...
+    def by(given: Any) -> Any:
+        ...
 
     for words, text in [
         ({"concurrency_by": "account", "concurrency": 1}, "a plain function of the input"),
         ({"concurrency_by": move, "concurrency": 1}, "a plain function of the input"),
         ({"concurrency_by": by}, "Set concurrency or fleet_concurrency"),
-        ({"concurrency_by": by, "fleet_concurrency": 1, "rate_limit": (1, 1)}, "cannot be combined with rate_limit"),
+        (
+            {"concurrency_by": by, "fleet_concurrency": 1, "rate_limit": (1, 1)},
+            "cannot be combined with rate_limit",
+        ),
     ]:
         with pytest.raises(sagas.DefinitionError, match=text):
             sagas.Saga("s").step(name="a", **words)(move)  # type: ignore[call-overload]
@@ -230,9 +255,13 @@ def test_what_is_no_limit_with_a_key_is_refused() -> None:
 
 
 @pytest.mark.parametrize(
-    "place, again, codec", pairs(PLACES, (False, True), (None, Encryption(a=OLD))), indirect=["place"]
+    "place, again, codec",
+    pairs(PLACES, (False, True), (None, Encryption(a=OLD))),
+    indirect=["place"],
 )
-def test_a_small_tenant_does_not_wait_for_a_large_one(place: str, again: bool, codec: Encryption | None) -> None:
+def test_a_small_tenant_does_not_wait_for_a_large_one(
+    place: str, again: bool, codec: Encryption | None
+) -> None:
     """Also where a store is opened again with what was begun. Sagas of one tenant go in their order."""
     called: list[str] = []
     opened = asyncio.Event()
@@ -255,7 +284,9 @@ def test_a_small_tenant_does_not_wait_for_a_large_one(place: str, again: bool, c
     async def main() -> None:
         nonlocal opened
         if again:
-            async with sagas.open(place, [saga], concurrency=1, shutdown_timeout=0, codec=codec) as store:
+            async with sagas.open(
+                place, [saga], concurrency=1, shutdown_timeout=0, codec=codec
+            ) as store:
                 await start(store)
                 await until(lambda: called)
             called.clear()
@@ -271,19 +302,25 @@ def test_a_small_tenant_does_not_wait_for_a_large_one(place: str, again: bool, c
     run(main())
 
 
-def test_whose_a_saga_is_cannot_be_said(tmp_path: pathlib.Path, caplog: pytest.LogCaptureFixture) -> None:
+def test_whose_a_saga_is_cannot_be_said(
+    tmp_path: pathlib.Path, caplog: pytest.LogCaptureFixture
+) -> None:
     """It is nobody's, which the log says without the input."""
     saga = sagas.Saga("shop", fair_by=lambda given: given["tenant"])
 
     @saga.step
-    async def work(task: Task) -> None: ...
+    async def work(task: Task) -> None:
+        ...
 
     async def main() -> None:
         async with sagas.open(tmp_path / "store.db", [saga]) as store:
             assert (await (await store.start(saga, "k", {"secret": 7})).wait()).ok
 
     run(main())
-    assert caplog.text.count("fair_by raised KeyError. Such sagas share one tenant") == 1 and "secret" not in caplog.text
+    assert (
+        caplog.text.count("fair_by raised KeyError. Such sagas share one tenant") == 1
+        and "secret" not in caplog.text
+    )
 
 
 KILLED = """
@@ -311,7 +348,10 @@ asyncio.run(main())
 def test_a_program_that_is_killed_while_keys_are_taken(place: str, tmp_path: pathlib.Path) -> None:
     """No key stays taken, and in each run of the program one saga of an account is called at a time."""
     here = pathlib.Path(__file__).parent
-    environment = os.environ | {"PYTHONPATH": f"{here.parent / 'src'}{os.pathsep}{here}", "SAGAS_PROGRAM": program()}
+    environment = os.environ | {
+        "PYTHONPATH": f"{here.parent / 'src'}{os.pathsep}{here}",
+        "SAGAS_PROGRAM": program(),
+    }
     notes = tmp_path / "notes"
 
     async def main() -> None:

@@ -14,7 +14,9 @@ ROUNDS = 1
 
 @pytest.mark.parametrize("number", range(ROUNDS))
 @pytest.mark.parametrize("kind", KINDS)
-def test_nothing_is_lost_and_nothing_is_done_twice(postgresql: Server, kind: str, number: int) -> None:
+def test_nothing_is_lost_and_nothing_is_done_twice(
+    postgresql: Server, kind: str, number: int
+) -> None:
     """Witness, database and logs agree in the end."""
     one = play(kind, 1000 * number + KINDS.index(kind), SAGAS, postgresql)
     assert not one.found, f"{one.folder}: {one.found[:5]}"

@@ -22,7 +22,13 @@ LAYERS = (
 )
 """From the lowest: a module imports modules of its own layer and of lower ones."""
 RANK = {name: rank for rank, names in enumerate(LAYERS) for name in names.split()}
-APART = ("inspection runtime", "runtime inspection", "cli server celery", "server celery cli", "celery cli server")  # fmt: skip
+APART = (
+    "inspection runtime",
+    "runtime inspection",
+    "cli server celery",
+    "server celery cli",
+    "celery cli server",
+)
 """A package, and those that it does not import although their layer is not above it."""
 PURE = {
     "asyncio",

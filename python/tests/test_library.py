@@ -40,7 +40,9 @@ def test_answers(way: str) -> None:
 
 
 def test_a_chain(way: str) -> None:
-    definition, case = (EXAMPLES / "licence.toml").read_text(), (EXAMPLES / "licence.case.json").read_text()
+    definition, case = (EXAMPLES / "licence.toml").read_text(), (
+        EXAMPLES / "licence.case.json"
+    ).read_text()
     chain = sagas.plan(definition, case)
     assert chain == (False, '{"chain":[1,0],"kind":"blocked"}')
     assert sagas.check(definition, case, chain.text) == (True, "blocked")
@@ -58,7 +60,9 @@ def test_a_chain(way: str) -> None:
     ],
     ids=["empty", "zero", "no UTF-8", "too long", "no case", "busy"],
 )
-def test_texts_that_are_not_of_their_form(way: str, definition: str | bytes, case: str, line: str) -> None:
+def test_texts_that_are_not_of_their_form(
+    way: str, definition: str | bytes, case: str, line: str
+) -> None:
     with pytest.raises(sagas.InvalidText) as told:
         sagas.plan(definition, case)
     assert str(told.value) == line
@@ -77,10 +81,14 @@ def test_any_buffer() -> None:
     loaded = library.loaded(place)
     assert loaded is not None
     for size in (0, 1, len(ANSWER), len(ANSWER) + 1, len(ANSWER) + 2):
-        assert library.call(loaded, "sagas_plan", [DEFINITION.encode(), CASE.encode()], size=size) == (0, ANSWER.encode() + b"\n")
+        assert library.call(
+            loaded, "sagas_plan", [DEFINITION.encode(), CASE.encode()], size=size
+        ) == (0, ANSWER.encode() + b"\n")
 
 
-def test_a_library_that_cannot_be_loaded(monkeypatch: pytest.MonkeyPatch, tmp_path: pathlib.Path) -> None:
+def test_a_library_that_cannot_be_loaded(
+    monkeypatch: pytest.MonkeyPatch, tmp_path: pathlib.Path
+) -> None:
     (tmp_path / "libsagas.so").write_bytes(b"no library")
     monkeypatch.setenv("SAGAS_LIBRARY", str(tmp_path / "libsagas.so"))
     assert sagas.plan(DEFINITION, CASE).yes

@@ -67,14 +67,24 @@ def test_a_store_lists_by_the_start(place: str, capsys: pytest.CaptureFixture[st
         async with sagas.open(place, some := kinds()) as store:
             await begin(store, some)
             filters: list[dict[str, Any]] = [
-                {}, {"phase": "open"}, {"labels": {"all": "yes"}},
-                {"phase": "open", "labels": {"all": "yes"}}, {"saga": "many"},
-                {"labels": {"half": "1"}}, {"phase": "stuck"},
-            ]  # fmt: skip
+                {},
+                {"phase": "open"},
+                {"labels": {"all": "yes"}},
+                {"phase": "open", "labels": {"all": "yes"}},
+                {"saga": "many"},
+                {"labels": {"half": "1"}},
+                {"phase": "stuck"},
+            ]
             for words in filters:
-                wanted = KEYS[0::2] if "saga" in words else KEYS[1::2] if words.get("labels") == {
-                    "half": "1"
-                } else [] if words.get("phase") == "stuck" else KEYS  # fmt: skip
+                wanted = (
+                    KEYS[0::2]
+                    if "saga" in words
+                    else KEYS[1::2]
+                    if words.get("labels") == {"half": "1"}
+                    else []
+                    if words.get("phase") == "stuck"
+                    else KEYS
+                )
                 assert [one.key for one in await store.list(**words)] == wanted
                 for by_id in (True, False):
                     found, page = list[str](), await store.list(**words, limit=2)

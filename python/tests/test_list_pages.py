@@ -21,21 +21,34 @@ from sagas.storage.sqlite.store_file import Reader as FileReader
 
 COUNT = 400
 FILTERS: dict[str, dict[str, Any]] = {
-    "all": {}, "open": {"phase": "open"}, "completed": {"phase": "completed"},
-    "recovered": {"phase": "recovered"}, "stuck": {"phase": "stuck"},
-    "undo_failed": {"phase": "undo_failed"}, "resolved": {"phase": "resolved"},
-    "definition": {"saga": "often"}, "rare definition": {"saga": "rare"},
-    "label": {"labels": {"half": "0"}}, "rare label": {"labels": {"rare": "yes"}},
-    "labels": {"labels": {"half": "0", "rare": "yes"}}, "search": {"search": "k1"},
-    "rare search": {"search": "k17"}, "no search": {"search": "%"},
-    "since": {"started_after": 1_000_050.0}, "until": {"started_before": 1_000_050.0},
+    "all": {},
+    "open": {"phase": "open"},
+    "completed": {"phase": "completed"},
+    "recovered": {"phase": "recovered"},
+    "stuck": {"phase": "stuck"},
+    "undo_failed": {"phase": "undo_failed"},
+    "resolved": {"phase": "resolved"},
+    "definition": {"saga": "often"},
+    "rare definition": {"saga": "rare"},
+    "label": {"labels": {"half": "0"}},
+    "rare label": {"labels": {"rare": "yes"}},
+    "labels": {"labels": {"half": "0", "rare": "yes"}},
+    "search": {"search": "k1"},
+    "rare search": {"search": "k17"},
+    "no search": {"search": "%"},
+    "since": {"started_after": 1_000_050.0},
+    "until": {"started_before": 1_000_050.0},
     "between": {"started_after": 1_000_020.0, "started_before": 1_000_060.0},
     "none between": {"started_after": 1_000_060.0, "started_before": 1_000_020.0},
-    "error": {"error": "sold"}, "rare error": {"error": "sold 17"}, "none": {"scope": NOTHING},
-    "some": {"scope": Scope(frozenset({"often", "rare"}))}, "keyed": {"scope": Scope(keys=frozenset({"k1*", "k77"}))}, "recovered since": {"phase": "recovered",
-    "started_after": 1_000_040.0}, "open label": {"phase": "open", "labels": {"half": "0"}},
+    "error": {"error": "sold"},
+    "rare error": {"error": "sold 17"},
+    "none": {"scope": NOTHING},
+    "some": {"scope": Scope(frozenset({"often", "rare"}))},
+    "keyed": {"scope": Scope(keys=frozenset({"k1*", "k77"}))},
+    "recovered since": {"phase": "recovered", "started_after": 1_000_040.0},
+    "open label": {"phase": "open", "labels": {"half": "0"}},
     "label until": {"labels": {"half": "0"}, "started_before": 1_000_070.0},
-}  # fmt: skip
+}
 
 
 def fill(place: str) -> None:

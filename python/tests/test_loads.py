@@ -37,18 +37,24 @@ def logs(url: str, monkeypatch: pytest.MonkeyPatch) -> list[int]:
         return 'a "word"'
 
     @kind.approval(needs=[write], timeout=3600)
-    async def sign(task: Task) -> None: ...
+    async def sign(task: Task) -> None:
+        ...
 
     async def main() -> None:
         async with sagas.open(url, [kind], clock=lambda: 1000.0, on_event=events.append) as store:
             for number in range(LOGS * ROOM):
                 await store.start(kind, f"k{number}", {"n": number}, deadline=7200)
-            await until(lambda: sum(event.name == "step_suspended" for event in events) == LOGS * ROOM)
+            await until(
+                lambda: sum(event.name == "step_suspended" for event in events) == LOGS * ROOM
+            )
 
     run(main())
     with psycopg.connect(url, autocommit=True) as link:
         link.execute("UPDATE sagas.shards SET owner = 'me', epoch = 1")
-        return [int(str(log)) for (log,) in link.execute("SELECT shard FROM sagas.shards ORDER BY shard").fetchall()]
+        return [
+            int(str(log))
+            for (log,) in link.execute("SELECT shard FROM sagas.shards ORDER BY shard").fetchall()
+        ]
 
 
 @contextlib.asynccontextmanager
@@ -68,10 +74,20 @@ def is_whole(loaded: Loaded | None, place: int, epoch: int) -> bool:
     open = [(key, json.loads(text), until) for _, key, _, text, until, *_ in loaded.open]
     assert open == [(f"k{number}", {"n": number}, 8200.0) for number in numbers]
     assert all(type(until) is float for *_, until, _, _ in loaded.open)
-    assert {(id, step, outcome, value) for id, step, _, _, outcome, value, _ in loaded.results} == {(id, 0, "commit", '"a \\"word\\""') for id in ids}
-    assert {(id, step, why, until) for id, step, _, _, why, _, _, until, _ in loaded.held} == {(id, 1, "approval", 4600.0) for id in ids}
-    assert all(type(at) is float for *_, at in loaded.results) and all(type(row[6]) is type(row[7]) is float for row in loaded.held)
-    return loaded.opened == ROOM and loaded.events == loaded.text.count("\n") > ROOM and loaded.epoch == epoch
+    assert {(id, step, outcome, value) for id, step, _, _, outcome, value, _ in loaded.results} == {
+        (id, 0, "commit", '"a \\"word\\""') for id in ids
+    }
+    assert {(id, step, why, until) for id, step, _, _, why, _, _, until, _ in loaded.held} == {
+        (id, 1, "approval", 4600.0) for id in ids
+    }
+    assert all(type(at) is float for *_, at in loaded.results) and all(
+        type(row[6]) is type(row[7]) is float for row in loaded.held
+    )
+    return (
+        loaded.opened == ROOM
+        and loaded.events == loaded.text.count("\n") > ROOM
+        and loaded.epoch == epoch
+    )
 
 
 def test_all_that_are_wanted_go_together(url: str, logs: list[int]) -> None:
@@ -83,27 +99,39 @@ def test_all_that_are_wanted_go_together(url: str, logs: list[int]) -> None:
             link.execute("UPDATE sagas.shards SET closed = 1 WHERE shard = %s", (logs[1],))
         async with loading(url) as loads:
             for epoch in (2, 3):
-                others, closed, *mine = await asyncio.gather(*(loads.load(log, 0, None) for log in logs))
+                others, closed, *mine = await asyncio.gather(
+                    *(loads.load(log, 0, None) for log in logs)
+                )
                 assert others is None and closed is None
                 assert all(is_whole(loaded, place, epoch) for place, loaded in enumerate(mine, 2))
             gone, unborn, there, born = await asyncio.gather(
-                loads.load(10**6, 7, None), loads.load(10**6 + 1, 7, BORN), loads.load(logs[2], 7, BORN), loads.load(logs[0], 7, BORN)
+                loads.load(10**6, 7, None),
+                loads.load(10**6 + 1, 7, BORN),
+                loads.load(logs[2], 7, BORN),
+                loads.load(logs[0], 7, BORN),
             )
             assert gone is None and is_whole(there, 2, 4) and born is None
-            ((line,),) = psycopg.connect(url).execute(f"SELECT {connections.LINE}".encode()).fetchall()
-            assert unborn == Loaded("", 0, 0, [], [], [], 8, line, 1) and there and there.line == line
+            ((line,),) = (
+                psycopg.connect(url).execute(f"SELECT {connections.LINE}".encode()).fetchall()
+            )
+            assert (
+                unborn == Loaded("", 0, 0, [], [], [], 8, line, 1) and there and there.line == line
+            )
 
     run(main())
 
 
 @pytest.mark.parametrize("together", [False, True])
 @pytest.mark.parametrize("has_lines", [False, True])
-def test_a_commit_behind_a_chunk_that_is_not_there(url: str, logs: list[int], together: bool, has_lines: bool) -> None:
+def test_a_commit_behind_a_chunk_that_is_not_there(
+    url: str, logs: list[int], together: bool, has_lines: bool
+) -> None:
     """Nothing is written of a log whose last chunk the database lacks, or has otherwise; of the others all is written, alone and in one commit."""
     lacks, differs, *_ = logs
     last = "first_seq = (SELECT max(first_seq) FROM sagas.event_log WHERE shard = e.shard)"
 
-    async def nothing(*_: object) -> None: ...
+    async def nothing(*_: object) -> None:
+        ...
 
     def batch(loaded: Loaded, log: int) -> Batch:
         written = Batch(log, 5.5, loaded.events, loaded.epoch)
@@ -121,7 +149,9 @@ def test_a_commit_behind_a_chunk_that_is_not_there(url: str, logs: list[int], to
             writer.reached(log, loaded.events, loaded.tail)
         with psycopg.connect(url, autocommit=True) as link:
             link.execute(f"DELETE FROM sagas.event_log e WHERE shard = {lacks} AND {last}".encode())
-            link.execute(f"UPDATE sagas.event_log e SET committed_at = 0 WHERE shard = {differs} AND {last}".encode())
+            link.execute(
+                f"UPDATE sagas.event_log e SET committed_at = 0 WHERE shard = {differs} AND {last}".encode()
+            )
         lost = set[int]()
         for lot in [batches] if together else [[one] for one in batches]:
             written = asyncio.get_running_loop().create_future()
@@ -135,8 +165,13 @@ def test_a_commit_behind_a_chunk_that_is_not_there(url: str, logs: list[int], to
     run(main())
     with psycopg.connect(url) as link:
         written = {str(log) for log in logs} - {str(lacks), str(differs)}
-        assert {value for (value,) in link.execute("SELECT value FROM sagas.operator_commands").fetchall()} == written
-        rows = link.execute("SELECT shard::text FROM sagas.event_log WHERE committed_at = 5.5").fetchall()
+        assert {
+            value
+            for (value,) in link.execute("SELECT value FROM sagas.operator_commands").fetchall()
+        } == written
+        rows = link.execute(
+            "SELECT shard::text FROM sagas.event_log WHERE committed_at = 5.5"
+        ).fetchall()
         assert {log for (log,) in rows} == (written if has_lines else set())
 
 
@@ -149,11 +184,16 @@ def test_a_log_whose_commit_is_under_way(url: str, logs: list[int]) -> None:
                 commit.execute("SELECT 1 FROM sagas.shards WHERE shard = %s FOR SHARE", (logs[2],))
                 waits = asyncio.create_task(loads.load(logs[2], 1, None))
                 rest = [log for log in logs if log != logs[2]]
-                async with asyncio.timeout(connections.PATIENCE / 2):  # else they came only once the server had given the first statement up
+                async with asyncio.timeout(
+                    connections.PATIENCE / 2
+                ):  # else they came only once the server had given the first statement up
                     assert all(await asyncio.gather(*(loads.load(log, 1, None) for log in rest)))
                     assert await loads.load(logs[0], 2, None)
                 assert not waits.done()
-                commit.execute("INSERT INTO sagas.event_log SELECT shard, 1000, 0, text, epoch FROM sagas.event_log WHERE shard = %s AND first_seq = 0", (logs[2],))
+                commit.execute(
+                    "INSERT INTO sagas.event_log SELECT shard, 1000, 0, text, epoch FROM sagas.event_log WHERE shard = %s AND first_seq = 0",
+                    (logs[2],),
+                )
                 commit.commit()
                 loaded = await waits
                 assert loaded and loaded.epoch == 2 and loaded.text.count('"open"') == ROOM + 1
@@ -169,8 +209,14 @@ def test_locked_logs_hold_up_nobody(url: str, logs: list[int]) -> None:
             async with loading(url) as loads:
                 stranger.execute("SELECT 1 FROM sagas.shards FOR UPDATE")
                 waits = [asyncio.create_task(loads.load(log, 1, None)) for log in logs]
-                await until(lambda: eye.execute("SELECT 1 FROM pg_stat_activity WHERE datname = current_database() AND wait_event_type = 'Lock'").fetchall())
-                assert await loads._asker.ask("SELECT 1") == [(1,)]  # else it is behind them, and the pool gives up
+                await until(
+                    lambda: eye.execute(
+                        "SELECT 1 FROM pg_stat_activity WHERE datname = current_database() AND wait_event_type = 'Lock'"
+                    ).fetchall()
+                )
+                assert await loads._asker.ask("SELECT 1") == [
+                    (1,)
+                ]  # else it is behind them, and the pool gives up
                 assert not any(wait.done() for wait in waits)
                 stranger.rollback()
                 assert all([is_whole(await wait, place, 2) for place, wait in enumerate(waits)])
@@ -185,9 +231,13 @@ def test_a_log_that_cannot_be_taken_up(url: str, logs: list[int]) -> None:
         with psycopg.connect(url, autocommit=True) as link:
             link.execute(REFUSES.format(logs[3]))
         async with loading(url) as loads:
-            found = await asyncio.gather(*(loads.load(log, 1, None) for log in logs), return_exceptions=True)
+            found = await asyncio.gather(
+                *(loads.load(log, 1, None) for log in logs), return_exceptions=True
+            )
             assert isinstance(found[3], StoreUnavailable) and "it is not read" in str(found[3])
-            assert all(is_whole(loaded, place, 2) for place, loaded in enumerate(found) if place != 3)
+            assert all(
+                is_whole(loaded, place, 2) for place, loaded in enumerate(found) if place != 3
+            )
             with psycopg.connect(url, autocommit=True) as link:
                 link.execute("DROP TRIGGER refuses ON sagas.shards")
             assert is_whole(await loads.load(logs[3], 1, None), 3, 2)
@@ -201,8 +251,15 @@ def test_the_server_does_not_answer(url: str, logs: list[int]) -> None:
     async def main() -> None:
         async with loading(url) as loads, loading(url) as others:
             await others._asker.close()
-            faults = await asyncio.gather(*(others.load(log, 1, None) for log in logs), return_exceptions=True)
+            faults = await asyncio.gather(
+                *(others.load(log, 1, None) for log in logs), return_exceptions=True
+            )
             assert [type(fault) for fault in faults] == [StoreUnavailable] * LOGS
-            assert all([is_whole(await loads.load(log, 1, None), place, 2) for place, log in enumerate(logs)])
+            assert all(
+                [
+                    is_whole(await loads.load(log, 1, None), place, 2)
+                    for place, log in enumerate(logs)
+                ]
+            )
 
     run(main())

@@ -26,10 +26,12 @@ def asking() -> sagas.Saga:
         return "A"
 
     @a.compensation
-    async def not_a(task: Task) -> None: ...
+    async def not_a(task: Task) -> None:
+        ...
 
     @asking.approval(needs=[a])
-    async def agreed(task: Task) -> None: ...
+    async def agreed(task: Task) -> None:
+        ...
 
     return asking
 
@@ -45,19 +47,36 @@ def test_looks_and_who_did_what(place: str) -> None:
                 for key in ("one", "two", "t_ree"):
                     await store.start(kind, key=key, input={"n": key})
                 await until(lambda: looks.ask(lists.asked())["approval"] == 3)
-                assert looks.ask(lists.counts()) == {"asking": {"open": 3, "completed": 0, "recovered": 0, "stuck": 0, "resolved": 0}}
+                assert looks.ask(lists.counts()) == {
+                    "asking": {"open": 3, "completed": 0, "recovered": 0, "stuck": 0, "resolved": 0}
+                }
                 assert [wait.step for wait in looks.ask(lists.waits())] == ["agreed"] * 3
                 await store.complete("one", "agreed", {"yes": True}, by="ann", note="seen")
                 assert await store.abort("two", by="bob", note="no more")
-                assert ((await store.wait("one")).phase, (await store.wait("two")).phase) == ("completed", "recovered")
+                assert ((await store.wait("one")).phase, (await store.wait("two")).phase) == (
+                    "completed",
+                    "recovered",
+                )
                 assert not await store.abort("two", by="bob")
-                told: list[Any] = [(note.what, note.told["by"], note.told["note"], note.answer) for key in ("one", "two") for note in looks.ask(one_saga.notes(key))]
-                assert told == [("complete", "ann", "seen", True), ("abort", "bob", "no more", True)]
+                told: list[Any] = [
+                    (note.what, note.told["by"], note.told["note"], note.answer)
+                    for key in ("one", "two")
+                    for note in looks.ask(one_saga.notes(key))
+                ]
+                assert told == [
+                    ("complete", "ann", "seen", True),
+                    ("abort", "bob", "no more", True),
+                ]
                 assert [one.key for one in looks.ask(pages.page(phase="completed"))] == ["one"]
                 assert [one.key for one in looks.ask(pages.page(search="t_"))] == ["t_ree"]
                 assert looks.ask(lists.stuck()) == []
                 view = looks.ask(one_saga.view("two"))
-                assert view and view.aborted and view.phase == "recovered" and {step.name for step in view.steps} == {"a", "agreed"}
+                assert (
+                    view
+                    and view.aborted
+                    and view.phase == "recovered"
+                    and {step.name for step in view.steps} == {"a", "agreed"}
+                )
                 assert looks.ask(one_saga.view("none")) is None
                 await store.abort("t_ree")
                 await store.wait_idle()
@@ -65,7 +84,6 @@ def test_looks_and_who_did_what(place: str) -> None:
                 looks.close()
 
     run(main())
-
 
 
 class Clock:
@@ -90,7 +108,8 @@ def test_a_log_is_told_in_its_own_order(place: str) -> None:
         return task.attempt
 
     @kind.approval(needs=[a])
-    async def agreed(task: Task) -> None: ...
+    async def agreed(task: Task) -> None:
+        ...
 
     @kind.step(needs=[agreed])
     async def b(task: Task) -> None:
@@ -148,7 +167,8 @@ def test_one_saga_of_a_long_shard(place: str) -> None:
     kind = sagas.Saga("short")
 
     @kind.step
-    async def a(task: Task) -> None: ...
+    async def a(task: Task) -> None:
+        ...
 
     async def main() -> None:
         async with sagas.open(place, [kind]) as store:
@@ -215,8 +235,13 @@ def test_what_if_a_step_has_failed_permanently(tmp_path: pathlib.Path) -> None:
                 gate.set()
                 await missed("run", "missed")
                 await missed("undo", "undo_missed")
-                assert what_if.done_words(view("run"), "hotel") == "It would be stuck, because of visa"
-                assert what_if.failed_words(view("run"), "hotel") == "It would be stuck, because of visa"
+                assert (
+                    what_if.done_words(view("run"), "hotel") == "It would be stuck, because of visa"
+                )
+                assert (
+                    what_if.failed_words(view("run"), "hotel")
+                    == "It would be stuck, because of visa"
+                )
                 told = what_if.of(view("undo"), done="hotel").plan
                 assert (told.cost, told.choices[0].decision) == (10, "stands")
                 await store.complete("run", "hotel", 1)

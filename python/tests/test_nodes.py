@@ -32,7 +32,10 @@ HERE = pathlib.Path(__file__).resolve().parent
 
 
 def pair(
-    gate: asyncio.Event | None = None, calls: list[str] | None = None, name: str = "pair", tokens: list[tuple[str, str]] | None = None
+    gate: asyncio.Event | None = None,
+    calls: list[str] | None = None,
+    name: str = "pair",
+    tokens: list[tuple[str, str]] | None = None,
 ) -> sagas.Saga:
     """Two steps; the second waits for a gate, and each call of it is noted, with its token."""
     pair = sagas.Saga(name)
@@ -42,7 +45,8 @@ def pair(
         return 1
 
     @a.compensation
-    async def not_a(task: Task) -> None: ...
+    async def not_a(task: Task) -> None:
+        ...
 
     @pair.step(needs=[a])
     async def b(task: Task) -> int:
@@ -81,12 +85,24 @@ NODE = """
 
 
 @contextlib.contextmanager
-def node(path: pathlib.Path, url: str, name: str, count: int, *, lease: float = 2.0, seconds: float = 3600) -> Iterator[subprocess.Popen[str]]:
+def node(
+    path: pathlib.Path,
+    url: str,
+    name: str,
+    count: int,
+    *,
+    lease: float = 2.0,
+    seconds: float = 3600,
+) -> Iterator[subprocess.Popen[str]]:
     """A node in a process of its own, with sagas whose second step waits."""
     file = path / f"{name}.py"
-    file.write_text(textwrap.dedent(NODE.format(url=url, name=name, count=count, lease=lease, seconds=seconds)))
+    file.write_text(
+        textwrap.dedent(NODE.format(url=url, name=name, count=count, lease=lease, seconds=seconds))
+    )
     environment = os.environ | {"PYTHONPATH": str(HERE.parent / "src"), "SAGAS_PROGRAM": program()}
-    process = subprocess.Popen([sys.executable, "-u", str(file)], stdout=subprocess.PIPE, text=True, env=environment)
+    process = subprocess.Popen(
+        [sys.executable, "-u", str(file)], stdout=subprocess.PIPE, text=True, env=environment
+    )
     try:
         yield process
     finally:
@@ -120,8 +136,13 @@ def test_a_key_is_unique_over_all_nodes(url: str) -> None:
 
     async def main() -> None:
         async with contextlib.AsyncExitStack() as stack:
-            nodes = [await stack.enter_async_context(sagas.open(url, [kind], node=f"n{number}")) for number in range(3)]
-            ends = await asyncio.gather(*(ended(node, kind, f"k{number}", number) for number in range(60) for node in nodes))
+            nodes = [
+                await stack.enter_async_context(sagas.open(url, [kind], node=f"n{number}"))
+                for number in range(3)
+            ]
+            ends = await asyncio.gather(
+                *(ended(node, kind, f"k{number}", number) for number in range(60) for node in nodes)
+            )
             assert {end.phase for end in ends} <= {"completed", "recovered"} and len(ends) == 180
             for other in nodes:
                 with pytest.raises(sagas.KeyConflict):
@@ -139,7 +160,8 @@ def test_who_waits_elsewhere_hears_of_the_end(url: str) -> None:
     signed = sagas.Saga("signed")
 
     @signed.approval()
-    def sign(task: Task) -> None: ...
+    def sign(task: Task) -> None:
+        ...
 
     async def main() -> None:
         async with sagas.open(url, [kind, signed]) as one, sagas.open(url, [kind, signed]) as other:
@@ -176,7 +198,9 @@ def test_a_killed_nodes_sagas_go_on(tmp_path: pathlib.Path, url: str) -> None:
             async with sagas.open(url, [pair(calls=calls, tokens=tokens)], lease=2.0) as store:
                 assert calls == []
                 process.kill()
-                ends = await asyncio.gather(*(store.wait(f"first-{number}") for number in range(20)))
+                ends = await asyncio.gather(
+                    *(store.wait(f"first-{number}") for number in range(20))
+                )
                 assert all(end.ok for end in ends)
             return before
 
@@ -193,7 +217,9 @@ def test_a_node_that_slept_past_its_lease_writes_nothing(tmp_path: pathlib.Path,
             await is_open(process)
             process.send_signal(signal.SIGSTOP)
             async with sagas.open(url, [pair()], lease=1.5) as store:
-                ends = await asyncio.gather(*(store.wait(f"sleeper-{number}") for number in range(5)))
+                ends = await asyncio.gather(
+                    *(store.wait(f"sleeper-{number}") for number in range(5))
+                )
                 assert all(end.ok for end in ends)
                 before = records.read(url)
                 process.send_signal(signal.SIGCONT)
@@ -201,7 +227,9 @@ def test_a_node_that_slept_past_its_lease_writes_nothing(tmp_path: pathlib.Path,
                 process.send_signal(signal.SIGTERM)
                 assert await asyncio.to_thread(process.wait, 120) == 0
                 after = records.read(url)
-                assert {key: row for key, row in after.sagas.items() if key != "after"} == before.sagas
+                assert {
+                    key: row for key, row in after.sagas.items() if key != "after"
+                } == before.sagas
                 assert all(said.startswith("yes") for said in (await store.audit()).values())
 
     run(main())
@@ -222,7 +250,9 @@ def test_sigterm_hands_over_at_once(tmp_path: pathlib.Path, url: str) -> None:
             async with sagas.open(url, [pair(calls=calls)], lease=600) as store:
                 process.send_signal(signal.SIGTERM)
                 assert await asyncio.to_thread(process.wait, 120) == 0
-                await until(lambda: all(row.phase == "ended" for row in records.read(url).sagas.values()))
+                await until(
+                    lambda: all(row.phase == "ended" for row in records.read(url).sagas.values())
+                )
                 await ended(store, pair_of(store), "one more")
 
     run(main())
@@ -238,7 +268,12 @@ def test_an_old_name_has_its_logs_at_once(url: str, tmp_path: pathlib.Path) -> N
             process.kill()
             process.wait()
             async with sagas.open(url, [pair()], node="web", lease=600) as store:
-                assert all(end.ok for end in await asyncio.gather(*(store.wait(f"web-{number}") for number in range(3))))
+                assert all(
+                    end.ok
+                    for end in await asyncio.gather(
+                        *(store.wait(f"web-{number}") for number in range(3))
+                    )
+                )
 
     run(main())
 
@@ -261,7 +296,9 @@ def test_a_node_that_opens_keeps_its_lease(url: str, tmp_path: pathlib.Path) -> 
                     await until(lambda: beats._until > since + 4.0)
                     yield
 
-                async with sagas.open(url, [pair()], node="web", lease=2.0, context=slow, on_event=tell) as store:
+                async with sagas.open(
+                    url, [pair()], node="web", lease=2.0, context=slow, on_event=tell
+                ) as store:
                     assert (await store.wait("web-0")).ok
 
     run(main())
@@ -281,15 +318,21 @@ def test_two_nodes_of_one_name(url: str) -> None:
             async with sagas.open(url, [kinds[1]], node="same", lease=2.0) as second:
                 await until(lambda: len(calls[1]) == 5)
                 gate.set()
-                ends = await asyncio.gather(*(store.wait(f"k{number}") for number in range(5) for store in (first, second)))
+                ends = await asyncio.gather(
+                    *(store.wait(f"k{number}") for number in range(5) for store in (first, second))
+                )
                 assert all(end.ok for end in ends)
-                assert (await ended(first, kinds[0], "new")).ok and (await ended(second, kinds[1], "newer")).ok
+                assert (await ended(first, kinds[0], "new")).ok and (
+                    await ended(second, kinds[1], "newer")
+                ).ok
 
     run(main())
     assert all(row.phase == "ended" for row in records.read(url).sagas.values())
 
 
-def test_a_log_that_another_wrote_while_its_child_was_let_go(url: str, caplog: pytest.LogCaptureFixture) -> None:
+def test_a_log_that_another_wrote_while_its_child_was_let_go(
+    url: str, caplog: pytest.LogCaptureFixture
+) -> None:
     """A node reports into a log that another has ended meanwhile: it hears that the log is not its own, before it asks its child anything."""
     gates = asyncio.Event(), asyncio.Event()
     calls: list[list[str]] = [[], []]
@@ -369,7 +412,9 @@ def test_what_no_node_drives_is_told(url: str, caplog: pytest.LogCaptureFixture)
     )
 
     def warnings() -> list[str]:
-        return [one.getMessage() for one in caplog.records if "no node executes" in one.getMessage()]
+        return [
+            one.getMessage() for one in caplog.records if "no node executes" in one.getMessage()
+        ]
 
     async def main() -> None:
         async with sagas.open(url, [old], shutdown_timeout=0.0) as store:
@@ -407,11 +452,14 @@ class Nowhere:
 
     timeout = 0.05
 
-    def declare(self, step: Any, kind: str, manner: Any) -> None: ...
+    def declare(self, step: Any, kind: str, manner: Any) -> None:
+        ...
 
-    async def check(self, database: Any, steps: Any) -> None: ...
+    async def check(self, database: Any, steps: Any) -> None:
+        ...
 
-    async def send(self, order: Any) -> None: ...
+    async def send(self, order: Any) -> None:
+        ...
 
 
 def test_nothing_is_kept_of_reports_that_another_node_waits_for(url: str) -> None:
@@ -422,10 +470,12 @@ def test_nothing_is_kept_of_reports_that_another_node_waits_for(url: str) -> Non
         patient.timeout = 600.0
 
         @kind.step(queue=Nowhere(), backoff=sagas.Backoff(initial=60, maximum=60))
-        def a(task: Task) -> None: ...
+        def a(task: Task) -> None:
+            ...
 
         @kind.step(queue=patient)
-        def b(task: Task) -> None: ...
+        def b(task: Task) -> None:
+            ...
 
         return kind
 
@@ -511,7 +561,11 @@ def test_a_rolling_deploy_of_a_changed_definition(url: str) -> None:
                 await first.start(old, key)
             await until(lambda: len(called) == 2)
             async with sagas.open(url, [new], node="new") as second:
-                assert (await ended(second, new, "begun")).results == {"a": "new", "b": "new", "c": "new"}
+                assert (await ended(second, new, "begun")).results == {
+                    "a": "new",
+                    "b": "new",
+                    "c": "new",
+                }
                 gates["stays"].set()
                 assert (await second.wait("stays")).results == {"a": "old", "b": "old"}
                 await first.close()
@@ -521,7 +575,9 @@ def test_a_rolling_deploy_of_a_changed_definition(url: str) -> None:
     assert len(records.read(url).logs) == 2
 
 
-def test_a_large_commit_is_taken_apart_piece_by_piece(url: str, monkeypatch: pytest.MonkeyPatch) -> None:
+def test_a_large_commit_is_taken_apart_piece_by_piece(
+    url: str, monkeypatch: pytest.MonkeyPatch
+) -> None:
     """What is more than PostgreSQL takes apart at once goes by the other form of the statement, and is the same."""
     monkeypatch.setattr(commit_statement, "MOST", 0)
     kind = simple(lambda task: 1)
@@ -567,7 +623,10 @@ def test_no_function_begins_behind_the_lease(url: str) -> None:
                 holds = store._inside.store.holds
                 await until(lambda: not holds())
                 gate.set()
-                await until(lambda: [row.outcome for row in records.read(url).results.values()] == ["commit"])
+                await until(
+                    lambda: [row.outcome for row in records.read(url).results.values()]
+                    == ["commit"]
+                )
                 await asyncio.sleep(0.2)
                 assert calls == ["a"]
             assert (await store.wait("k")).ok
@@ -580,14 +639,22 @@ OTHER = "INSERT INTO sagas.nodes(node, name, version, since, lease) VALUES ('oth
 TAKEN = "UPDATE sagas.shards SET owner = 'other', epoch = epoch + 1 WHERE shard = (SELECT id / 1000 FROM sagas.sagas WHERE key = 'taken') RETURNING name"
 
 
-def test_behind_its_lease_a_node_keeps_what_is_still_its_own(url: str, monkeypatch: pytest.MonkeyPatch) -> None:
+def test_behind_its_lease_a_node_keeps_what_is_still_its_own(
+    url: str, monkeypatch: pytest.MonkeyPatch
+) -> None:
     """Another node has taken one of its two logs meanwhile: it ends the children of both, lets go of that one, and goes on with the other."""
     monkeypatch.setattr("sagas.definition.shelf.SHARD_CAPACITY", 1)
     gate, calls, said = asyncio.Event(), list[str](), list[tuple[str, str | None]]()
     kind = pair(gate, calls)
 
     async def main() -> None:
-        async with sagas.open(url, [kind], lease=1.5, shutdown_timeout=0.0, on_event=lambda event: said.append((event.name, event.detail))) as store:
+        async with sagas.open(
+            url,
+            [kind],
+            lease=1.5,
+            shutdown_timeout=0.0,
+            on_event=lambda event: said.append((event.name, event.detail)),
+        ) as store:
             for key in ("kept", "taken"):
                 await store.start(kind, key)
             await until(lambda: len(calls) == 2)
@@ -600,12 +667,18 @@ def test_behind_its_lease_a_node_keeps_what_is_still_its_own(url: str, monkeypat
                 stranger.execute(OTHER)
                 taken = stranger.execute(TAKEN).fetchall()
             await until(lambda: "shard_lost" in dict(said))
-            assert [(detail,) for name, detail in said if name == "shard_lost"] == taken and ("lease_expired", None) in said
+            assert [(detail,) for name, detail in said if name == "shard_lost"] == taken and (
+                "lease_expired",
+                None,
+            ) in said
             assert len(before) == 2
             await until(lambda: all(child and child.buried.done() for child in before))
             gate.set()
             assert (await store.wait("kept")).ok
-            assert records.read(url).sagas["taken"].phase is None and "taken" not in inside.sagas.by_key
+            assert (
+                records.read(url).sagas["taken"].phase is None
+                and "taken" not in inside.sagas.by_key
+            )
             with psycopg.connect(url) as stranger:
                 stranger.execute("DELETE FROM sagas.nodes WHERE node = 'other'")
             assert (await store.wait("taken")).ok
@@ -628,14 +701,30 @@ def test_new_sagas_go_to_a_log_of_the_nodes_own(url: str) -> None:
         async with sagas.open(url, [kind], node="one", lease=600) as one:
             async with sagas.open(url, [kind], node="two", lease=600, shutdown_timeout=0.0) as two:
                 for number in range(3):
-                    await asyncio.gather(one.start(kind, f"one {number}"), two.start(kind, f"two {number}"))
-                mine, others = [owners(*(f"{name} {number}" for number in range(3))) for name in ("one", "two")]
-                assert [owner.partition("/")[0] for of in (mine, others) for owner in of] == ["one", "two"]
+                    await asyncio.gather(
+                        one.start(kind, f"one {number}"), two.start(kind, f"two {number}")
+                    )
+                mine, others = [
+                    owners(*(f"{name} {number}" for number in range(3))) for name in ("one", "two")
+                ]
+                assert [owner.partition("/")[0] for of in (mine, others) for owner in of] == [
+                    "one",
+                    "two",
+                ]
             await until(lambda: owners("two 0") == mine)
             await asyncio.gather(*(one.start(kind, f"later {number}") for number in range(3)))
             assert owners("later 0", "later 1", "later 2") == mine
             gate.set()
-            assert all(end.ok for end in await asyncio.gather(*(one.wait(f"{name} {number}") for name in ("one", "two", "later") for number in range(3))))
+            assert all(
+                end.ok
+                for end in await asyncio.gather(
+                    *(
+                        one.wait(f"{name} {number}")
+                        for name in ("one", "two", "later")
+                        for number in range(3)
+                    )
+                )
+            )
 
     run(main())
 
@@ -647,12 +736,18 @@ def test_takeover_in_lots_goes_past_a_locked_log(url: str, monkeypatch: pytest.M
 
     async def main() -> None:
         gate = asyncio.Event()
-        async with sagas.open(url, [pair(gate, calls)], concurrency=80, shutdown_timeout=0.0) as store:
-            await asyncio.gather(*(store.start(pair_of(store), f"k{number}") for number in range(60)))
+        async with sagas.open(
+            url, [pair(gate, calls)], concurrency=80, shutdown_timeout=0.0
+        ) as store:
+            await asyncio.gather(
+                *(store.start(pair_of(store), f"k{number}") for number in range(60))
+            )
             await until(lambda: len(calls) == 60)
         calls.clear()
         with psycopg.connect(url) as stranger:
-            row = stranger.execute("SELECT key FROM sagas.sagas WHERE id / 1000 = (SELECT min(shard) FROM sagas.shards)").fetchone()
+            row = stranger.execute(
+                "SELECT key FROM sagas.sagas WHERE id / 1000 = (SELECT min(shard) FROM sagas.shards)"
+            ).fetchone()
             stranger.execute("SELECT 1 FROM sagas.shards ORDER BY shard LIMIT 1 FOR UPDATE")
             assert row
             async with sagas.open(url, [pair(calls=calls)], concurrency=80) as store:
@@ -665,10 +760,16 @@ def test_takeover_in_lots_goes_past_a_locked_log(url: str, monkeypatch: pytest.M
     assert Counter(calls) == Counter(f"k{number}" for number in range(60))
 
 
-def test_a_node_says_between_two_lots_that_it_lives(url: str, monkeypatch: pytest.MonkeyPatch) -> None:
+def test_a_node_says_between_two_lots_that_it_lives(
+    url: str, monkeypatch: pytest.MonkeyPatch
+) -> None:
     """It takes over the shards of another, of which it has the functions of some: one lot for each beat."""
     monkeypatch.setattr("sagas.definition.shelf.SHARD_CAPACITY", 1)
-    monkeypatch.setattr(node_lease, "CANDIDATES", node_lease.CANDIDATES.replace(f"LIMIT {node_lease.LOT}", "LIMIT 1"))
+    monkeypatch.setattr(
+        node_lease,
+        "CANDIDATES",
+        node_lease.CANDIDATES.replace(f"LIMIT {node_lease.LOT}", "LIMIT 1"),
+    )
     gate, calls, turns = asyncio.Event(), list[str](), list[int]()
     mine, others = pair(gate, calls), pair(gate, calls, "others")
 
@@ -687,7 +788,10 @@ def test_a_node_says_between_two_lots_that_it_lives(url: str, monkeypatch: pytes
                 await until(lambda: len(calls) == 6)
                 monkeypatch.setattr(node_lease.Lease, "take", noted)
             gate.set()
-            assert all(end.ok for end in await asyncio.gather(*(store.wait(f"k{number}") for number in range(3))))
+            assert all(
+                end.ok
+                for end in await asyncio.gather(*(store.wait(f"k{number}") for number in range(3)))
+            )
             await until(lambda: len(store._inside.store.lease.left) == 3)  # type: ignore[attr-defined]
 
     run(main())
@@ -702,7 +806,11 @@ CREATE FUNCTION sagas.waits() RETURNS boolean LANGUAGE plpgsql AS 'BEGIN PERFORM
 @contextlib.contextmanager
 def as_it_takes(url: str, patch: pytest.MonkeyPatch) -> Iterator[psycopg.Connection[Any]]:
     """Who takes a log over has begun to look, and goes on once the lock of this connection is given back."""
-    patch.setattr(node_lease, "TAKE", node_lease.TAKE.replace("ORDER BY l.shard FOR", "AND sagas.waits() ORDER BY l.shard FOR"))
+    patch.setattr(
+        node_lease,
+        "TAKE",
+        node_lease.TAKE.replace("ORDER BY l.shard FOR", "AND sagas.waits() ORDER BY l.shard FOR"),
+    )
     with psycopg.connect(url, autocommit=True) as link:
         link.execute(WAITS)
         link.execute("SELECT pg_advisory_lock(1)")
@@ -710,7 +818,9 @@ def as_it_takes(url: str, patch: pytest.MonkeyPatch) -> Iterator[psycopg.Connect
 
 
 @pytest.mark.parametrize("lacks", [False, True])
-def test_the_last_commit_before_a_takeover_counts(url: str, monkeypatch: pytest.MonkeyPatch, lacks: bool) -> None:
+def test_the_last_commit_before_a_takeover_counts(
+    url: str, monkeypatch: pytest.MonkeyPatch, lacks: bool
+) -> None:
     """A node that is taken for dead opens a saga while its log, where none was open, is taken: who has it then drives that too, if it has the functions."""
     gate, calls = asyncio.Event(), list[str]()
     before, now = pair(gate, calls), pair(calls=calls)
@@ -718,11 +828,21 @@ def test_the_last_commit_before_a_takeover_counts(url: str, monkeypatch: pytest.
 
     async def main() -> None:
         async with contextlib.AsyncExitStack() as stack:
-            old = await stack.enter_async_context(sagas.open(url, [before, other], node="n", shutdown_timeout=0.0))
+            old = await stack.enter_async_context(
+                sagas.open(url, [before, other], node="n", shutdown_timeout=0.0)
+            )
             await ended(old, other, "early")
             with as_it_takes(url, monkeypatch) as link:
-                opening = asyncio.create_task(stack.enter_async_context(sagas.open(url, [other] if lacks else [now, other], node="n")))
-                await until(lambda: link.execute("SELECT 1 FROM pg_locks WHERE locktype = 'advisory' AND NOT granted").fetchone())
+                opening = asyncio.create_task(
+                    stack.enter_async_context(
+                        sagas.open(url, [other] if lacks else [now, other], node="n")
+                    )
+                )
+                await until(
+                    lambda: link.execute(
+                        "SELECT 1 FROM pg_locks WHERE locktype = 'advisory' AND NOT granted"
+                    ).fetchone()
+                )
                 await old.start(before, "late")
             await opening
             gate.set()
@@ -743,7 +863,9 @@ def test_a_start_that_comes_late(postgresql: Server, url: str, is_born: bool) ->
 
     async def main() -> None:
         with relaying(postgresql.port) as relay:
-            async with sagas.open(postgresql.url(name, port=relay.port), [kind], lease=600, shutdown_timeout=0.0) as store:
+            async with sagas.open(
+                postgresql.url(name, port=relay.port), [kind], lease=600, shutdown_timeout=0.0
+            ) as store:
                 for number in range(2):
                     assert (await ended(store, kind, f"k{number}")).ok
                 inside = store._inside
@@ -755,14 +877,27 @@ def test_a_start_that_comes_late(postgresql: Server, url: str, is_born: bool) ->
                     start = asyncio.create_task(store.start(kind, "late"))
                     ((late,),) = await until(lambda: eye.execute(waits).fetchall())
                     relay.cut()
-                    with pytest.raises(sagas.StoreUnavailable, match="with the same key|Nothing was started"):
+                    with pytest.raises(
+                        sagas.StoreUnavailable, match="with the same key|Nothing was started"
+                    ):
                         await start
                     again = asyncio.create_task(surely_ended(store, kind, "late"))
                     stranger.rollback()
-                    await until(lambda: not eye.execute("SELECT 1 FROM pg_stat_activity WHERE pid = %s", (late,)).fetchall())
+                    await until(
+                        lambda: not eye.execute(
+                            "SELECT 1 FROM pg_stat_activity WHERE pid = %s", (late,)
+                        ).fetchall()
+                    )
                     assert (await asyncio.wait_for(again, 60)).ok
-                    await until(lambda: eye.execute("SELECT count(*), count(phase) FROM sagas.sagas").fetchone() == (3, 3))
-                    owners = "SELECT count(*) FROM sagas.shards WHERE closed = 0 AND shard <> ALL(%s)"
+                    await until(
+                        lambda: eye.execute(
+                            "SELECT count(*), count(phase) FROM sagas.sagas"
+                        ).fetchone()
+                        == (3, 3)
+                    )
+                    owners = (
+                        "SELECT count(*) FROM sagas.shards WHERE closed = 0 AND shard <> ALL(%s)"
+                    )
                     assert eye.execute(owners, (inside.logs(),)).fetchone() == (0,)
                 assert all(said.startswith("yes") for said in (await store.audit()).values())
 
@@ -811,15 +946,23 @@ def test_what_happens_is_told(url: str, monkeypatch: pytest.MonkeyPatch) -> None
     kind = pair(gate)
 
     async def main() -> None:
-        async with sagas.open(url, [kind]) as one, sagas.open(url, [kind]) as other, sagas.Client(url) as client:
+        async with sagas.open(url, [kind]) as one, sagas.open(url, [kind]) as other, sagas.Client(
+            url
+        ) as client:
             async with asyncio.timeout(100):
                 await one.start(kind, "k")
-                waiting = [asyncio.create_task(other.wait("k")), asyncio.create_task(client.wait("k"))]
+                waiting = [
+                    asyncio.create_task(other.wait("k")),
+                    asyncio.create_task(client.wait("k")),
+                ]
                 started = await client.start(kind, "of a client")
                 await one.start(kind, "gone")
                 assert await other.abort("gone")
                 gate.set()
-                assert all(end.ok for end in await asyncio.gather(*waiting)) and (await started.wait()).ok
+                assert (
+                    all(end.ok for end in await asyncio.gather(*waiting))
+                    and (await started.wait()).ok
+                )
 
     run(main())
 
@@ -835,7 +978,9 @@ def test_what_was_heard_before_a_connection_broke_counts_no_more(url: str) -> No
         assert await looks.get() == "look"
         await asyncio.wait_for(news.of(17, 16), 5)
         with psycopg.connect(url, autocommit=True) as stranger:
-            stranger.execute("SELECT pg_terminate_backend(pid) FROM pg_stat_activity WHERE datname = current_database() AND pid <> pg_backend_pid()")
+            stranger.execute(
+                "SELECT pg_terminate_backend(pid) FROM pg_stat_activity WHERE datname = current_database() AND pid <> pg_backend_pid()"
+            )
         assert await looks.get() == ""
         waiting = asyncio.create_task(news.of(17, 16))
         await asyncio.sleep(0.1)
@@ -849,7 +994,9 @@ def test_what_was_heard_before_a_connection_broke_counts_no_more(url: str) -> No
 
 def test_an_end_is_heard_of_without_a_word(url: str, monkeypatch: pytest.MonkeyPatch) -> None:
     """What the database tells may be lost: whoever waits looks by himself, at intervals that grow."""
-    monkeypatch.setattr("sagas.storage.postgresql.announcer.Announcer.say", lambda self, words: None)
+    monkeypatch.setattr(
+        "sagas.storage.postgresql.announcer.Announcer.say", lambda self, words: None
+    )
     monkeypatch.setattr(notifications, "FIRST_LOOK", 0.01)
     gate = asyncio.Event()
     kind = pair(gate)
@@ -862,11 +1009,15 @@ def test_an_end_is_heard_of_without_a_word(url: str, monkeypatch: pytest.MonkeyP
     monkeypatch.setattr(notifications.News, "of", of)
 
     async def main() -> None:
-        async with sagas.open(url, [kind], node="one") as one, sagas.open(url, [kind], node="other") as other:
+        async with sagas.open(url, [kind], node="one") as one, sagas.open(
+            url, [kind], node="other"
+        ) as other:
             await one.start(kind, "k")
             waiting = asyncio.create_task(other.wait("k"))
             await asyncio.sleep(1.0)
-            assert turns == [*range(len(turns))] and 3 <= len(turns) <= 10  # each second one, it would be a hundred
+            assert (
+                turns == [*range(len(turns))] and 3 <= len(turns) <= 10
+            )  # each second one, it would be a hundred
             gate.set()
             assert (await waiting).ok
 
@@ -911,9 +1062,16 @@ def test_a_start_without_a_server_is_refused(url: str, monkeypatch: pytest.Monke
 
     async def main() -> None:
         async with sagas.open(url, [kind]) as store:
-            told = await asyncio.gather(*(ended(store, kind, f"k{number}") for number in range(200)), return_exceptions=True)
-            refused = [number for number, one in enumerate(told) if isinstance(one, sagas.StoreUnavailable)]
-            assert refused and len(refused) + sum(isinstance(one, sagas.SagaResult) for one in told) == 200
+            told = await asyncio.gather(
+                *(ended(store, kind, f"k{number}") for number in range(200)), return_exceptions=True
+            )
+            refused = [
+                number for number, one in enumerate(told) if isinstance(one, sagas.StoreUnavailable)
+            ]
+            assert (
+                refused
+                and len(refused) + sum(isinstance(one, sagas.SagaResult) for one in told) == 200
+            )
             assert (await surely_ended(store, kind, f"k{refused[0]}")).ok
 
     run(main())
@@ -935,14 +1093,18 @@ def test_who_looks_for_a_key_hears_that_the_store_is_closed(
                 relay._loop.call_soon_threadsafe(silent.wait)
                 asked = [asyncio.create_task(store.get("k"))]
                 await until(lambda: keys.sought == 1)
-                asked += [asyncio.create_task(work) for work in (store.get("k"), store.wait("other"))]
+                asked += [
+                    asyncio.create_task(work) for work in (store.get("k"), store.wait("other"))
+                ]
                 await until(lambda: keys.sought == 3)
                 monkeypatch.setattr(connections, "CONNECT", 0.1)
                 closing = asyncio.create_task(store.close())
                 await asyncio.wait(asked, timeout=10)
                 silent.set()
                 await closing
-                assert {type(one.exception()) if one.done() else None for one in asked} == {sagas.Closed}
+                assert {type(one.exception()) if one.done() else None for one in asked} == {
+                    sagas.Closed
+                }
 
     run(main())
 
@@ -959,7 +1121,9 @@ def test_the_answer_to_a_withdrawal_is_lost(postgresql: Server, url: str) -> Non
             async with store:
                 running = await store.start(kind, "k")
                 with psycopg.connect(url, autocommit=True) as link:
-                    await until(lambda: link.execute("SELECT 1 FROM sagas.external_attempts").fetchall())
+                    await until(
+                        lambda: link.execute("SELECT 1 FROM sagas.external_attempts").fetchall()
+                    )
                 relay.mark = b"SET outcome = 'withdrawn'"
                 assert await running.abort()
                 assert (await running.wait(60)).aborted
@@ -982,15 +1146,21 @@ def test_a_node_is_gone_in_the_middle_of_a_claim(
 
     async def main() -> None:
         with relaying(postgresql.port) as relay:
-            gone = sagas.open(postgresql.url(url.rpartition("/")[2], port=relay.port), [kind], node="gone")
+            gone = sagas.open(
+                postgresql.url(url.rpartition("/")[2], port=relay.port), [kind], node="gone"
+            )
             store = sagas.open(url, [kind], node="here")
             gone.leased = store.leased = True
             async with store:
-                monkeypatch.setattr(connections, "ABANDONED", connections.ABANDONED.replace("20s", "3s"))
+                monkeypatch.setattr(
+                    connections, "ABANDONED", connections.ABANDONED.replace("20s", "3s")
+                )
                 async with gone:
                     await store.start(kind, "k")
                     with psycopg.connect(url, autocommit=True) as link:
-                        await until(lambda: link.execute("SELECT 1 FROM sagas.external_attempts").fetchall())
+                        await until(
+                            lambda: link.execute("SELECT 1 FROM sagas.external_attempts").fetchall()
+                        )
                     relay.still = b"found AS MATERIALIZED"  # behind the lock
                     claiming = asyncio.create_task(claimed(gone))
                     await until(relay.stands.is_set)
@@ -1008,10 +1178,15 @@ def test_sessions_are_ended_by_the_server(url: str) -> None:
     async def main() -> None:
         with psycopg.connect(url, autocommit=True) as stranger:
             async with sagas.open(url, [kind], lease=60) as store:
-                work = [asyncio.create_task(surely_ended(store, kind, f"k{number}")) for number in range(40)]
+                work = [
+                    asyncio.create_task(surely_ended(store, kind, f"k{number}"))
+                    for number in range(40)
+                ]
                 for _ in range(4):
                     await asyncio.sleep(0.05)
-                    stranger.execute("SELECT pg_terminate_backend(pid) FROM pg_stat_activity WHERE datname = current_database() AND pid <> pg_backend_pid()")
+                    stranger.execute(
+                        "SELECT pg_terminate_backend(pid) FROM pg_stat_activity WHERE datname = current_database() AND pid <> pg_backend_pid()"
+                    )
                 assert all(end.ok for end in await asyncio.gather(*work))
 
     run(main())
@@ -1077,13 +1252,18 @@ def waits_in(url: str) -> bool:
 
 
 READS: dict[str, Callable[[sagas.Store], Awaitable[Any]]] = {
-    "get": lambda store: store.get("k"), "list": lambda store: store.list(),
-    "log": lambda store: store.log("k"), "plan": lambda store: store.plan("k"),
-    "draw": lambda store: store.draw("k"), "stuck": lambda store: store.stuck(),
-    "unknown": lambda store: store.unknown(), "wait": lambda store: store.wait("other's"),
-    "audit": lambda store: store.audit(), "log of a run": lambda store: sagas.Run(store, "k").log(),
+    "get": lambda store: store.get("k"),
+    "list": lambda store: store.list(),
+    "log": lambda store: store.log("k"),
+    "plan": lambda store: store.plan("k"),
+    "draw": lambda store: store.draw("k"),
+    "stuck": lambda store: store.stuck(),
+    "unknown": lambda store: store.unknown(),
+    "wait": lambda store: store.wait("other's"),
+    "audit": lambda store: store.audit(),
+    "log of a run": lambda store: sagas.Run(store, "k").log(),
     "plan of a run": lambda store: sagas.Run(store, "k").plan(),
-}  # fmt: skip
+}
 """All that reads."""
 FREE = {"attempts": ["audit"], "suspensions": ["audit", "draw"]}
 """What does not wait for a locked table, and starts a program, which takes the loop a while."""
@@ -1149,7 +1329,11 @@ def test_the_ends_of_many_sagas_at_once(postgresql: Server, url: str) -> None:
                 asked = [asyncio.ensure_future(store.wait(key)) for key in keys]
                 await asyncio.sleep(0)
             over = await asyncio.wait_for(asyncio.gather(*asked, return_exceptions=True), 60)
-            assert {type(one) for one in over} <= {sagas.SagaResult, sagas.Closed, sagas.StoreUnavailable}
+            assert {type(one) for one in over} <= {
+                sagas.SagaResult,
+                sagas.Closed,
+                sagas.StoreUnavailable,
+            }
 
     run(main())
 
@@ -1219,14 +1403,37 @@ def test_clocks_a_minute_apart_that_jump(url: str) -> None:
 
     async def main() -> None:
         late, early = kind_of("late"), kind_of("early")
-        async with sagas.open(url, [early], node="early", clock=lambda: time.time() + clocks["early"], lease=1.5, concurrency=64) as other:
-            async with sagas.open(url, [late], node="late", clock=lambda: time.time() + clocks["late"], lease=1.5, concurrency=64, shutdown_timeout=0.0) as store:
-                await asyncio.gather(*(store.start(late, f"l{number}") for number in range(10)), *(other.start(early, f"e{number}") for number in range(10)))
+        async with sagas.open(
+            url,
+            [early],
+            node="early",
+            clock=lambda: time.time() + clocks["early"],
+            lease=1.5,
+            concurrency=64,
+        ) as other:
+            async with sagas.open(
+                url,
+                [late],
+                node="late",
+                clock=lambda: time.time() + clocks["late"],
+                lease=1.5,
+                concurrency=64,
+                shutdown_timeout=0.0,
+            ) as store:
+                await asyncio.gather(
+                    *(store.start(late, f"l{number}") for number in range(10)),
+                    *(other.start(early, f"e{number}") for number in range(10)),
+                )
                 await until(lambda: sum("-b-run-" in token for token in calls) == 20)
                 assert set(calls.values()) == {1}
             gate.set()
-            ends = await asyncio.gather(*(other.wait(f"{letter}{number}") for letter in "le" for number in range(10)))
-            assert {(end.results["a"], end.results["b"]) for end in ends} == {("late", "early"), ("early", "early")}
+            ends = await asyncio.gather(
+                *(other.wait(f"{letter}{number}") for letter in "le" for number in range(10))
+            )
+            assert {(end.results["a"], end.results["b"]) for end in ends} == {
+                ("late", "early"),
+                ("early", "early"),
+            }
             assert all(said.startswith("yes") for said in (await other.audit()).values())
 
     run(main())

@@ -34,11 +34,20 @@ def test_two_nodes_and_a_client(url: str, postgresql: Server, tmp_path: pathlib.
     for name in ("trip.py", "node.py", "client.py"):
         (tmp_path / name).write_text(code(name).replace("asyncio.sleep(10)", "asyncio.sleep(3)"))
     environment = os.environ | {
-        "PYTHONPATH": str(pathlib.Path(sagas.__file__).resolve().parents[1]), "SAGAS_PROGRAM": program(), "STORE": url, "PYTHONUNBUFFERED": "1",
-    }  # fmt: skip
+        "PYTHONPATH": str(pathlib.Path(sagas.__file__).resolve().parents[1]),
+        "SAGAS_PROGRAM": program(),
+        "STORE": url,
+        "PYTHONUNBUFFERED": "1",
+    }
 
     def start(*words: str) -> subprocess.Popen[str]:
-        return subprocess.Popen([sys.executable, *words], cwd=tmp_path, env=environment, stdout=subprocess.PIPE, text=True)
+        return subprocess.Popen(
+            [sys.executable, *words],
+            cwd=tmp_path,
+            env=environment,
+            stdout=subprocess.PIPE,
+            text=True,
+        )
 
     with contextlib.ExitStack() as stack:
         nodes = {}
@@ -53,7 +62,10 @@ def test_two_nodes_and_a_client(url: str, postgresql: Server, tmp_path: pathlib.
         while owner is None and time.monotonic() < until:
             # a start that no node has taken yet stands below the table
             table, _, _ = command("store", url, "nodes").stdout.partition("\n\n")
-            owner = next((line.split()[0] for line in table.splitlines()[1:] if line.split()[-1] == "1"), None)
+            owner = next(
+                (line.split()[0] for line in table.splitlines()[1:] if line.split()[-1] == "1"),
+                None,
+            )
             time.sleep(0.05)
         assert owner
         nodes[owner].send_signal(signal.SIGKILL)

@@ -96,9 +96,13 @@ def test_the_rules_are_those_of_the_specification() -> None:
     either = Of("or", (Of("Parameter"), Of("Reference")))
     assert rules["Operation"].fields["parameters"] == Of("list", (either,))
     assert rules["Security Scheme"].required == {
-        "type": "", "name": "apiKey", "in": "apiKey", "scheme": "http", "flows": "oauth2",
+        "type": "",
+        "name": "apiKey",
+        "in": "apiKey",
+        "scheme": "http",
+        "flows": "oauth2",
         "openIdConnectUrl": "openIdConnect",
-    }  # fmt: skip
+    }
     assert (
         rules["Paths"].patterns == {"/.*": Of("Path Item")} and "name" not in rules["Header"].fields
     )
@@ -135,13 +139,16 @@ WRONG: dict[str, tuple[str, Any, str]] = {
     "a tag twice": ("tags", [{"name": "a"}, {"name": "a"}], "a name is there twice"),
     "an id twice": ("paths/~/get/operationId", "startSaga", "an operationId is there twice"),
     "a parameter of no path": (
-        "paths/~/get/parameters", [{"name": "id", "in": "path", "required": True, "schema": {}}],
+        "paths/~/get/parameters",
+        [{"name": "id", "in": "path", "required": True, "schema": {}}],
         "other parameters",
     ),
     "a parameter without a schema": (
-        "paths/~/get/parameters", [{"name": "id", "in": "query"}], "both, or neither",
+        "paths/~/get/parameters",
+        [{"name": "id", "in": "query"}],
+        "both, or neither",
     ),
-}  # fmt: skip
+}
 
 
 @pytest.mark.parametrize("what", WRONG)

@@ -74,10 +74,20 @@ def test_a_forgotten_await(tmp_path: pathlib.Path, how: str, waits: bool) -> Non
 
     async def main() -> None:
         async with sagas.open(tmp_path / "store.db", [saga]) as store:
-            ends = [await ended(store, saga, f"{given}{number}", given) for given in ("well", "task") for number in range(3)]
-            assert all(end.ok and end.results == {"a": {"id": 7}} for end in ends) and told == 6 * [1]
+            ends = [
+                await ended(store, saga, f"{given}{number}", given)
+                for given in ("well", "task")
+                for number in range(3)
+            ]
+            assert all(end.ok and end.results == {"a": {"id": 7}} for end in ends) and told == 6 * [
+                1
+            ]
             end = await ended(store, saga, "bad", "fails")
-            assert end.states == {"a": "failed"} and end.errors == {"a": "ValueError: no"} and told[6:] == [1, 2]
+            assert (
+                end.states == {"a": "failed"}
+                and end.errors == {"a": "ValueError: no"}
+                and told[6:] == [1, 2]
+            )
 
     run(main())
 
@@ -141,7 +151,10 @@ def test_a_result_that_could_not_be_stored(place: str) -> None:
             assert end.ok
             ways: tuple[Any, ...] = (send, "send")
             for step in ways:
-                with pytest.raises(sagas.ResultNotSerializable, match="step 'send' returned a value that is not JSON: object is not JSON"):
+                with pytest.raises(
+                    sagas.ResultNotSerializable,
+                    match="step 'send' returned a value that is not JSON: object is not JSON",
+                ):
                     end.result_of(step)
             with pytest.raises(KeyError, match="unknown step 'sent': the steps are send, look"):
                 end.result_of("sent")
@@ -151,7 +164,9 @@ def test_a_result_that_could_not_be_stored(place: str) -> None:
                 end.result_of("send")
 
     run(main())
-    assert len(told) == 4 and told[0].startswith("ResultNotSerializable: step 'send' returned a value that is not JSON")
+    assert len(told) == 4 and told[0].startswith(
+        "ResultNotSerializable: step 'send' returned a value that is not JSON"
+    )
 
 
 def test_a_set_crosses(place: str) -> None:
@@ -164,7 +179,9 @@ def test_a_set_crosses(place: str) -> None:
 
     @saga.step(needs=[seats])
     def send(task: Task) -> bool:
-        return task.result_of(seats) == {1, 2} == task.result_of("seats") and isinstance(task.result_of("seats"), set)
+        return task.result_of(seats) == {1, 2} == task.result_of("seats") and isinstance(
+            task.result_of("seats"), set
+        )
 
     async def main() -> sagas.SagaResult:
         async with sagas.open(place, [saga]) as store:
@@ -223,7 +240,9 @@ def test_raises(place: str, caplog: pytest.LogCaptureFixture) -> None:
 
     end = run(main())
     assert end.phase == "recovered" and end.states == {"a": "failed"} and attempts == [1, 2, 3]
-    assert end.errors == {"a": "ValueError: no"} and str(end).endswith("failed    a: ValueError: no")
+    assert end.errors == {"a": "ValueError: no"} and str(end).endswith(
+        "failed    a: ValueError: no"
+    )
     assert run(main()) == end  # it is over: what is told is read from the store
     told = [record for record in caplog.records if record.name == "sagas"]
     assert [record.levelname for record in told] == 3 * ["WARNING"]
@@ -248,15 +267,26 @@ def test_raises_fail(place: str, group: bool) -> None:
             return await ended(store, saga)
 
     end = run(main())
-    assert end.states == {"a": "failed"} and end.errors == {"a": "sagas.Fail: for good"} and attempts == [1]
+    assert (
+        end.states == {"a": "failed"}
+        and end.errors == {"a": "sagas.Fail: for good"}
+        and attempts == [1]
+    )
     outcomes = [result.outcome for result in records.read(place).results.values()]
     assert sorted(outcomes) == ["fail"] + 8 * ["missed"]
 
 
-GROUP = ExceptionGroup("unhandled errors in a TaskGroup", [ValueError("no"), ExceptionGroup("within", [TimeoutError("?"), sagas.Fail("for good")])])
+GROUP = ExceptionGroup(
+    "unhandled errors in a TaskGroup",
+    [ValueError("no"), ExceptionGroup("within", [TimeoutError("?"), sagas.Fail("for good")])],
+)
 
 
-@pytest.mark.parametrize("error", [sagas.Unknown("?"), TimeoutError("?"), ConnectionResetError("?"), KeyError("?"), GROUP], ids=lambda error: type(error).__name__)
+@pytest.mark.parametrize(
+    "error",
+    [sagas.Unknown("?"), TimeoutError("?"), ConnectionResetError("?"), KeyError("?"), GROUP],
+    ids=lambda error: type(error).__name__,
+)
 def test_raises_unknown(place: str, error: Exception) -> None:
     """Nobody knows: the same attempt again, with the same token, and nothing is reported; by default for timeouts and lost connections. The log says how often."""
     tokens: list[str] = []
@@ -271,7 +301,13 @@ def test_raises_unknown(place: str, error: Exception) -> None:
     async def main() -> sagas.SagaResult:
         words = {"unknown": (KeyError,)} if isinstance(error, KeyError) else {}
         saga = simple(lost, **words)
-        async with sagas.open(place, [saga], on_event=lambda event: told.append(event.detail or "") if event.name == "step_unknown" else None) as store:
+        async with sagas.open(
+            place,
+            [saga],
+            on_event=lambda event: told.append(event.detail or "")
+            if event.name == "step_unknown"
+            else None,
+        ) as store:
             return await ended(store, saga)
 
     assert run(main()).ok and len(tokens) == 3 and len(set(tokens)) == 1
@@ -296,15 +332,27 @@ def test_a_failure_that_came_from_a_timeout(place: str) -> None:
 
     async def main() -> None:
         saga = simple(asks)
-        async with sagas.open(place, [saga], on_event=lambda event: told.append(event.detail or "") if event.name == "step_failed" else None) as store:
+        async with sagas.open(
+            place,
+            [saga],
+            on_event=lambda event: told.append(event.detail or "")
+            if event.name == "step_failed"
+            else None,
+        ) as store:
             for given in ("from", "while", "from None"):
                 assert (await ended(store, saga, given, given)).states == {"a": "failed"}
 
     run(main())
-    assert [text.count("its cause is TimeoutError") for text in told] == [1, 1, 0] and "unknown=(test_outcomes." in told[0]
+    assert [text.count("its cause is TimeoutError") for text in told] == [
+        1,
+        1,
+        0,
+    ] and "unknown=(test_outcomes." in told[0]
 
 
-def test_a_function_that_holds_the_loop(tmp_path: pathlib.Path, caplog: pytest.LogCaptureFixture, monkeypatch: pytest.MonkeyPatch) -> None:
+def test_a_function_that_holds_the_loop(
+    tmp_path: pathlib.Path, caplog: pytest.LogCaptureFixture, monkeypatch: pytest.MonkeyPatch
+) -> None:
     """It is named in the log, once: it returned, raised or waited behind that. One in a thread holds nobody up, nor does one that waits."""
     monkeypatch.setattr("sagas.runtime.dispatcher.LONG", 0.1)
     saga = sagas.Saga("shop")
@@ -337,9 +385,20 @@ def test_a_function_that_holds_the_loop(tmp_path: pathlib.Path, caplog: pytest.L
             await ended(store, saga, "two", 0)
 
     run(main())
-    told = [record.getMessage().split(" blocked the event loop for ") for record in caplog.records if "blocked the event loop" in record.getMessage()]
-    assert [whose for whose, _ in told] == ["saga 'shop': step 'returns'", "saga 'shop': step 'waits'", "saga 'shop': step 'raises'"]
-    assert all(rest.endswith(" s. Make it a plain function (def), which runs in a thread") for _, rest in told)
+    told = [
+        record.getMessage().split(" blocked the event loop for ")
+        for record in caplog.records
+        if "blocked the event loop" in record.getMessage()
+    ]
+    assert [whose for whose, _ in told] == [
+        "saga 'shop': step 'returns'",
+        "saga 'shop': step 'waits'",
+        "saga 'shop': step 'raises'",
+    ]
+    assert all(
+        rest.endswith(" s. Make it a plain function (def), which runs in a thread")
+        for _, rest in told
+    )
 
 
 def test_unknown_waits_for_its_back_off(place: str) -> None:
@@ -413,7 +472,9 @@ def test_unknown_for_too_long_waits_for_a_person(place: str, most: Any, done: bo
         before = len(calls)
         async with sagas.open(place, [saga]) as store:
             (held,) = await store.unknown()
-            assert (held.key, held.step, held.asked) == ("k", "a", True) and "no answer" in (held.error or "")
+            assert (held.key, held.step, held.asked) == ("k", "a", True) and "no answer" in (
+                held.error or ""
+            )
             if done:
                 await store.complete("k", "a", "it was done")
             else:
@@ -443,7 +504,9 @@ def test_ends_well_after_its_time_in_a_thread(place: str) -> None:
             return await ended(store, saga)
 
     assert run(main()).results == {"a": 7} and len(calls) == 1
-    assert [(event.name, event.key, event.step) for event in told if event.name == "step_overdue"] == [("step_overdue", "k", "a")]
+    assert [
+        (event.name, event.key, event.step) for event in told if event.name == "step_overdue"
+    ] == [("step_overdue", "k", "a")]
     (done,) = (event for event in told if event.name == "step_succeeded")
     assert done.seconds is not None and 0.19 < done.seconds < 60
 
@@ -493,15 +556,26 @@ def test_tokens(place: str) -> None:
     assert run(main()).states == {"a": "undone", "b": "failed"}
     done, first, second, undo, undo_again = tasks
     assert first.idempotency_key == second.idempotency_key and first.attempt_id != second.attempt_id
-    assert undo.idempotency_key == undo_again.idempotency_key and undo.attempt_id != undo_again.attempt_id
+    assert (
+        undo.idempotency_key == undo_again.idempotency_key
+        and undo.attempt_id != undo_again.attempt_id
+    )
     assert undo.original_idempotency_key == done.idempotency_key != undo.idempotency_key
     assert undo.is_compensation and undo.result == "A" and not done.is_compensation
     assert len({task.attempt_id for task in tasks}) == 5
     name = next(iter(records.read(place).logs.values())).name
     assert all(task.attempt_id.startswith(f"{name}-0-") for task in tasks)
-    for copied in (*map(copy.deepcopy, tasks), *(pickle.loads(pickle.dumps(task)) for task in tasks)):
+    for copied in (
+        *map(copy.deepcopy, tasks),
+        *(pickle.loads(pickle.dumps(task)) for task in tasks),
+    ):
         (task,) = [task for task in tasks if task.attempt_id == copied.attempt_id]
-        assert (copied.key, copied.results, copied.result, copied.attempt) == (task.key, task.results, task.result, task.attempt)
+        assert (copied.key, copied.results, copied.result, copied.attempt) == (
+            task.key,
+            task.results,
+            task.result,
+            task.attempt,
+        )
 
 
 def test_a_logs_name_is_used_once(tmp_path: pathlib.Path) -> None:

@@ -47,19 +47,33 @@ def build(drawn: list[StepDraw], failures: Failures) -> sagas.Saga:
         return act(task)
 
     for number, one in enumerate(drawn):
-        words: dict[str, Any] = {"run": price(one.run), "skip": price(one.skip), "keep": price(one.keep), "tries": one.tries}
+        words: dict[str, Any] = {
+            "run": price(one.run),
+            "skip": price(one.skip),
+            "keep": price(one.keep),
+            "tries": one.tries,
+        }
         needs = [drawn[need].name for need in one.needs]
         if one.undo != "never":
             words["undo"] = price(one.undo)
-        step = saga.step(name=one.name, needs=needs, backoff=NO_WAIT, **words)(act if number % 2 else act_in_loop)
+        step = saga.step(name=one.name, needs=needs, backoff=NO_WAIT, **words)(
+            act if number % 2 else act_in_loop
+        )
         if one.undo != "never":
-            step.compensation(tries=one.undo_tries, backoff=NO_WAIT, on_exhausted="fail")(act_in_loop if number % 2 else act)
+            step.compensation(tries=one.undo_tries, backoff=NO_WAIT, on_exhausted="fail")(
+                act_in_loop if number % 2 else act
+            )
     return saga
 
 
 def failures_of(drawn: list[StepDraw]) -> st.SearchStrategy[Failures]:
     """Failures of some steps, for some attempts or for all."""
-    keys = [(step.name, kind) for step in drawn for kind in ("run", "undo") if kind == "run" or step.undo != "never"]
+    keys = [
+        (step.name, kind)
+        for step in drawn
+        for kind in ("run", "undo")
+        if kind == "run" or step.undo != "never"
+    ]
     return st.dictionaries(st.sampled_from(keys), st.integers(1, 3), max_size=4)
 
 
@@ -68,7 +82,13 @@ def same_definition(drawn: list[StepDraw], saga: sagas.Saga) -> None:
     wanted, written = Definition.read(toml("random", drawn)), Definition.read(saga.toml())
     for one, other in zip(wanted.steps, written.steps):
         assert (one.name, one.needs, one.run, one.undo, one.skip, one.keep, one.tries) == (
-            other.name, other.needs, other.run, other.undo, other.skip, other.keep, other.tries,
+            other.name,
+            other.needs,
+            other.run,
+            other.undo,
+            other.skip,
+            other.keep,
+            other.tries,
         )
 
 
@@ -104,13 +124,21 @@ def test_a_store_keeps_the_rules(data: st.DataObject) -> None:
         assert (end.phase, list(end.states.values()), end.aborted) == told(state)
         answer = state.answer or {"cost": 0}
         assert (end.cost or 0) == answer.get("cost", 0)
-        assert set(end.results) == {step for step, word in end.states.items() if word in ("committed", "undo_failed")}
+        assert set(end.results) == {
+            step for step, word in end.states.items() if word in ("committed", "undo_failed")
+        }
         assert all(value == f"{step} is done" for step, value in end.results.items())
 
 
 def told(state: Any) -> tuple[str, list[str], bool]:
     """The follower's saga in the words of the package."""
-    phase = "stuck" if state.phase == "stuck" else "recovered" if (state.answer or {}).get("kind") == "plan" else "completed"
+    phase = (
+        "stuck"
+        if state.phase == "stuck"
+        else "recovered"
+        if (state.answer or {}).get("kind") == "plan"
+        else "completed"
+    )
     states = ["undo_failed" if word == "fixed" else word for word in state.states]
     return phase, states, state.aborted
 

@@ -29,22 +29,46 @@ INTERPRETER = 3
 def folder(tmp_path_factory: pytest.TempPathFactory) -> pathlib.Path:
     """An empty folder with the package beside it, and `python`, `pip` and `sagas` of an environment that has it installed by the page's first command."""
     folder = tmp_path_factory.mktemp("page")
-    subprocess.run([sys.executable, "-m", "venv", "--without-pip", "environment"], cwd=folder, check=True)
+    subprocess.run(
+        [sys.executable, "-m", "venv", "--without-pip", "environment"], cwd=folder, check=True
+    )
     (folder / "python").symlink_to(PACKAGE)
-    words = [sys.executable, "-m", "pip", "--python", str(folder / "environment/bin/python"), "install", "--no-index", "-q", "./python"]
+    words = [
+        sys.executable,
+        "-m",
+        "pip",
+        "--python",
+        str(folder / "environment/bin/python"),
+        "install",
+        "--no-index",
+        "-q",
+        "./python",
+    ]
     subprocess.run(words, cwd=folder, check=True, env=clean(), capture_output=True)
     return folder
 
 
 def clean() -> dict[str, str]:
-    return {name: value for name, value in os.environ.items() if not name.startswith(("PYTHON", "SAGAS", "PIP"))}
+    return {
+        name: value
+        for name, value in os.environ.items()
+        if not name.startswith(("PYTHON", "SAGAS", "PIP"))
+    }
 
 
 def shell(folder: pathlib.Path, command: str) -> str:
     """What a command prints; unbuffered, so that what was printed before a kill is there."""
     path = f"{folder / 'environment/bin'}:{os.environ['PATH']}"
     env = clean() | {"PATH": path, "PYTHONUNBUFFERED": "1"}
-    return subprocess.run(["bash", "-c", command], cwd=folder, env=env, stdout=subprocess.PIPE, stderr=subprocess.STDOUT, text=True, timeout=60).stdout
+    return subprocess.run(
+        ["bash", "-c", command],
+        cwd=folder,
+        env=env,
+        stdout=subprocess.PIPE,
+        stderr=subprocess.STDOUT,
+        text=True,
+        timeout=60,
+    ).stdout
 
 
 def blocks(language: str, page: str = PAGE) -> list[str]:
@@ -96,7 +120,9 @@ def test_the_guide_to_steps() -> None:
 def test_the_commands(folder: pathlib.Path) -> None:
     """`sagas` and `python -m sagas` are the program; `sagas store` looks at the store."""
     root = PACKAGE.parent / "examples"
-    case = f"check {root / 'licence.toml'} {root / 'licence.case.json'} {root / 'licence.answer.json'}"
+    case = (
+        f"check {root / 'licence.toml'} {root / 'licence.case.json'} {root / 'licence.answer.json'}"
+    )
     for command in ("sagas", "python -m sagas"):
         assert shell(folder, f"{command} --version").startswith("sagas ")
         assert shell(folder, f"{command} {case}") == "blocked\n"
@@ -106,8 +132,16 @@ def test_the_commands(folder: pathlib.Path) -> None:
 
 def test_the_help(folder: pathlib.Path) -> None:
     """Also where what PostgreSQL and Celery need is not installed."""
-    told = shell(folder, "python -m pydoc sagas; python -c 'from sagas import *; import inspect, sagas; print(len(inspect.getmembers(sagas)), open_sync)'")
-    assert "NAME\n    sagas" in told and "SyncStore" in told and "Error" not in told.splitlines()[-1] and "<function open_sync" in told.splitlines()[-1]
+    told = shell(
+        folder,
+        "python -m pydoc sagas; python -c 'from sagas import *; import inspect, sagas; print(len(inspect.getmembers(sagas)), open_sync)'",
+    )
+    assert (
+        "NAME\n    sagas" in told
+        and "SyncStore" in told
+        and "Error" not in told.splitlines()[-1]
+        and "<function open_sync" in told.splitlines()[-1]
+    )
 
 
 @pytest.fixture

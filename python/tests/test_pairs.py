@@ -235,7 +235,9 @@ def test_options_in_pairs(place: str, concurrency: int, tmp_path: Any) -> None:
     async def lot(number: int, some: list[Case]) -> None:
         where = place if inside else str(tmp_path / f"store-{number}.db")
         kinds = {case.name: case.saga() for case in some}
-        async with sagas.open(where, kinds.values(), concurrency=concurrency, shutdown_timeout=1) as store:
+        async with sagas.open(
+            where, kinds.values(), concurrency=concurrency, shutdown_timeout=1
+        ) as store:
             keys = {f"{case.name}-{key}": case for case in some for key in KEYS}
             answering = asyncio.create_task(answer(store, list(keys)))
             jobs = {

@@ -129,7 +129,10 @@ def test_a_start_has_a_limit(
         async with sagas.Client(store, connections=2) as client:
             await asyncio.to_thread(away.go)
             for _ in range(2):
-                with pytest.raises(sagas.StoreUnavailable, match="unknown whether the saga was started. Start it again"):
+                with pytest.raises(
+                    sagas.StoreUnavailable,
+                    match="unknown whether the saga was started. Start it again",
+                ):
                     await client.start(kind, "k")
                 assert away.rows(there, store.rpartition("/")[2]) == []
             assert away.waiting() == 1
@@ -164,7 +167,9 @@ def test_a_canceled_wait_is_no_acknowledgement(away: Away, store: str, kind: sag
             first = asyncio.create_task(client.start(kind, "k"))
             await until(away.waiting)
             away.cancel()
-            with pytest.raises(sagas.StoreUnavailable, match="a synchronous standby may not have it"):
+            with pytest.raises(
+                sagas.StoreUnavailable, match="a synchronous standby may not have it"
+            ):
                 await first
             for plain in (False, True):
                 second = asyncio.create_task(started(store, client, kind, plain))
@@ -175,7 +180,9 @@ def test_a_canceled_wait_is_no_acknowledgement(away: Away, store: str, kind: sag
                     assert not await second
                 else:
                     away.cancel()
-                    with pytest.raises(sagas.StoreUnavailable, match="a synchronous standby may not"):
+                    with pytest.raises(
+                        sagas.StoreUnavailable, match="a synchronous standby may not"
+                    ):
                         await second
 
     run(main())
@@ -195,11 +202,15 @@ def test_a_canceled_wait_over_a_given_connection(
         async with sagas.Client(store) as client:
             async with await psycopg.AsyncConnection.connect(store, autocommit=True) as link:
                 await asyncio.to_thread(away.go)
-                work = asyncio.to_thread(start) if plain else client.start(kind, "k", connection=link)
+                work = (
+                    asyncio.to_thread(start) if plain else client.start(kind, "k", connection=link)
+                )
                 first = asyncio.ensure_future(work)
                 await until(away.waiting)
                 away.cancel()
-                with pytest.raises(sagas.StoreUnavailable, match="a synchronous standby may not have"):
+                with pytest.raises(
+                    sagas.StoreUnavailable, match="a synchronous standby may not have"
+                ):
                     await first
 
     run(main())
@@ -237,7 +248,11 @@ def test_a_canceled_wait_of_a_node(away: Away, store: str) -> None:
                 await until(lambda: away.rows(f"SELECT 1 {WAITS} AND query LIKE '%event_log%'"))
                 away.cancel()
                 await until(lambda: "commit_failed" in told)
-                await until(lambda: away.rows(f"SELECT 1 {WAITS} AND (query = 'COMMIT' OR query LIKE '%takeovers%')"))
+                await until(
+                    lambda: away.rows(
+                        f"SELECT 1 {WAITS} AND (query = 'COMMIT' OR query LIKE '%takeovers%')"
+                    )
+                )
                 assert await two._inside.store.find("k")
                 other = asyncio.create_task(two.start(kind, "k"))
                 await until(lambda: away.rows(f"SELECT 1 {WAITS} AND query LIKE '%emit%'"))
@@ -265,10 +280,14 @@ def test_a_start_over_http_has_a_limit(
             await opened.wait()
             name, port = listening.getsockname()
             async with httpx.AsyncClient(base_url=f"http://{name}:{port}", timeout=15) as client:
-                assert (await client.post("/v1/sagas", json=body | {"key": "first"})).status_code == 201
+                assert (
+                    await client.post("/v1/sagas", json=body | {"key": "first"})
+                ).status_code == 201
                 await asyncio.to_thread(away.go)
                 late = await client.post("/v1/sagas", json=body)
-                assert late.status_code == 503 and "send the same request again" in late.text.lower()
+                assert (
+                    late.status_code == 503 and "send the same request again" in late.text.lower()
+                )
                 await asyncio.to_thread(away.come)
                 again = await client.post("/v1/sagas", json=body)
                 assert again.status_code == 200 and again.json()["key"] == "k"

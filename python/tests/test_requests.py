@@ -26,7 +26,8 @@ def signed() -> sagas.Saga:
     signed = sagas.Saga("signed")
 
     @signed.approval
-    def sign(task: Task) -> None: ...
+    def sign(task: Task) -> None:
+        ...
 
     return signed
 
@@ -94,7 +95,9 @@ def test_who_asked_is_gone_when_another_saga_has_the_key(
         stranger = await psycopg.AsyncConnection.connect(url, options="-c search_path=sagas")
         async with sagas.Client(url) as client, sagas.open(url, [other]) as store, stranger:
             await client.start(kind, "k", "first")
-            link.execute("UPDATE pending_starts SET node = (SELECT node FROM nodes)")  # it is not taken back
+            link.execute(
+                "UPDATE pending_starts SET node = (SELECT node FROM nodes)"
+            )  # it is not taken back
             await stranger.execute("LOCK TABLE operator_commands, pending_starts IN EXCLUSIVE MODE")
             asking = asyncio.create_task(ask(client if by == "client" else store))
             await until(lambda: one(link, BLOCKED))
@@ -189,12 +192,16 @@ def test_what_was_asked_of_a_saga_that_is_gone(
         async with sagas.open(url, [kind]) as store:
             await store.start(kind, "k")
             link.execute(text)
-            await asyncio.to_thread(store_command.main, [url, "abort", "nobody"])  # the nodes hear of it
+            await asyncio.to_thread(
+                store_command.main, [url, "abort", "nobody"]
+            )  # the nodes hear of it
             await waits_for_a_person(url, store, "k")
             with pytest.raises(sagas.NoSuchSaga):
                 await store._commands.abort("k", None, of=5000)
             with pytest.raises(sagas.NoSuchSaga):
-                await store._commands.report("k", "sign", sagas.core.outcomes.succeeded("x"), False, None, of=5000)
+                await store._commands.report(
+                    "k", "sign", sagas.core.outcomes.succeeded("x"), False, None, of=5000
+                )
 
     run(main())
 
@@ -240,17 +247,23 @@ def test_what_is_asked_as_a_start_with_a_large_input_becomes_a_saga(
     async def ask(who: sagas.Client | sagas.Store) -> Any:
         if what == "abort":
             return await who.abort("k")
-        return await (who.complete("k", "sign", "yes") if what == "complete" else who.fail("k", "sign", "no"))
+        return await (
+            who.complete("k", "sign", "yes") if what == "complete" else who.fail("k", "sign", "no")
+        )
 
     async def main() -> None:
         words = {"blobs": blobs, "blob_threshold": 256}
         commits = await psycopg.AsyncConnection.connect(url, options="-c search_path=sagas")
         holds = await psycopg.AsyncConnection.connect(url, options="-c search_path=sagas")
-        async with sagas.Client(url, blobs=blobs) as client, sagas.open(url, [other], **words) as store:
+        async with sagas.Client(url, blobs=blobs) as client, sagas.open(
+            url, [other], **words
+        ) as store:
             async with sagas.open(url, [kind], **words) as node, commits, holds:
                 await commits.execute("LOCK TABLE event_log IN EXCLUSIVE MODE")
                 await client.start(kind, "k", "large" * 100)
-                await until(lambda: one(link, "SELECT count(*) FROM pending_starts WHERE node IS NOT NULL"))
+                await until(
+                    lambda: one(link, "SELECT count(*) FROM pending_starts WHERE node IS NOT NULL")
+                )
                 await until(lambda: one(link, BLOCKED))
                 await holds.execute("SELECT 1 FROM pending_starts FOR UPDATE")
                 await commits.commit()
@@ -261,7 +274,11 @@ def test_what_is_asked_as_a_start_with_a_large_input_becomes_a_saga(
                 async with asyncio.timeout(60):
                     assert await asking is (True if what == "abort" else None)
                     end = await node.wait("k")
-                assert end.aborted if what == "abort" else end.states["sign"] == ("failed" if what == "fail" else "committed")
+                assert (
+                    end.aborted
+                    if what == "abort"
+                    else end.states["sign"] == ("failed" if what == "fail" else "committed")
+                )
                 assert one(link, "SELECT input FROM sagas").startswith('{"$blob"')
         assert asked(link) == 0
 

@@ -53,15 +53,28 @@ class World:
             await asyncio.sleep(0.02)
 
 
-@pytest.mark.parametrize(("room", "is_quiet", "is_snapshot"), [(1000, False, False), (1000, True, False), (1, True, False), (1000, False, True)])
+@pytest.mark.parametrize(
+    ("room", "is_quiet", "is_snapshot"),
+    [(1000, False, False), (1000, True, False), (1, True, False), (1000, False, True)],
+)
 def test_a_backup_is_restored_under_a_running_node(
-    postgresql: Server, url: str, monkeypatch: pytest.MonkeyPatch, caplog: pytest.LogCaptureFixture, room: int, is_quiet: bool, is_snapshot: bool
+    postgresql: Server,
+    url: str,
+    monkeypatch: pytest.MonkeyPatch,
+    caplog: pytest.LogCaptureFixture,
+    room: int,
+    is_quiet: bool,
+    is_snapshot: bool,
 ) -> None:
     """The node takes up its shards as the backup has them, also where it has nothing to write, and says why: what was open then ends, and what came
     later is not there and can be started again, under other idempotency keys. No log has a gap."""
     monkeypatch.setattr("sagas.definition.shelf.SHARD_CAPACITY", room)
     world = World()
-    back_up, restore = (postgresql.snapshot, postgresql.go_back) if is_snapshot else (postgresql.back_up, postgresql.restore)
+    back_up, restore = (
+        (postgresql.snapshot, postgresql.go_back)
+        if is_snapshot
+        else (postgresql.back_up, postgresql.restore)
+    )
 
     async def main() -> None:
         async with sagas.open(url, [world.saga], lease=60, shutdown_timeout=1) as store:
@@ -87,8 +100,14 @@ def test_a_backup_is_restored_under_a_running_node(
             assert all(said.startswith("yes") for said in (await store.audit()).values())
 
     run(main())
-    errors = [record.message for record in caplog.records if record.levelname == "ERROR" and "commit_failed" not in record.message]
-    assert len(errors) == 1 and "the database lacks commits that this node wrote" in errors[0], errors
+    errors = [
+        record.message
+        for record in caplog.records
+        if record.levelname == "ERROR" and "commit_failed" not in record.message
+    ]
+    assert (
+        len(errors) == 1 and "the database lacks commits that this node wrote" in errors[0]
+    ), errors
     assert all(len(calls) == 1 for calls in world.keys.values()), world.keys
     assert world.calls["waits", "b"] == world.calls["over", "b"] == 1
 

@@ -97,41 +97,74 @@ def change(place: str, statement: str) -> None:
 def age(place: str, *logs: int, days: int = 40) -> None:
     """The sagas of these logs ended that long ago."""
     for log in logs:
-        change(place, f"UPDATE sagas SET ended = ended - {days} * 86400.0 WHERE id >= {1000 * log} AND id < {1000 * (log + 1)}")
+        change(
+            place,
+            f"UPDATE sagas SET ended = ended - {days} * 86400.0 WHERE id >= {1000 * log} AND id < {1000 * (log + 1)}",
+        )
 
 
-async def fill(place: str, kind: sagas.Saga, count: int, given: Callable[[int], Any] = lambda number: None) -> list[int]:
+async def fill(
+    place: str, kind: sagas.Saga, count: int, given: Callable[[int], Any] = lambda number: None
+) -> list[int]:
     """Sagas that are over, in logs that are closed but for the last; gives the numbers of those that are closed."""
     async with sagas.open(place, [kind]) as store:
         for number in range(count):
             await ended(store, kind, f"k{number}", given(number))
-        await until(lambda: sum(log.closed for log in records.read(place).logs.values()) == count // ROOM)
+        await until(
+            lambda: sum(log.closed for log in records.read(place).logs.values()) == count // ROOM
+        )
     return sorted(log.log for log in records.read(place).logs.values() if log.closed)
 
 
 def tables(place: str) -> dict[str, int]:
     """How many rows each table has."""
     with contextlib.closing(admin.connect(place)) as link:
-        return {table: link.ask(f"SELECT count(*) FROM {table}")[0][0] for table in ("shards", "event_log", "sagas", "attempts", "suspensions", "operator_commands", "external_attempts")}
+        return {
+            table: link.ask(f"SELECT count(*) FROM {table}")[0][0]
+            for table in (
+                "shards",
+                "event_log",
+                "sagas",
+                "attempts",
+                "suspensions",
+                "operator_commands",
+                "external_attempts",
+            )
+        }
 
 
-def test_old_logs_go_as_a_whole_and_their_keys_are_free(place: str, capsys: pytest.CaptureFixture[str]) -> None:
+def test_old_logs_go_as_a_whole_and_their_keys_are_free(
+    place: str, capsys: pytest.CaptureFixture[str]
+) -> None:
     """What is younger, open or not closed stays; of what goes nothing is left; a key that is free takes another input."""
     kind = shop()
     first, second, third = run(fill(place, kind, 3 * ROOM + 2))
     open = max(records.read(place).logs)
     age(place, first, second, open)
-    change(place, f"UPDATE sagas SET ended = ended + 86400 * 39 WHERE id = {1000 * second}")  # one of its sagas is younger
-    change(place, "INSERT INTO operator_commands(key, command, value, at, answer) VALUES('k0', 'abort', 'null', 1, 'false')")
+    change(
+        place, f"UPDATE sagas SET ended = ended + 86400 * 39 WHERE id = {1000 * second}"
+    )  # one of its sagas is younger
+    change(
+        place,
+        "INSERT INTO operator_commands(key, command, value, at, answer) VALUES('k0', 'abort', 'null', 1, 'false')",
+    )
     before = tables(place)
     assert store_command.main([place, "prune", "--older-than", "30d", "--json"]) == 0
     told = json.loads(capsys.readouterr().out)
     kept = records.read(place)
     assert told["sagas"] == ROOM and len(told["shards"]) == 1 and not told["more"]
-    assert sorted(kept.logs) == [second, third, open] and set(kept.sagas) == {f"k{number}" for number in range(ROOM, 3 * ROOM + 2)}
+    assert sorted(kept.logs) == [second, third, open] and set(kept.sagas) == {
+        f"k{number}" for number in range(ROOM, 3 * ROOM + 2)
+    }
     after = tables(place)
     assert {table: before[table] - after[table] for table in before} == {
-        "shards": 1, "event_log": before["event_log"] - after["event_log"], "sagas": ROOM, "attempts": 2 * ROOM, "suspensions": 0, "operator_commands": 1, "external_attempts": 0,
+        "shards": 1,
+        "event_log": before["event_log"] - after["event_log"],
+        "sagas": ROOM,
+        "attempts": 2 * ROOM,
+        "suspensions": 0,
+        "operator_commands": 1,
+        "external_attempts": 0,
     }
     assert not any(row // 1000 == first for row in {id for id, _, _, _ in kept.results})
 
@@ -147,7 +180,9 @@ def test_old_logs_go_as_a_whole_and_their_keys_are_free(place: str, capsys: pyte
 
     def is_closed(log: int) -> bool:
         with contextlib.closing(admin.connect(place)) as link:
-            return [tuple(row) for row in link.ask(f"SELECT closed FROM shards WHERE shard = {log}")] == [(1,)]
+            return [
+                tuple(row) for row in link.ask(f"SELECT closed FROM shards WHERE shard = {log}")
+            ] == [(1,)]
 
     run(again())
     assert store_command.main([place, "prune", "--older-than", "0s"]) == 0
@@ -159,7 +194,9 @@ def test_what_a_person_has_to_see_stays(place: str) -> None:
     kind = must()
 
     async def main() -> None:
-        first, second = await fill(place, kind, 2 * ROOM, lambda number: "stuck" if number == 1 else None)
+        first, second = await fill(
+            place, kind, 2 * ROOM, lambda number: "stuck" if number == 1 else None
+        )
         change(place, f"UPDATE shards SET closed = 2 WHERE shard = {second}")
         age(place, first, second)
         assert retention.prune(place, MONTH).logs == []
@@ -206,28 +243,54 @@ def test_an_export_is_what_the_audit_judges(place: str, tmp_path: pathlib.Path) 
     whole = folder / name
     assert [path.name for path in folder.iterdir()] == [name] and records.read(place).logs == {}
     about = json.loads((whole / "about.json").read_text())
-    assert audit(whole / "log", [whole / "definition-00.toml"]) == about["audit"] and about["audit"].startswith(f"yes sagas {ROOM}")
-    told = {row["key"]: row for row in map(json.loads, (whole / "sagas.jsonl").read_text().splitlines())}
+    assert audit(whole / "log", [whole / "definition-00.toml"]) == about["audit"] and about[
+        "audit"
+    ].startswith(f"yes sagas {ROOM}")
+    told = {
+        row["key"]: row for row in map(json.loads, (whole / "sagas.jsonl").read_text().splitlines())
+    }
     for key, row in before.sagas.items():
         plans = key in ("k1", "k3")
-        assert (told[key]["number"], told[key]["input"], told[key]["phase"], told[key]["end"]) == (row.number, row.input, "recovered" if plans else "completed", row.end)
-        assert [one["value"] for one in told[key]["results"] if one["outcome"] == "commit"][0] == {"of": key}
+        assert (told[key]["number"], told[key]["input"], told[key]["phase"], told[key]["end"]) == (
+            row.number,
+            row.input,
+            "recovered" if plans else "completed",
+            row.end,
+        )
+        assert [one["value"] for one in told[key]["results"] if one["outcome"] == "commit"][0] == {
+            "of": key
+        }
     plans = [json.loads(line) for line in (whole / "plans.jsonl").read_text().splitlines()]
     assert {plan["key"] for plan in plans} == {"k1", "k3"}
     for plan in plans:
         (tmp_path / "case.json").write_text(json.dumps(plan["case"]))
         (tmp_path / "answer.json").write_text(json.dumps(plan["answer"]))
-        words = [program(), "check", str(whole / "definition-00.toml"), str(tmp_path / "case.json"), str(tmp_path / "answer.json")]
+        words = [
+            program(),
+            "check",
+            str(whole / "definition-00.toml"),
+            str(tmp_path / "case.json"),
+            str(tmp_path / "answer.json"),
+        ]
         assert subprocess.run(words, capture_output=True, text=True).stdout.startswith("least ")
 
 
-def test_nothing_goes_that_cannot_be_exported(place: str, tmp_path: pathlib.Path, capsys: pytest.CaptureFixture[str]) -> None:
+def test_nothing_goes_that_cannot_be_exported(
+    place: str, tmp_path: pathlib.Path, capsys: pytest.CaptureFixture[str]
+) -> None:
     """A folder that cannot be made: the command says so, and the log stays."""
     logs = run(fill(place, shop(), ROOM))
     age(place, *logs)
     (tmp_path / "file").touch()
-    assert store_command.main([place, "prune", "--older-than", "30d", "--export", str(tmp_path / "file")]) == 4
-    assert "cannot write to" in capsys.readouterr().err and set(records.read(place).logs) == set(logs)
+    assert (
+        store_command.main(
+            [place, "prune", "--older-than", "30d", "--export", str(tmp_path / "file")]
+        )
+        == 4
+    )
+    assert "cannot write to" in capsys.readouterr().err and set(records.read(place).logs) == set(
+        logs
+    )
     with pytest.raises(SystemExit):
         store_command.main([place, "prune", "--older-than", "soon"])
 
@@ -282,10 +345,16 @@ def test_a_run_that_is_killed(place: str, tmp_path: pathlib.Path) -> None:
 
 def files(folder: pathlib.Path) -> dict[str, str]:
     """What is in a folder."""
-    return {str(path.relative_to(folder)): path.read_text() for path in folder.rglob("*") if path.is_file()}
+    return {
+        str(path.relative_to(folder)): path.read_text()
+        for path in folder.rglob("*")
+        if path.is_file()
+    }
 
 
-def test_one_run_at_a_time(place: str, tmp_path: pathlib.Path, capsys: pytest.CaptureFixture[str]) -> None:
+def test_one_run_at_a_time(
+    place: str, tmp_path: pathlib.Path, capsys: pytest.CaptureFixture[str]
+) -> None:
     """While one is at work another one says so, and deletes and writes nothing; afterwards it does."""
     logs = run(fill(place, shop(), ROOM))
     age(place, *logs)
@@ -357,7 +426,9 @@ def test_a_clock_that_is_put_forward_lets_nothing_go(place: str) -> None:
     """The earlier one of two clocks counts."""
     logs = run(fill(place, shop(), ROOM))
     later = records.read(place)
-    assert retention.prune(place, MONTH, clock=lambda: 4e9).logs == [] and records.read(place) == later
+    assert (
+        retention.prune(place, MONTH, clock=lambda: 4e9).logs == [] and records.read(place) == later
+    )
     age(place, *logs)
     assert retention.prune(place, MONTH, clock=lambda: 0.0).logs == []
 
@@ -371,14 +442,18 @@ def test_an_open_store_lets_them_go(place: str, tmp_path: pathlib.Path) -> None:
         logs = await fill(place, kind, 2 * ROOM)
         age(place, *logs)
         month = datetime.timedelta(days=30)
-        async with sagas.open(place, [kind], retention=month, archive_dir=tmp_path / "archive", on_event=told.append) as store:
+        async with sagas.open(
+            place, [kind], retention=month, archive_dir=tmp_path / "archive", on_event=told.append
+        ) as store:
             await asyncio.gather(*(ended(store, kind, f"new-{number}") for number in range(10)))
             await until(lambda: any(event.name == "shards_pruned" for event in told))
             assert (await ended(store, kind, "k0", "fails")).states["pay"] == "failed"
         assert not set(logs) & set(records.read(place).logs)
 
     run(main())
-    assert [event.detail for event in told if event.name == "shards_pruned"] == [f"2 shards, {2 * ROOM} sagas"]
+    assert [event.detail for event in told if event.name == "shards_pruned"] == [
+        f"2 shards, {2 * ROOM} sagas"
+    ]
     assert len(list((tmp_path / "archive").iterdir())) == 2
     with pytest.raises(TypeError, match="timedelta"):
         sagas.open(place, [kind], retention=30)  # type: ignore[arg-type]
@@ -397,7 +472,9 @@ def test_a_start_feels_no_lock_of_it(url: str) -> None:
                 with link.transaction():
                     assert retention._delete(link, log, None)
                     async with asyncio.timeout(10):
-                        await asyncio.gather(*(ended(store, kind, f"new-{number}") for number in range(10)))
+                        await asyncio.gather(
+                            *(ended(store, kind, f"new-{number}") for number in range(10))
+                        )
                     assert retention.prune(url, MONTH).other
             assert log not in records.read(url).logs
 
@@ -423,7 +500,8 @@ ASKS: dict[str, Callable[[Any], Any]] = {
 
 
 @pytest.mark.parametrize(
-    "table, ask", [("attempts", "wait"), ("attempts", "log"), ("event_log", "log"), ("event_log", "plan")]
+    "table, ask",
+    [("attempts", "wait"), ("attempts", "log"), ("event_log", "log"), ("event_log", "plan")],
 )
 @pytest.mark.parametrize("who", ["client", "node"])
 def test_a_saga_that_goes_while_it_is_read(url: str, who: str, table: str, ask: str) -> None:
@@ -467,7 +545,9 @@ def test_a_saga_that_goes_while_it_is_looked_at(url: str) -> None:
                 with contextlib.closing(looks), admin.writing(url) as link:
                     with link.transaction():
                         link.changed("LOCK TABLE attempts IN ACCESS EXCLUSIVE MODE")
-                        asked = asyncio.ensure_future(asyncio.to_thread(lambda: looks.ask(one_saga.view("k0"))))
+                        asked = asyncio.ensure_future(
+                            asyncio.to_thread(lambda: looks.ask(one_saga.view("k0")))
+                        )
                         await until(lambda: waits_for_a_lock(url))
                         link.changed("DELETE FROM sagas WHERE key = ?", "k0")
                         if other:

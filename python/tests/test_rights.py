@@ -67,22 +67,33 @@ async def used(path: pathlib.Path) -> None:
         assert (await ended(store, SAGA)).ok
 
 
-def test_the_command_says_what_it_may_not(store: pathlib.Path, capsys: pytest.CaptureFixture[str]) -> None:
+def test_the_command_says_what_it_may_not(
+    store: pathlib.Path, capsys: pytest.CaptureFixture[str]
+) -> None:
     """A file that cannot be read, or a folder that cannot be looked into: one line, with the remedy."""
     store.chmod(0)
     with another():
         for words in (["list"], ["abort", "k"], ["audit"]):
             assert store_command.main([str(store), *words]) == 4
-            assert capsys.readouterr().err == f"sagas store: {store}: unable to open database file: {REMEDY}\n"
+            assert (
+                capsys.readouterr().err
+                == f"sagas store: {store}: unable to open database file: {REMEDY}\n"
+            )
     store.parent.chmod(0)
     try:
         with another():
-            assert store_command.main([str(store), "list"]) == 4 and "Permission denied. This user must be able to read its folder" in capsys.readouterr().err
+            assert (
+                store_command.main([str(store), "list"]) == 4
+                and "Permission denied. This user must be able to read its folder"
+                in capsys.readouterr().err
+            )
     finally:
         store.parent.chmod(0o755)
 
 
-def test_the_command_tells_of_what_is_spoilt(store: pathlib.Path, capsys: pytest.CaptureFixture[str]) -> None:
+def test_the_command_tells_of_what_is_spoilt(
+    store: pathlib.Path, capsys: pytest.CaptureFixture[str]
+) -> None:
     """A file that turns out to be no whole database is told of in one line as well."""
     data = bytearray(store.read_bytes())
     data[4096:] = b"\xff" * (len(data) - 4096)
@@ -127,6 +138,8 @@ def test_nothing_is_left_beside_what_is_no_store(tmp_path: pathlib.Path) -> None
     """Whoever gives his program in place of a store's path finds it as it was, and nothing beside it."""
     path = tmp_path / "order1.py"
     path.write_text("print('no store')\n")
-    with pytest.raises(sagas.InvalidStore, match="order1.py: file is not a database. Give the path of a store"):
+    with pytest.raises(
+        sagas.InvalidStore, match="order1.py: file is not a database. Give the path of a store"
+    ):
         run(used(path))
     assert [*tmp_path.iterdir()] == [path] and path.read_text() == "print('no store')\n"

@@ -23,7 +23,15 @@ def row(name: str, steps: int, needs: int, tries: int = 1) -> sagas.Saga:
 
     for number in range(steps):
         before = [f"s{place}" for place in range(max(0, number - needs), number)]
-        step = row.step(name=f"s{number}", needs=before, run=GREATEST, undo=GREATEST, skip=GREATEST, keep=GREATEST, tries=tries)(go)
+        step = row.step(
+            name=f"s{number}",
+            needs=before,
+            run=GREATEST,
+            undo=GREATEST,
+            skip=GREATEST,
+            keep=GREATEST,
+            tries=tries,
+        )(go)
         step.compensation(tries=tries)(go)
     return row
 
@@ -59,8 +67,13 @@ def test_a_log_that_fills_up_goes_on_in_another(place: str) -> None:
             opened = records.read(place)
             assert all(await asyncio.gather(*(run.abort() for run in runs)))
             gate.set()
-            assert {end.phase for end in await asyncio.gather(*(run.wait() for run in runs))} <= {"completed", "recovered"}
+            assert {end.phase for end in await asyncio.gather(*(run.wait() for run in runs))} <= {
+                "completed",
+                "recovered",
+            }
             assert [verdict[:3] for verdict in (await store.audit()).values()] == ["yes", "yes"]
-        return [sum(saga.log == log for saga in opened.sagas.values()) for log in sorted(opened.logs)]
+        return [
+            sum(saga.log == log for saga in opened.sagas.values()) for log in sorted(opened.logs)
+        ]
 
     assert run(main()) == [4, 2]

@@ -75,7 +75,7 @@ TIMES = [
     ("30 * * * *", "Europe/Berlin", "2026-10-25 00:00", ["10-25 00:30", "10-25 01:30"]),
     ("30 * * * *", "Europe/Berlin", "2026-03-29 00:00", ["03-29 00:30", "03-29 01:30"]),
     ("0 */12 * * *", "Europe/Berlin", "2026-03-28 12:00", ["03-28 23:00", "03-29 10:00"]),
-]  # fmt: skip
+]
 
 
 @pytest.mark.parametrize("cron, zone, after, wanted", TIMES)
@@ -253,7 +253,9 @@ def test_nothing_is_started_behind_the_answer(place: str, what: str) -> None:
     run(main())
 
 
-def test_a_time_zone_that_this_system_does_not_have(place: str, monkeypatch: pytest.MonkeyPatch) -> None:
+def test_a_time_zone_that_this_system_does_not_have(
+    place: str, monkeypatch: pytest.MonkeyPatch
+) -> None:
     """Its schedule is left to other nodes, which is told; all others go on, and so does it once its zone is there."""
     monkeypatch.setattr(scheduler, "MOST_PAUSE", 0.1)
     clock, kind, said = Clock(), nightly(), list[str | None]()
@@ -274,9 +276,14 @@ def test_a_time_zone_that_this_system_does_not_have(place: str, monkeypatch: pyt
             zone("Mars/Utopia")
             for hours in (6, 12):
                 clock.now = START + hours * 3600
-                await until(lambda: len([key for key in keys(place) if key.startswith("near@")]) == hours // 6)
+                await until(
+                    lambda: len([key for key in keys(place) if key.startswith("near@")])
+                    == hours // 6
+                )
             (told,) = said
-            assert told and told.startswith("far: timezone='Mars/Utopia': this system does not have")
+            assert told and told.startswith(
+                "far: timezone='Mars/Utopia': this system does not have"
+            )
             with pytest.raises(sagas.InvalidSchedule, match="this system does not have"):
                 await store.pause_schedule("far")
                 await store.resume_schedule("far")
@@ -448,19 +455,26 @@ def test_how_many_missed_times_are_started(place: str) -> None:
         async with sagas.open(place, [kind := nightly()], clock=clock) as store:
             await store.schedule("e", kind, every=SECOND, catch_up="all", max=3)
             await store.schedule("c", kind, cron="0 * * * *", catch_up="all", max=2)
-            found = {one.name: (one.catch_up, one.max, one.overlap) for one in await store.schedules()}
+            found = {
+                one.name: (one.catch_up, one.max, one.overlap) for one in await store.schedules()
+            }
             assert found == {"e": ("all", 3, "allow"), "c": ("all", 2, "allow")}
         clock.now += 90 * DAY
         async with contextlib.AsyncExitStack() as nodes:
             count = 1 if "://" not in place else 10
             for _ in range(count):
-                await nodes.enter_async_context(sagas.open(place, [kind], clock=clock, on_event=listen))
+                await nodes.enter_async_context(
+                    sagas.open(place, [kind], clock=clock, on_event=listen)
+                )
             await until(lambda: len(keys(place)) >= 5)
 
     run(main())
     last = [f"e@2026-05-30T{at}Z" for at in ("11:59:58", "11:59:59", "12:00:00")]
     assert keys(place) == ["c@2026-05-30T11:00:00Z", "c@2026-05-30T12:00:00Z", *last]
-    assert {"e: only the last 3 missed times are started", "c: only the last 2 missed times are started"} == {*told}
+    assert {
+        "e: only the last 3 missed times are started",
+        "c: only the last 2 missed times are started",
+    } == {*told}
 
 
 def test_times_that_were_missed_before_a_pause(
@@ -489,7 +503,9 @@ def test_times_that_were_missed_before_a_pause(
             "l": "1 missed time before the pause was not started",
             "s": None,
         }
-        assert caplog.text.count("schedule 'l': 1 missed time before the pause was not started") == 1
+        assert (
+            caplog.text.count("schedule 'l': 1 missed time before the pause was not started") == 1
+        )
         assert keys(place) == []
 
     run(main())
@@ -579,14 +595,22 @@ def test_a_schedule_of_a_later_release_stops_no_other(tmp_path: pathlib.Path) ->
     saga.step(name="only")(lambda task: None)
 
     async def main() -> None:
-        store = sagas.open(place, [saga], on_event=lambda event: told.append(event.name) if event.name == "schedule_failed" else None)
+        store = sagas.open(
+            place,
+            [saga],
+            on_event=lambda event: told.append(event.name)
+            if event.name == "schedule_failed"
+            else None,
+        )
         async with store:
             for name in ("a", "b"):
                 await store.schedule(name, saga, every=datetime.timedelta(seconds=1))
             with contextlib.closing(sqlite3.connect(place)) as link, link:
                 link.execute("UPDATE schedules SET catch_up = 'all overlap=wait' WHERE name = 'a'")
             before = {one.key for one in await store.list()}
-            while not any(one.key.startswith("b@") and one.key not in before for one in await store.list()):
+            while not any(
+                one.key.startswith("b@") and one.key not in before for one in await store.list()
+            ):
                 await asyncio.sleep(0.05)
             assert told == ["schedule_failed"]
 

@@ -41,7 +41,9 @@ def test_a_synchronous_standby_takes_over(tmp_path: pathlib.Path) -> None:
         async with sagas.open(url, node.sagas, concurrency=64, lease=60, record=record) as store:
             work = [asyncio.create_task(node.one(store, number)) for number in range(40)]
             await until(lambda: len(node.called) == 40)
-            for number in range(20):  # some are over, some at their second step, some at their first
+            for number in range(
+                20
+            ):  # some are over, some at their second step, some at their first
                 node.gates[f"k{number}", "a"].set()
             for number in range(10):
                 node.gates[f"k{number}", "b"].set()
@@ -49,7 +51,9 @@ def test_a_synchronous_standby_takes_over(tmp_path: pathlib.Path) -> None:
             await asyncio.to_thread(pair.fail_over)
             node.open_all()
             await asyncio.gather(*work)
-            assert Counter(node.called) == {(f"k{number}", step): 1 for number in range(40) for step in "ab"}  # this program lived
+            assert Counter(node.called) == {
+                (f"k{number}", step): 1 for number in range(40) for step in "ab"
+            }  # this program lived
 
     with paired(synchronous=True) as pair:
         url = pair.url(pair.primary.create().rpartition("/")[2])
@@ -65,7 +69,9 @@ def test_large_values_go_to_the_server_that_takes_writes() -> None:
     """With the standby first in the address, and after it has taken over."""
     with paired(synchronous=False) as pair:
         hosts = f"127.0.0.1:{pair.standby.port},127.0.0.1:{pair.primary.port}"
-        with contextlib.closing(sagas.PostgresBlobStore(f"postgresql://owner@{hosts}/postgres")) as blobs:
+        with contextlib.closing(
+            sagas.PostgresBlobStore(f"postgresql://owner@{hosts}/postgres")
+        ) as blobs:
             blobs.put("a", b"one")
             pair.hold_back()
             pair.fail_over()
@@ -75,7 +81,9 @@ def test_large_values_go_to_the_server_that_takes_writes() -> None:
 
 
 @pytest.mark.parametrize("room", [1, 1000])
-def test_an_asynchronous_standby_may_lack_the_last_commits(monkeypatch: pytest.MonkeyPatch, tmp_path: pathlib.Path, room: int) -> None:
+def test_an_asynchronous_standby_may_lack_the_last_commits(
+    monkeypatch: pytest.MonkeyPatch, tmp_path: pathlib.Path, room: int
+) -> None:
     """A saga of which the standby knows goes back to what it knows, and its step is called again with its token; one that it lacks is not there, and is
     started again. The store goes on, also where a whole log is lacking, and gives no saga another's tokens. The node's record is allowed, and says what was
     acknowledged and lost; it is not allowed where a synchronous standby is claimed."""
@@ -119,7 +127,13 @@ def test_an_asynchronous_standby_may_lack_the_last_commits(monkeypatch: pytest.M
             assert (await started_again(store, kind, "another")).ok
             again = await started_again(store, kind, "lacking")
             assert again.ok and calls["lacking", "a"] == 2
-            assert all((await asyncio.gather(*(ended(store, kind, f"new-{number}") for number in range(5)))))
+            assert all(
+                (
+                    await asyncio.gather(
+                        *(ended(store, kind, f"new-{number}") for number in range(5))
+                    )
+                )
+            )
             assert all(said.startswith("yes") for said in (await store.audit()).values())
             assert all(len(keys) == 1 for keys in whose.values()), whose
 
@@ -133,7 +147,9 @@ def check_losses(url: str, record: pathlib.Path, room: int) -> None:
     """By its record, the saga `there` goes on behind its first commit, and `lacking` begins anew."""
     shards, faults = fleet.judged(url, [record])
     assert all(one.good for one in shards) and len(faults) == sum(len(one.losses) for one in shards)
-    lost = [(loss.had, {telling.edge for telling in loss.told}) for one in shards for loss in one.losses]
+    lost = [
+        (loss.had, {telling.edge for telling in loss.told}) for one in shards for loss in one.losses
+    ]
     assert lost == [(1, {"call", "wake"})] + [(0, {"call", "wake"})] * (room == 1)
     assert fleet.reasons(fleet.judged(url, [record], sync=True)[1]) == {"FewerThanShipped"}
 
@@ -211,7 +227,9 @@ class HeldAudits:
         self.program, self.asked = folder / "held", folder / "asked"
         self._gate, self._free = folder / "gate", folder / "free"
         os.mkfifo(self._gate)
-        free, asked, gate = (shlex.quote(str(path)) for path in (self._free, self.asked, self._gate))
+        free, asked, gate = (
+            shlex.quote(str(path)) for path in (self._free, self.asked, self._gate)
+        )
         self.program.write_text(
             "#!/bin/sh\n"
             f'if [ "$1" = audit ] && ! [ -e {free} ]; then : >{asked}; read -r _ <{gate}; fi\n'
@@ -287,17 +305,28 @@ class Parted:
         """The standby takes over: who is connected to the primary goes on there, and who connects from now on is at the other one."""
         self.pair.hold_back()
         self.pair.standby.promote()
-        self.ask(self.pair.primary, f"ALTER DATABASE {self.database} SET default_transaction_read_only = on")
+        self.ask(
+            self.pair.primary,
+            f"ALTER DATABASE {self.database} SET default_transaction_read_only = on",
+        )
 
     def end_sessions(self, but: Sequence[int] = ()) -> None:
         """The primary ends those of the node."""
         kept = f"pid <> pg_backend_pid() AND pid <> ALL(ARRAY{[*but]}::int[])"
-        self.ask(self.pair.primary, f"SELECT pg_terminate_backend(pid) FROM pg_stat_activity WHERE datname = current_database() AND {kept}")
+        self.ask(
+            self.pair.primary,
+            f"SELECT pg_terminate_backend(pid) FROM pg_stat_activity WHERE datname = current_database() AND {kept}",
+        )
 
     async def play(self, moment: Callable[[Parted], Coroutine[Any, Any, None]]) -> None:
         """A node over both."""
         self.loop = asyncio.get_running_loop()
-        async with sagas.open(self.pair.url(self.database), [self.kind], lease=600, on_event=lambda event: self.said.append(event.name)) as store:
+        async with sagas.open(
+            self.pair.url(self.database),
+            [self.kind],
+            lease=600,
+            on_event=lambda event: self.said.append(event.name),
+        ) as store:
             going = await store.start(self.kind, "k")
             await moment(self)
             assert (await going.wait()).ok
@@ -316,7 +345,12 @@ def test_a_step_inside_ends_at_a_server_that_took_over(in_thread: bool) -> None:
         for step in "ab":
             two.gates[step].set()
         await until(lambda: "commit_failed" in two.said or "saga_ended" in two.said)
-        assert two.ask(two.pair.standby, "SELECT key FROM book UNION ALL SELECT value FROM sagas.attempts") == []
+        assert (
+            two.ask(
+                two.pair.standby, "SELECT key FROM book UNION ALL SELECT value FROM sagas.attempts"
+            )
+            == []
+        )
         two.end_sessions()
 
     with paired(synchronous=False) as pair:
@@ -338,7 +372,9 @@ async def ends_at_the_one_before(two: Parted) -> None:
     two.gates["a"].set()
     await until(lambda: "b" in two.calls)
     await asyncio.to_thread(two.part)
-    with psycopg.connect(two.pair.primary.url(two.database), options="-c default_transaction_read_only=off") as stranger:
+    with psycopg.connect(
+        two.pair.primary.url(two.database), options="-c default_transaction_read_only=off"
+    ) as stranger:
         stranger.execute("LOCK TABLE sagas.attempts IN EXCLUSIVE MODE")
         two.gates["b"].set()
         waits = "SELECT pid FROM pg_stat_activity WHERE datname = current_database() AND wait_event_type = 'Lock'"
@@ -423,7 +459,9 @@ class Lacking:
         await until(lambda: self.calls == ["there"], 60)
         await asyncio.to_thread(self.pair.hold_back)
         await store.start(self.kind, "lacking")
-        await until(lambda: [one.waits for one in store.active_attempts("lacking")] == ["concurrency"], 60)
+        await until(
+            lambda: [one.waits for one in store.active_attempts("lacking")] == ["concurrency"], 60
+        )
         await asyncio.to_thread(self.pair.standby.promote)
         text = f"ALTER DATABASE {self.database} SET default_transaction_read_only = on"
         self.ask(self.pair.primary, text)
@@ -446,7 +484,9 @@ def test_a_step_inside_of_a_saga_that_is_not_there(in_thread: bool, taken_up: bo
 
     async def main(two: Lacking) -> None:
         url, hook = two.pair.url(two.database), two.heard
-        async with sagas.open(url, [two.kind], lease=600, on_event=hook, shutdown_timeout=1) as store:
+        async with sagas.open(
+            url, [two.kind], lease=600, on_event=hook, shutdown_timeout=1
+        ) as store:
             await two.part(store)
             held = await psycopg.AsyncConnection.connect(two.pair.standby.url(two.database))
             async with held:
@@ -573,7 +613,10 @@ def test_all_connections_are_taken() -> None:
                 with contextlib.suppress(psycopg.OperationalError):
                     while True:
                         strangers.enter_context(psycopg.connect(url))
-                work = [asyncio.create_task(started_again(store, kind, f"k{number}")) for number in range(10)]
+                work = [
+                    asyncio.create_task(started_again(store, kind, f"k{number}"))
+                    for number in range(10)
+                ]
                 with pytest.raises(sagas.StoreUnavailable):
                     async with sagas.open(url, [kind]):
                         pass
@@ -584,7 +627,9 @@ def test_all_connections_are_taken() -> None:
             async with sagas.Client(url) as client:
                 assert (await client.wait("k1")).ok
 
-    with serving({"max_connections": "12", "superuser_reserved_connections": "0", "max_wal_senders": "0"}) as server:
+    with serving(
+        {"max_connections": "12", "superuser_reserved_connections": "0", "max_wal_senders": "0"}
+    ) as server:
         run(main(server.create()))
     assert set(calls.values()) == {1} and len(calls) == 11
 
@@ -594,9 +639,16 @@ def small_disk(size: str) -> Iterator[pathlib.Path]:
     """A file system of this test's own, in memory."""
     folder = pathlib.Path(tempfile.mkdtemp(prefix="sagas-disk-", dir="/tmp"))
     try:
-        done = subprocess.run(["mount", "-t", "tmpfs", "-o", f"size={size},mode=755", "tmpfs", str(folder)], capture_output=True, text=True, check=False)
+        done = subprocess.run(
+            ["mount", "-t", "tmpfs", "-o", f"size={size},mode=755", "tmpfs", str(folder)],
+            capture_output=True,
+            text=True,
+            check=False,
+        )
         if done.returncode:
-            pytest.fail(f"no file system can be mounted: run the tests as root, in a container with --cap-add SYS_ADMIN ({done.stderr.strip()})")
+            pytest.fail(
+                f"no file system can be mounted: run the tests as root, in a container with --cap-add SYS_ADMIN ({done.stderr.strip()})"
+            )
         try:
             yield folder
         finally:
@@ -663,7 +715,9 @@ def test_a_primary_that_was_replaced_and_lives(by: str, monkeypatch: pytest.Monk
     kind = simple(step)
 
     async def main(url: str, other: str) -> None:
-        async with sagas.open(url, [kind], node="n", lease=60) as store, sagas.Client(url) as client:
+        async with sagas.open(url, [kind], node="n", lease=60) as store, sagas.Client(
+            url
+        ) as client:
             assert (await ended(store, kind, "before")).ok
             assert (await (await client.start(kind, "too")).wait()).ok
             if by == "late":
@@ -680,7 +734,10 @@ def test_a_primary_that_was_replaced_and_lives(by: str, monkeypatch: pytest.Monk
                         run = await client.start(kind, "client's")
                         break
                 assert (await run.wait()).ok
-            assert [row async for row in rows(other, "SELECT key FROM sagas.sagas WHERE key = 'client''s'")]
+            assert [
+                row
+                async for row in rows(other, "SELECT key FROM sagas.sagas WHERE key = 'client''s'")
+            ]
             assert pair.ask("SELECT pg_is_in_recovery()") == [(False,)]
         assert calls["before"] == calls["too"] == 1
 
@@ -704,10 +761,16 @@ def pooled(server: Server, mode: str, *more: str) -> Iterator[int]:
     """PgBouncer before a server, in one of its modes; its port."""
     port, settings = free_port(), server.folder.parent / "pgbouncer.ini"
     words = [
-        "[databases]", f"* = host=127.0.0.1 port={server.port} user=owner", "[pgbouncer]",
-        "listen_addr = 127.0.0.1", f"listen_port = {port}", "unix_socket_dir =", "auth_type = any",
-        f"pool_mode = {mode}", *more,
-    ]  # fmt: skip
+        "[databases]",
+        f"* = host=127.0.0.1 port={server.port} user=owner",
+        "[pgbouncer]",
+        "listen_addr = 127.0.0.1",
+        f"listen_port = {port}",
+        "unix_socket_dir =",
+        "auth_type = any",
+        f"pool_mode = {mode}",
+        *more,
+    ]
     settings.write_text("\n".join(words))
     settings.chmod(0o644)
     command = server._as_other("pgbouncer", str(settings))
@@ -758,4 +821,6 @@ def test_a_pooler(postgresql: Server, url: str, words: tuple[str, ...]) -> None:
         with psycopg.connect(there, autocommit=True) as stranger:
             for name in ("search_path", "enable_seqscan", "statement_timeout"):
                 ((value,),) = stranger.execute(f"SHOW {name}".encode()).fetchall()
-                assert value == {"search_path": '"$user", public', "enable_seqscan": "on"}.get(name, "0")
+                assert value == {"search_path": '"$user", public', "enable_seqscan": "on"}.get(
+                    name, "0"
+                )

@@ -41,7 +41,7 @@ def guarded(tmp_path_factory: pytest.TempPathFactory) -> Iterator[Guarded]:
 
 
 LATE = {
-    "late.toml": '''format = 2
+    "late.toml": """format = 2
 name = "late"
 [[step]]
 name = "pay"
@@ -51,7 +51,7 @@ needs = ["pay"]
 [[step]]
 name = "seal"
 needs = ["pay"]
-''',
+""",
     "late.service.toml": '[step.sign]\nkind = "approval"\n[step.seal]\nkind = "approval"\n',
 }
 """Approvals that do not begin as long as no worker comes."""
@@ -102,7 +102,15 @@ CALLS: list[tuple[str, str, str, Any, int]] = [
     ("metrics", "GET", "/metrics", None, 200),
 ]
 """The roles that may besides operators, the call, and what it comes to for them."""
-FREE = ["/health/live", "/health/ready", "/openapi.json", "/", "/favicon.ico", "/ui/static/{name}", "/ui/login"]
+FREE = [
+    "/health/live",
+    "/health/ready",
+    "/openapi.json",
+    "/",
+    "/favicon.ico",
+    "/ui/static/{name}",
+    "/ui/login",
+]
 """What needs no token."""
 
 
@@ -125,7 +133,9 @@ def test_each_route_has_its_roles(guarded: Guarded) -> None:
     asked = {
         (
             method,
-            path.replace("/v1/tasks/x/", "/v1/tasks/{attempt_id}/").replace("steps/review", "steps/{step}"),
+            path.replace("/v1/tasks/x/", "/v1/tasks/{attempt_id}/").replace(
+                "steps/review", "steps/{step}"
+            ),
         )
         for method, path in asked
     }
@@ -142,7 +152,11 @@ def test_roles(guarded: Guarded) -> None:
     """Each call is for its roles, and for operators; nobody comes in without a token, or with a
     wrong one."""
     clients = {role: guarded.client(role) for role in ROLES}
-    strangers = [guarded.client(None), guarded.service.client("wrong"), guarded.service.client(guarded.tokens["operator"][:-1])]
+    strangers = [
+        guarded.client(None),
+        guarded.service.client("wrong"),
+        guarded.service.client(guarded.tokens["operator"][:-1]),
+    ]
     start(clients["caller"], "trip", "roles")
     start(clients["caller"], "order", "asks")
     try:
@@ -167,7 +181,9 @@ def test_roles(guarded: Guarded) -> None:
             for stranger in strangers:
                 assert answer_of(stranger, method, path, body)[0] in (401, 429), (method, path)
         nobody = strangers[0]
-        assert nobody.get("/health/live").status_code == nobody.get("/health/ready").status_code == 200
+        assert (
+            nobody.get("/health/live").status_code == nobody.get("/health/ready").status_code == 200
+        )
         assert nobody.get("/ui/events").status_code == 403
     finally:
         for client in (*clients.values(), *strangers):
@@ -184,7 +200,7 @@ POSTED = (
     "/ui/sagas/{key}/steps/{step}/{outcome}",
     "/ui/schedules/{name}/{change}",
     "/ui/webhooks/{id}/redeliver",
-)  # fmt: skip
+)
 
 
 def test_pages_have_no_roles_but_a_session(guarded: Guarded) -> None:
@@ -202,7 +218,9 @@ def test_pages_have_no_roles_but_a_session(guarded: Guarded) -> None:
                     .replace("{id}", "msg_1")
                 )
                 answer = client.post(path, data={"csrf": "x", "result": "1"})
-                assert answer.status_code == 403 and "The form is not of this session" in answer.text
+                assert (
+                    answer.status_code == 403 and "The form is not of this session" in answer.text
+                )
     with logged_in(guarded) as client:
         for outcome in ("approve", "Done", "x"):
             assert client.get(f"/ui/sagas/asks/steps/review/{outcome}").status_code == 404
@@ -229,7 +247,7 @@ BOTH = [
     ("fail", {"error": None}, "error: must be a string"),
     ("fail", {"error": 5}, "error: must be a string"),
     ("fail", [["error", "x"]], "the body: must be an object"),
-]  # fmt: skip
+]
 
 
 def test_an_approval_is_given_on_purpose(guarded: Guarded) -> None:
@@ -245,7 +263,10 @@ def test_an_approval_is_given_on_purpose(guarded: Guarded) -> None:
             ) and says in answer.json()["detail"], (body, answer.text)
         assert caller.get("/v1/sagas/purpose").json()["states"]["review"] == "begun"
         assert (
-            approver.post("/v1/sagas/purpose/steps/review/complete", json={"result": None}).status_code == 200
+            approver.post(
+                "/v1/sagas/purpose/steps/review/complete", json={"result": None}
+            ).status_code
+            == 200
         )
         assert caller.get("/v1/sagas/purpose").json()["results"]["review"] is None
         start(caller, "order", "refused")
@@ -271,7 +292,9 @@ def test_who_may_approve(guarded: Guarded) -> None:
         waits(caller, "by-whom", "approval")
         for role in ("caller", "worker", "metrics"):
             assert (
-                clients[role].post("/v1/sagas/by-whom/steps/review/complete", json={"result": 1}).status_code
+                clients[role]
+                .post("/v1/sagas/by-whom/steps/review/complete", json={"result": 1})
+                .status_code
                 == 403
             )
         for step in ("send", "none", "review%2F", "x" * 70):
@@ -280,16 +303,26 @@ def test_who_may_approve(guarded: Guarded) -> None:
                 403,
                 "Forbidden",
             ) and "is no approval" in answer.json()["detail"]
-        assert approver.post("/v1/sagas/nobody/steps/review/complete", json={"result": 1}).status_code == 404
-        assert approver.post("/v1/sagas/by-whom/steps/review/complete", json={"result": 1}).status_code == 200
+        assert (
+            approver.post("/v1/sagas/nobody/steps/review/complete", json={"result": 1}).status_code
+            == 404
+        )
+        assert (
+            approver.post("/v1/sagas/by-whom/steps/review/complete", json={"result": 1}).status_code
+            == 200
+        )
         start(caller, "trip", "by-an-operator")
         waits(caller, "by-an-operator", "worker")
         assert (
-            approver.post("/v1/sagas/by-an-operator/steps/flight/complete", json={"result": 1}).status_code
+            approver.post(
+                "/v1/sagas/by-an-operator/steps/flight/complete", json={"result": 1}
+            ).status_code
             == 403
         )
         assert (
-            operator.post("/v1/sagas/by-an-operator/steps/flight/complete", json={"result": 1}).status_code
+            operator.post(
+                "/v1/sagas/by-an-operator/steps/flight/complete", json={"result": 1}
+            ).status_code
             == 200
         )
 
@@ -302,8 +335,10 @@ def test_an_approval_before_it_begins(guarded: Guarded) -> None:
         where = "/v1/sagas/ahead/steps"
         body = {"result": 1}
         for client, step, status in (
-            (caller, "sign", 403), (approver, "pay", 403), (approver, "sign", 200),
-        ):  # fmt: skip
+            (caller, "sign", 403),
+            (approver, "pay", 403),
+            (approver, "sign", 200),
+        ):
             assert client.post(f"{where}/{step}/complete", json=body).status_code == status
         late = approver.post(f"{where}/seal/fail", json={"error": "no", "early": False})
         assert (late.status_code, error_of(late)) == (409, "StepNotWaiting")
@@ -337,30 +372,63 @@ def csrf_of(client: httpx.Client, path: str) -> str:
 def test_the_page_wants_a_session(guarded: Guarded) -> None:
     """It sends to the login, which takes an operator's token alone, and goes nowhere else from there."""
     with guarded.client(None) as client:
-        for path in ("/ui", "/ui/sagas", "/ui/sagas/x", "/ui/workers", "/ui/sagas/x/abort", "/ui/sagas/x/resolve", "/ui/sagas/x/steps/y/done", "/ui/sagas/x/certificate"):
+        for path in (
+            "/ui",
+            "/ui/sagas",
+            "/ui/sagas/x",
+            "/ui/workers",
+            "/ui/sagas/x/abort",
+            "/ui/sagas/x/resolve",
+            "/ui/sagas/x/steps/y/done",
+            "/ui/sagas/x/certificate",
+        ):
             assert client.get(path).headers["location"].startswith("/ui/login?next="), path
         for bad in (guarded.tokens["caller"], "x"):
             assert client.post("/ui/login", data={"token": bad}).status_code == 403
         for where in ("https://elsewhere.example/", "//elsewhere.example", "/ui\\@x", "/v1/sagas"):
-            answer = client.post("/ui/login", data={"token": guarded.tokens["operator"], "next": where})
+            answer = client.post(
+                "/ui/login", data={"token": guarded.tokens["operator"], "next": where}
+            )
             assert answer.headers["location"] == "/ui"
             cookie = answer.headers["set-cookie"]
-            assert "HttpOnly" in cookie and "SameSite=lax" in cookie and "Path=/ui" in cookie and guarded.tokens["operator"] not in cookie
+            assert (
+                "HttpOnly" in cookie
+                and "SameSite=lax" in cookie
+                and "Path=/ui" in cookie
+                and guarded.tokens["operator"] not in cookie
+            )
     with guarded.client(None) as client:
-        paths = [f"/ui/sagas/{key}" for key in ("order%237", "100%2541", "what%3Fx%3D1?unfold=all", "a%2Fb", "%C3%A9?unfold=a&b=%26")]
+        paths = [
+            f"/ui/sagas/{key}"
+            for key in (
+                "order%237",
+                "100%2541",
+                "what%3Fx%3D1?unfold=all",
+                "a%2Fb",
+                "%C3%A9?unfold=a&b=%26",
+            )
+        ]
         asked = [urlsplit(client.get(path).headers["location"]).query for path in paths]
         assert [parse_qs(query)["next"] for query in asked] == [[path] for path in paths]
         for path in paths:
-            answer = client.post("/ui/login", data={"token": guarded.tokens["operator"], "next": path})
+            answer = client.post(
+                "/ui/login", data={"token": guarded.tokens["operator"], "next": path}
+            )
             assert answer.headers["location"] == path
     with guarded.client("operator") as bearer:
         assert bearer.get("/ui").status_code == 303  # a bearer token is no session
 
 
 FOREIGN = (
-    ({"Origin": "https://elsewhere.example"}, "has the Origin 'https://elsewhere.example' and the Host 'HOST'"),
+    (
+        {"Origin": "https://elsewhere.example"},
+        "has the Origin 'https://elsewhere.example' and the Host 'HOST'",
+    ),
     ({"Origin": "null"}, "has the Origin 'null' and the Host 'HOST'"),
-    ({"Origin": "http://own.example:8443", "Host": "own.example"}, "A proxy has to pass on the Host that the browser sends, with its port"),
+    (
+        {"Origin": "http://own.example:8443", "Host": "own.example"},
+        "A proxy has to pass on the Host that the browser sends, with its port",
+    ),
     ({"Sec-Fetch-Site": "cross-site"}, "has the Sec-Fetch-Site 'cross-site'"),
     ({"Sec-Fetch-Site": "same-site"}, "has the Sec-Fetch-Site 'same-site'"),
 )
@@ -372,24 +440,41 @@ def test_forms_are_the_session_s_own(guarded: Guarded) -> None:
     with guarded.client("caller") as caller:
         start(caller, "order", "forms")
     with logged_in(guarded) as client, logged_in(guarded) as other:
-        right, foreign = csrf_of(client, "/ui/sagas/forms/abort"), csrf_of(other, "/ui/sagas/forms/abort")
+        right, foreign = csrf_of(client, "/ui/sagas/forms/abort"), csrf_of(
+            other, "/ui/sagas/forms/abort"
+        )
         for csrf in ("", "x", foreign, "ü"):
             assert client.post("/ui/sagas/forms/abort", data={"csrf": csrf}).status_code == 403
         for headers, told in FOREIGN:
             answer = client.post("/ui/sagas/forms/abort", data={"csrf": right}, headers=headers)
-            assert (answer.status_code, answer.headers["content-type"]) == (403, "text/html; charset=utf-8")
+            assert (answer.status_code, answer.headers["content-type"]) == (
+                403,
+                "text/html; charset=utf-8",
+            )
             assert "A page of another site sent the request" in answer.text
             assert told.replace("HOST", guarded.service.address) in html.unescape(answer.text)
             with guarded.client("caller") as caller:
                 answer = caller.post("/v1/sagas/forms/abort", json={}, headers=headers)
                 assert (answer.status_code, error_of(answer)) == (403, "CrossOrigin")
                 assert told.replace("HOST", guarded.service.address) in answer.json()["detail"]
-        assert client.post("/ui/sagas/forms/abort", content=b"{}", headers={"content-type": "text/plain"}).status_code == 415
+        assert (
+            client.post(
+                "/ui/sagas/forms/abort", content=b"{}", headers={"content-type": "text/plain"}
+            ).status_code
+            == 415
+        )
         with guarded.client("caller") as caller:
             assert caller.get("/v1/sagas/forms").json()["aborted"] is False
-        answer = client.post("/ui/sagas/forms/abort", data={"csrf": right, "note": "enough"}, headers={"Origin": guarded.service.url})
+        answer = client.post(
+            "/ui/sagas/forms/abort",
+            data={"csrf": right, "note": "enough"},
+            headers={"Origin": guarded.service.url},
+        )
         assert answer.status_code == 303
-        assert "enough" in client.get("/ui/sagas/forms").text and "<b>operator</b>" in client.get("/ui/sagas/forms").text
+        assert (
+            "enough" in client.get("/ui/sagas/forms").text
+            and "<b>operator</b>" in client.get("/ui/sagas/forms").text
+        )
         assert client.post("/ui/logout", data={"csrf": right}).status_code == 303
         assert client.get("/ui").status_code == 303
 
@@ -398,8 +483,15 @@ def test_the_cookies_of_two_services(guarded: Guarded) -> None:
     """A browser sends those of a host to all of its ports: each service has a name of its own."""
     port = guarded.service.address.rpartition(":")[2]
     with guarded.client(None) as client:
-        for host, name in ((f"other:{port}", f"sagas_session_{port}"), ("[::1]:81", "sagas_session_81"), ("other", "sagas_session"), ("[::1]", "sagas_session")):
-            answer = client.post("/ui/login", data={"token": guarded.tokens["operator"]}, headers={"Host": host})
+        for host, name in (
+            (f"other:{port}", f"sagas_session_{port}"),
+            ("[::1]:81", "sagas_session_81"),
+            ("other", "sagas_session"),
+            ("[::1]", "sagas_session"),
+        ):
+            answer = client.post(
+                "/ui/login", data={"token": guarded.tokens["operator"]}, headers={"Host": host}
+            )
             assert answer.headers["set-cookie"].partition("=")[0] == name
         client.cookies.clear()
     with logged_in(guarded) as client:
@@ -409,9 +501,16 @@ def test_the_cookies_of_two_services(guarded: Guarded) -> None:
 
 
 @contextlib.contextmanager
-def half_sent(service: Served, path: str, kind: str, body: bytes, **headers: str) -> Iterator[tuple[Any, bytes]]:
+def half_sent(
+    service: Served, path: str, kind: str, body: bytes, **headers: str
+) -> Iterator[tuple[Any, bytes]]:
     """A request whose body comes later but for its first byte: its connection, and the rest."""
-    told = {"Host": service.address, "Content-Type": f"application/{kind}", "Content-Length": str(len(body)), **headers}
+    told = {
+        "Host": service.address,
+        "Content-Type": f"application/{kind}",
+        "Content-Length": str(len(body)),
+        **headers,
+    }
     head = "".join(f"{name}: {value}\r\n" for name, value in told.items())
     with raw(service) as one:
         one.sendall(f"POST {path} HTTP/1.1\r\n{head}\r\n".encode() + body[:1])
@@ -420,22 +519,44 @@ def half_sent(service: Served, path: str, kind: str, body: bytes, **headers: str
 
 def test_a_token_that_is_taken_away(tmp_path: pathlib.Path) -> None:
     """Its bearer and its sessions end with it, without a new start, and so does a request whose body is still to come; a file that cannot be read leaves the others."""
-    words = {role: token(tmp_path, role, role.rpartition("-")[2]) for role in ("an-operator", "a-caller", "second-operator")}
+    words = {
+        role: token(tmp_path, role, role.rpartition("-")[2])
+        for role in ("an-operator", "a-caller", "second-operator")
+    }
     file = tmp_path / "tokens.toml"
     assert file.stat().st_mode & 0o077 == 0 and words["an-operator"] not in file.read_text()
     with contextlib.ExitStack() as stack:
         service = stack.enter_context(served(tmp_path, DEFINITIONS, "--token-file", str(file)))
-        first, caller, second = (stack.enter_context(service.client(word)) for word in words.values())
+        first, caller, second = (
+            stack.enter_context(service.client(word)) for word in words.values()
+        )
         page = stack.enter_context(service.client())
         assert first.get("/v1/sagas").status_code == second.get("/v1/sagas").status_code == 200
         page.post("/ui/login", data={"token": words["an-operator"]})
         assert page.get("/ui").status_code == 200
         start(second, "order", "late")
-        note, form = b'{"note": "late"}', urlencode({"csrf": csrf_of(page, "/ui/sagas/late/abort")}).encode()
+        note, form = (
+            b'{"note": "late"}',
+            urlencode({"csrf": csrf_of(page, "/ui/sagas/late/abort")}).encode(),
+        )
         cookie = "; ".join(f"{name}={value}" for name, value in page.cookies.items())
-        call = half_sent(service, "/v1/sagas/late/abort", "json", note, Authorization=f"Bearer {words['an-operator']}")
-        narrowed = half_sent(service, "/v1/sagas/late/abort", "json", note, Authorization=f"Bearer {words['a-caller']}")
-        sent = half_sent(service, "/ui/sagas/late/abort", "x-www-form-urlencoded", form, Cookie=cookie)
+        call = half_sent(
+            service,
+            "/v1/sagas/late/abort",
+            "json",
+            note,
+            Authorization=f"Bearer {words['an-operator']}",
+        )
+        narrowed = half_sent(
+            service,
+            "/v1/sagas/late/abort",
+            "json",
+            note,
+            Authorization=f"Bearer {words['a-caller']}",
+        )
+        sent = half_sent(
+            service, "/ui/sagas/late/abort", "x-www-form-urlencoded", form, Cookie=cookie
+        )
         some = [stack.enter_context(one) for one in (call, narrowed, sent)]
         kept = file.read_text().split("[[token]]\n")[2:]
         file.write_text("[[token]]\n" + '[[token]]\ndefinitions = ["trip"]\n'.join(reversed(kept)))
@@ -446,7 +567,11 @@ def test_a_token_that_is_taken_away(tmp_path: pathlib.Path) -> None:
         assert caller.get("/v1/sagas/late").status_code == 404
         for one, rest in some:
             one.sendall(rest)
-        assert [answered(one) for one, _ in some] == [(401, "Unauthorized"), (503, "RightsChanged"), (403, "")]
+        assert [answered(one) for one, _ in some] == [
+            (401, "Unauthorized"),
+            (503, "RightsChanged"),
+            (403, ""),
+        ]
         assert second.get("/v1/sagas/late").json()["aborted"] is False
         assert page.get("/ui").status_code == 303 and second.get("/v1/sagas").status_code == 200
         file.write_text("[[token]\n")
@@ -462,16 +587,42 @@ def test_texts_are_no_markup(guarded: Guarded) -> None:
     with guarded.client("operator") as client, logged_in(guarded) as page:
         stuck(client, "plain")
         start(client, "order", key, {NASTY: NASTY})
-        client.post(f"/v1/sagas/{quoted(key)}/steps/review/complete", json={"result": NASTY, "note": NASTY})
-        (task,) = client.post("/v1/tasks/claim", json={"steps": ["order/send"], "worker": NASTY[:60], "lease": 600}).json()["tasks"]
-        texts = [page.get(f"/ui/{path}").text for path in (f"sagas/{quoted(key)}", "sagas", f"sagas?search={quoted(NASTY)}", "workers", "", f"sagas/{quoted(key)}/steps/send/done")]
+        client.post(
+            f"/v1/sagas/{quoted(key)}/steps/review/complete", json={"result": NASTY, "note": NASTY}
+        )
+        (task,) = client.post(
+            "/v1/tasks/claim", json={"steps": ["order/send"], "worker": NASTY[:60], "lease": 600}
+        ).json()["tasks"]
+        texts = [
+            page.get(f"/ui/{path}").text
+            for path in (
+                f"sagas/{quoted(key)}",
+                "sagas",
+                f"sagas?search={quoted(NASTY)}",
+                "workers",
+                "",
+                f"sagas/{quoted(key)}/steps/send/done",
+            )
+        ]
         assert "done…" in texts[0]
-        client.post(f"/v1/tasks/{task['attempt_id']}/fail", json={"lease": task["lease"], "error": NASTY, "final": True})
-        texts += [page.get(f"/ui/sagas/{quoted(key)}").text, client.get(f"/v1/sagas/{quoted(key)}/picture.svg").text]
+        client.post(
+            f"/v1/tasks/{task['attempt_id']}/fail",
+            json={"lease": task["lease"], "error": NASTY, "final": True},
+        )
+        texts += [
+            page.get(f"/ui/sagas/{quoted(key)}").text,
+            client.get(f"/v1/sagas/{quoted(key)}/picture.svg").text,
+        ]
         client.post("/v1/sagas/plain/resolve", json={"note": NASTY})
-        texts += [page.get("/ui/sagas/plain").text, page.get("/ui/sagas?phase=resolved").text, page.get(f"/ui/sagas/{quoted(NASTY)}").text]
+        texts += [
+            page.get("/ui/sagas/plain").text,
+            page.get("/ui/sagas?phase=resolved").text,
+            page.get(f"/ui/sagas/{quoted(NASTY)}").text,
+        ]
         for place, text in enumerate(texts):
-            assert "<script>alert" not in text and "49" not in re.findall(r"&#39;&amp;(\d+)", text), place
+            assert "<script>alert" not in text and "49" not in re.findall(
+                r"&#39;&amp;(\d+)", text
+            ), place
         assert sum("&lt;script&gt;" in text for text in texts) >= 9
 
 
@@ -484,17 +635,34 @@ def quoted(text: str) -> str:
 def test_headers(guarded: Guarded) -> None:
     """Each answer says that nothing is fetched from elsewhere, framed, guessed or kept."""
     with guarded.client("operator") as client, logged_in(guarded) as page:
-        for answer in (page.get("/ui"), client.get("/v1/sagas"), client.get("/nowhere"), client.get("/health/live")):
-            assert "default-src 'none'" in answer.headers["content-security-policy"] and "unsafe" not in answer.headers["content-security-policy"]
-            assert answer.headers["x-content-type-options"] == "nosniff" and answer.headers["cache-control"] == "no-store"
+        for answer in (
+            page.get("/ui"),
+            client.get("/v1/sagas"),
+            client.get("/nowhere"),
+            client.get("/health/live"),
+        ):
+            assert (
+                "default-src 'none'" in answer.headers["content-security-policy"]
+                and "unsafe" not in answer.headers["content-security-policy"]
+            )
+            assert (
+                answer.headers["x-content-type-options"] == "nosniff"
+                and answer.headers["cache-control"] == "no-store"
+            )
             assert answer.headers["x-frame-options"] == "DENY" and "server" not in answer.headers
-        assert "http://" not in page.get("/ui").text.replace("http://www.w3.org", "") and "https://" not in page.get("/ui").text
+        assert (
+            "http://" not in page.get("/ui").text.replace("http://www.w3.org", "")
+            and "https://" not in page.get("/ui").text
+        )
 
 
 def test_without_tokens_only_the_loopback_s_names(tmp_path: pathlib.Path) -> None:
     """A name that some page made point here is not answered to; and rates are limited."""
     with served(tmp_path, DEFINITIONS, "--rate", "0.4") as service, service.client() as client:
-        assert error_of(client.get("/v1/sagas", headers={"Host": "elsewhere.example"})) == "UnknownHost"
+        assert (
+            error_of(client.get("/v1/sagas", headers={"Host": "elsewhere.example"}))
+            == "UnknownHost"
+        )
         for name in ("localhost:1", "127.0.0.1", "[::1]:80"):
             assert client.get("/health/live", headers={"Host": name}).status_code == 200
         assert "every local user has full access" in service.told()

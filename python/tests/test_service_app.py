@@ -21,7 +21,7 @@ from sagas.server.app_store import AppStore
 from sagas.storage.admin import connect
 
 BIG = "big " * 200
-APP = '''
+APP = """
 import contextlib, datetime, sagas
 class Codec:
     def encode(self, data): return data[::-1]
@@ -52,7 +52,7 @@ blocking = sagas.open_sync("other.db", [top, mid, leaf, order], **words)
 old = sagas.open("other.db", [order], accept_new=False)
 clock = sagas.open("other.db", [order], clock=lambda: 1.0)
 plain = [order]
-'''
+"""
 
 
 @pytest.fixture
@@ -83,10 +83,26 @@ def test_options_of_a_store_are_taken(shop: Any) -> None:
         assert found.store.on_event is shop.words["on_event"] and found.shutdown_timeout == 7
         assert not {"path", "sagas", "on_event", "clock"} & options.keys()
         assert sorted(saga.name for saga in found.sagas) == ["leaf", "mid", "order", "top"]
-    words = ("--concurrency", "5", "--retention", "12h", "--archive-dir", "old", "--context", "app_shop:seen")
+    words = (
+        "--concurrency",
+        "5",
+        "--retention",
+        "12h",
+        "--archive-dir",
+        "old",
+        "--context",
+        "app_shop:seen",
+    )
     options = settings("--app", "app_shop:store", *words, "--blobs", "more").store.options
-    assert (options["concurrency"], options["archive_dir"], options["context"]) == (5, "old", shop.seen)
-    assert options["retention"] == datetime.timedelta(hours=12) and options["blobs"] is not shop.words["blobs"]
+    assert (options["concurrency"], options["archive_dir"], options["context"]) == (
+        5,
+        "old",
+        shop.seen,
+    )
+    assert (
+        options["retention"] == datetime.timedelta(hours=12)
+        and options["blobs"] is not shop.words["blobs"]
+    )
     assert settings("--app", "app_shop:plain").store.options == {}
     for name, says in (("old", "accept_new="), ("clock", "clock="), ("seen", "must be a saga")):
         done = command("serve", "x.db", "--app", f"app_shop:{name}")
@@ -102,7 +118,9 @@ def test_a_store_is_served(shop: Any, tmp_path: pathlib.Path) -> None:
     read values with the codec and the blobs, and others get what is stored."""
     with served(tmp_path, {"few.toml": FEW}, "--app", "app_shop:store") as service:
         words: dict[str, Any] = {"codec": shop.codec, "blobs": shop.words["blobs"]}
-        with sagas.ServiceClient(service.url, **words) as client, sagas.ServiceClient(service.url) as plain:
+        with sagas.ServiceClient(service.url, **words) as client, sagas.ServiceClient(
+            service.url
+        ) as plain:
             small = {"shop": "ours", "big": "x", "seen": []}
             assert client.start("order", "small", {"big": "x"}).wait(60).results["charge"] == small
             end = client.start("order", "large", {"big": BIG}).wait(60)
@@ -116,7 +134,9 @@ def test_a_store_is_served(shop: Any, tmp_path: pathlib.Path) -> None:
                     half.wait("large", 60)
             failed = client.start("top", "family", {}).wait(60)
             assert failed.phase == "recovered" and failed.states["m"] == "undone"
-            assert client.start("order", "later", {"big": "x"}).wait(60).results["charge"]["seen"] == ["freed"]
+            assert client.start("order", "later", {"big": "x"}).wait(60).results["charge"][
+                "seen"
+            ] == ["freed"]
     with contextlib.closing(connect(str(tmp_path / "store.db"))) as link:
         assert "ours" not in repr(link.ask("SELECT value FROM attempts"))
 
@@ -135,7 +155,8 @@ class Later:
             raise OSError("secret")
         return self.values[key]
 
-    async def delete(self, key: str) -> None: ...
+    async def delete(self, key: str) -> None:
+        ...
 
     async def keys(self, prefix: str, before: float) -> list[str]:
         return []
@@ -151,7 +172,10 @@ def test_values_of_a_service() -> None:
 
     assert run(main()) == [1] == values.read(blob)
     assert values.read({"$codec": "AAAA"}) == {"$codec": "AAAA"} and values.read([blob]) == [blob]
-    for key, says in (("ab/2/c", "is not in the blob store"), ("ab/3/c", "the blob store raised OSError")):
+    for key, says in (
+        ("ab/2/c", "is not in the blob store"),
+        ("ab/3/c", "the blob store raised OSError"),
+    ):
         with pytest.raises(sagas.CannotDecode, match=says) as error:
             values.read({**blob, "$blob": key})
         assert "secret" not in str(error.value)

@@ -146,11 +146,15 @@ def test_an_abort_of_many_gets_on(client: httpx.Client) -> None:
         assert client.post("/v1/bulk/abort", json=some).json()["count"] == count
         told = client.post("/v1/bulk/abort", json={**some, "dry_run": False, "count": count}).json()
         assert told["left"] == max(0, count - 1)
-        found.append((told["done"], [(one["key"], one["problem"]["detail"]) for one in told["refused"]]))
+        found.append(
+            (told["done"], [(one["key"], one["problem"]["detail"]) for one in told["refused"]])
+        )
     said = "saga 'gets-on-late' has ended, or was aborted before"
     assert found == [(0, [("gets-on-late", said)]), (1, []), (1, []), (1, []), (0, [])]
     sagas = client.get("/v1/sagas?search=gets-on-&phase=open").json()["sagas"]
-    assert len(sagas) == 4 and all(client.get(f"/v1/sagas/{one['key']}").json()["aborted"] for one in sagas)
+    assert len(sagas) == 4 and all(
+        client.get(f"/v1/sagas/{one['key']}").json()["aborted"] for one in sagas
+    )
 
 
 def test_reports_of_many_are_of_the_step(client: httpx.Client) -> None:

@@ -15,9 +15,22 @@ from typing import Any
 import httpx
 import pytest
 from driving import program
-from serving import DEFINITIONS, LONG, Served, all_done, command, error_of, report, served, start, stuck, take
+from serving import (
+    DEFINITIONS,
+    LONG,
+    Served,
+    all_done,
+    command,
+    error_of,
+    report,
+    served,
+    start,
+    stuck,
+    take,
+)
 
 import sagas
+
 
 @pytest.fixture(scope="module")
 def service(tmp_path_factory: pytest.TempPathFactory, store: str | None) -> Iterator[Served]:
@@ -52,11 +65,17 @@ def test_a_start_is_once(client: httpx.Client) -> None:
     """The same key again is the same saga; another input, or another definition, is a conflict; what is no saga is told."""
     assert start(client, "order", "once", {"a": 1}).status_code == 201
     again = start(client, "order", "once", {"a": 1})
-    assert (again.status_code, again.json()) == (200, {"key": "once", "definition": "order", "version": 1, "new": False})
+    assert (again.status_code, again.json()) == (
+        200,
+        {"key": "once", "definition": "order", "version": 1, "new": False},
+    )
     assert error_of(start(client, "order", "once", {"a": 2})) == "KeyConflict"
     assert start(client, "trip", "once", {"a": 1}).status_code == 409
     none = start(client, "nothing", "x")
-    assert (none.status_code, none.json()["detail"]) == (404, "there is no definition 'nothing', but few, licence, order, trip")
+    assert (none.status_code, none.json()["detail"]) == (
+        404,
+        "there is no definition 'nothing', but few, licence, order, trip",
+    )
     for body, kind, status, says in (
         ('{"key":', "application/json", 400, "the body is not JSON at line 1"),
         ("NaN", "application/json", 400, "the body is not JSON"),
@@ -66,7 +85,14 @@ def test_a_start_is_once(client: httpx.Client) -> None:
         wrong = client.post("/v1/sagas", content=body, headers={"content-type": kind})
         assert wrong.status_code == status and says in wrong.json()["detail"]
     assert start(client, "order", "a\nb").status_code == 422
-    assert client.post("/v1/sagas", content='{"definition":"order","key":"n","input":NaN}', headers={"content-type": "application/json"}).status_code == 400
+    assert (
+        client.post(
+            "/v1/sagas",
+            content='{"definition":"order","key":"n","input":NaN}',
+            headers={"content-type": "application/json"},
+        ).status_code
+        == 400
+    )
     assert get(client, "/v1/sagas/nobody", 404)["type"] == "urn:sagas:problem:NoSuchSaga"
     assert client.post("/v1/sagas/once/abort", json={}).json()["aborted"] is True
 
@@ -75,9 +101,21 @@ def test_a_saga_through_workers(client: httpx.Client) -> None:
     """Tasks with their inputs, results and tokens; a failure is planned for, and the plan's certificate is right."""
     start(client, "trip", "t/1 ü", {"to": "Rome"})
     (flight,) = take(client, "trip/flight")
-    assert (flight["key"], flight["input"], flight["results"], flight["attempt"]) == ("t/1 ü", {"to": "Rome"}, {}, 1)
-    assert flight["attempt_id"] == flight["idempotency_key"] + "-1" and flight["original_idempotency_key"] == flight["idempotency_key"]
-    assert report(client, flight, result={"seat": 1}).json() == {"kept": True, "repeated": False, "next": None}
+    assert (flight["key"], flight["input"], flight["results"], flight["attempt"]) == (
+        "t/1 ü",
+        {"to": "Rome"},
+        {},
+        1,
+    )
+    assert (
+        flight["attempt_id"] == flight["idempotency_key"] + "-1"
+        and flight["original_idempotency_key"] == flight["idempotency_key"]
+    )
+    assert report(client, flight, result={"seat": 1}).json() == {
+        "kept": True,
+        "repeated": False,
+        "next": None,
+    }
     (car,) = take(client, "trip/tour", "trip/car")
     assert car["results"] == {"flight": {"seat": 1}}
     report(client, car, result=7)
@@ -86,20 +124,49 @@ def test_a_saga_through_workers(client: httpx.Client) -> None:
         assert tour["attempt"] == attempt
         report(client, tour, "fail", error="full")
     (undo,) = take(client, "trip/car/undo")
-    assert (undo["undo"], undo["result"], undo["original_idempotency_key"]) == (True, 7, car["idempotency_key"])
+    assert (undo["undo"], undo["result"], undo["original_idempotency_key"]) == (
+        True,
+        7,
+        car["idempotency_key"],
+    )
     report(client, undo)
     end = get(client, "/v1/sagas/t%2F1%20%C3%BC/wait?seconds=60")
-    assert (end["phase"], end["states"]) == ("recovered", {"flight": "committed", "car": "undone", "tour": "failed"})
-    assert end["results"] == {"flight": {"seat": 1}} and end["plan"]["cost"] == 15 and end["errors"] == {"tour": "full"}
-    assert [step["decision"] for step in end["plan"]["steps"]] == ["stands", "is undone", "is left out"]
+    assert (end["phase"], end["states"]) == (
+        "recovered",
+        {"flight": "committed", "car": "undone", "tour": "failed"},
+    )
+    assert (
+        end["results"] == {"flight": {"seat": 1}}
+        and end["plan"]["cost"] == 15
+        and end["errors"] == {"tour": "full"}
+    )
+    assert [step["decision"] for step in end["plan"]["steps"]] == [
+        "stands",
+        "is undone",
+        "is left out",
+    ]
     text = client.get("/v1/sagas/t%2F1%20%C3%BC/certificate?form=text").text
-    assert subprocess.run([program()], input=text, capture_output=True, text=True).stdout == "least 15\n"
+    assert (
+        subprocess.run([program()], input=text, capture_output=True, text=True).stdout
+        == "least 15\n"
+    )
     certificate = get(client, "/v1/sagas/t%2F1%20%C3%BC/certificate")
-    assert certificate["answer"]["cost"] == 15 and certificate["case"] == {"states": ["committed", "committed", "failed"]}
+    assert certificate["answer"]["cost"] == 15 and certificate["case"] == {
+        "states": ["committed", "committed", "failed"]
+    }
     events = get(client, "/v1/sagas/t%2F1%20%C3%BC/log")["events"]
-    assert [event["event"] for event in events if event["step"] == "tour"] == ["start_run", "missed", "start_run", "fail"]
+    assert [event["event"] for event in events if event["step"] == "tour"] == [
+        "start_run",
+        "missed",
+        "start_run",
+        "fail",
+    ]
     picture = client.get("/v1/sagas/t%2F1%20%C3%BC/picture.svg")
-    assert picture.headers["content-type"] == "image/svg+xml" and "plan: undo, costs 5" in picture.text and "t/1 ü" in picture.text
+    assert (
+        picture.headers["content-type"] == "image/svg+xml"
+        and "plan: undo, costs 5" in picture.text
+        and "t/1 ü" in picture.text
+    )
 
 
 def test_leases(client: httpx.Client) -> None:
@@ -112,13 +179,28 @@ def test_leases(client: httpx.Client) -> None:
     assert new["attempt_id"] == old["attempt_id"] and new["lease"] > old["lease"]
     assert error_of(report(client, old, "fail", error="no")) == "LeaseLost"
     assert error_of(report(client, old, "unknown", error="no")) == "LeaseLost"
-    assert client.post(f"/v1/tasks/{old['attempt_id']}/heartbeat", json={"lease": old["lease"]}).status_code == 409
-    assert client.post(f"/v1/tasks/{new['attempt_id']}/heartbeat", json={"lease": new["lease"], "seconds": 500}).json()["until"] > time.time() + 400
+    assert (
+        client.post(
+            f"/v1/tasks/{old['attempt_id']}/heartbeat", json={"lease": old["lease"]}
+        ).status_code
+        == 409
+    )
+    assert (
+        client.post(
+            f"/v1/tasks/{new['attempt_id']}/heartbeat", json={"lease": new["lease"], "seconds": 500}
+        ).json()["until"]
+        > time.time() + 400
+    )
     assert report(client, old, result=1).json() == {"kept": True, "repeated": False, "next": None}
     assert report(client, new, result=1).json() == {"kept": True, "repeated": True, "next": None}
     assert error_of(report(client, new, result=2)) == "ConflictingReport"
     assert report(client, new, "fail", error="no").status_code == 409
-    assert error_of(client.post(f"/v1/tasks/{new['attempt_id']}/heartbeat", json={"lease": new["lease"]})) == "LeaseLost"
+    assert (
+        error_of(
+            client.post(f"/v1/tasks/{new['attempt_id']}/heartbeat", json={"lease": new["lease"]})
+        )
+        == "LeaseLost"
+    )
     for token in ("0" * 16 + "-0-flight-run-1", "x"):
         none = report(client, {**new, "attempt_id": token})
         assert (none.status_code, error_of(none)) == (403, "InvalidLease")
@@ -128,8 +210,11 @@ def test_leases(client: httpx.Client) -> None:
 
 def test_a_deadline(service: Served, client: httpx.Client) -> None:
     """A saga has it until its start says otherwise; workers and operators see it; what is no time is refused, and starts nothing."""
+
     def put(key: str, deadline: Any) -> httpx.Response:
-        return client.post("/v1/sagas", json={"definition": "trip", "key": key, "deadline": deadline})
+        return client.post(
+            "/v1/sagas", json={"definition": "trip", "key": key, "deadline": deadline}
+        )
 
     for wrong in (-1, "soon", True, [1], 1e300, 4e9):
         refused = put("timely", wrong)
@@ -138,12 +223,20 @@ def test_a_deadline(service: Served, client: httpx.Client) -> None:
     began = time.time()
     assert put("timely", 3600).status_code == 201 and put("timely", 7200).json()["new"] is False
     told = get(client, "/v1/sagas/timely")
-    assert began + 3599 < told["deadline"] < time.time() + 3601 and told["deadline_at"].endswith("Z")
+    assert began + 3599 < told["deadline"] < time.time() + 3601 and told["deadline_at"].endswith(
+        "Z"
+    )
     (listed,) = get(client, "/v1/sagas?search=timely")["sagas"]
     assert (listed["deadline"], listed["deadline_at"]) == (told["deadline"], told["deadline_at"])
-    assert f'<dt>Deadline</dt><dd><time class="exact" datetime="{told["deadline_at"][:16]}' in client.get("/ui/sagas/timely").text
+    assert (
+        f'<dt>Deadline</dt><dd><time class="exact" datetime="{told["deadline_at"][:16]}'
+        in client.get("/ui/sagas/timely").text
+    )
     (flight,) = take(client, "trip/flight")
-    assert flight["deadline"] == pytest.approx(told["deadline"], abs=1e-3) and flight["until"] < flight["deadline"]
+    assert (
+        flight["deadline"] == pytest.approx(told["deadline"], abs=1e-3)
+        and flight["until"] < flight["deadline"]
+    )
     assert report(client, flight, result=1).status_code == 200
     worker, seen = sagas.Worker(service.url, wait=1.0), list[Any]()
 
@@ -153,7 +246,9 @@ def test_a_deadline(service: Served, client: httpx.Client) -> None:
         worker.stop()
 
     worker.run()
-    assert seen[0].tzinfo is datetime.timezone.utc and seen[0].timestamp() == pytest.approx(told["deadline"], abs=1e-3)
+    assert seen[0].tzinfo is datetime.timezone.utc and seen[0].timestamp() == pytest.approx(
+        told["deadline"], abs=1e-3
+    )
     assert client.post("/v1/sagas/timely/abort", json={}).json()["aborted"] is True
     all_done(client, "trip/car/undo")
     assert put("late", 0.2).status_code == 201 and put("never", None).status_code == 201
@@ -188,7 +283,11 @@ def test_what_has_begun(client: httpx.Client) -> None:
     comes(("running", [("external", "local/w")]))
     report(client, task, "fail", error="no seat", final=True)
     told = get(client, "/v1/sagas/begun/wait?seconds=60")
-    assert (told["states"]["flight"], told["errors"], told["waits"]) == ("failed", {"flight": "no seat"}, [])
+    assert (told["states"]["flight"], told["errors"], told["waits"]) == (
+        "failed",
+        {"flight": "no seat"},
+        [],
+    )
 
 
 def test_a_refund_that_fails(client: httpx.Client) -> None:
@@ -206,14 +305,28 @@ def test_a_refund_that_fails(client: httpx.Client) -> None:
     told = get(client, "/v1/attention?kind=exhausted")
     assert told["counts"]["exhausted"] == 2
     one = told["entries"][0]
-    assert (one["key"], one["step"], one["undo"], one["detail"]) == ("refund-1", "a", True, "the bank is closed")
+    assert (one["key"], one["step"], one["undo"], one["detail"]) == (
+        "refund-1",
+        "a",
+        True,
+        "the bank is closed",
+    )
     assert one["calls"] == ["retry", "complete", "fail", "abort"]
     page = client.get("/ui/sagas/refund-1").text
-    assert "Undoing a has used up its attempts" in page and "the bank is closed" in page and "Exhausted" in client.get("/ui?kind=exhausted").text
-    assert "/steps/a/retry?undo=true" in page and client.get("/ui/sagas/refund-1/steps/a/retry?undo=true").status_code == 200
+    assert (
+        "Undoing a has used up its attempts" in page
+        and "the bank is closed" in page
+        and "Exhausted" in client.get("/ui?kind=exhausted").text
+    )
+    assert (
+        "/steps/a/retry?undo=true" in page
+        and client.get("/ui/sagas/refund-1/steps/a/retry?undo=true").status_code == 200
+    )
     wrong = client.post("/v1/sagas/refund-1/steps/b/retry", json={})
     assert (wrong.status_code, error_of(wrong)) == (409, "StepNotWaiting")
-    assert client.post("/v1/sagas/refund-1/steps/a/retry", json={"undo": True}).json()["kept"] is True
+    assert (
+        client.post("/v1/sagas/refund-1/steps/a/retry", json={"undo": True}).json()["kept"] is True
+    )
     all_done(client, "few/a/undo")
     many = {"filter": {"kind": "exhausted", "definition": "few", "step": "a", "undo": True}}
     assert client.post("/v1/bulk/retry", json=many).json()["count"] == 1
@@ -235,11 +348,24 @@ def test_a_compensation_that_failed(client: httpx.Client) -> None:
         report(client, tour, "fail", error="full")
     all_done(client, "trip/car/undo", failing=["trip/car/undo"])
     told = get(client, "/v1/sagas/undo-failed/wait?seconds=60")
-    assert (told["phase"], told["states"]["car"], told["errors"]) == ("recovered", "undo_failed", {"car": "no", "tour": "full"})
-    assert [(one["key"], one["undo_failed"]) for one in get(client, "/v1/sagas?phase=undo_failed")["sagas"]] == [("undo-failed", True)]
+    assert (told["phase"], told["states"]["car"], told["errors"]) == (
+        "recovered",
+        "undo_failed",
+        {"car": "no", "tour": "full"},
+    )
+    assert [
+        (one["key"], one["undo_failed"])
+        for one in get(client, "/v1/sagas?phase=undo_failed")["sagas"]
+    ] == [("undo-failed", True)]
     page = client.get("/ui/sagas/undo-failed").text
-    assert "Undoing <b>car</b> failed permanently: “no”" in page and "Undo failed" in client.get("/ui/sagas?phase=undo_failed").text
-    assert "car: undo failed, plan: keep, costs 30" in client.get("/v1/sagas/undo-failed/picture.svg").text
+    assert (
+        "Undoing <b>car</b> failed permanently: “no”" in page
+        and "Undo failed" in client.get("/ui/sagas?phase=undo_failed").text
+    )
+    assert (
+        "car: undo failed, plan: keep, costs 30"
+        in client.get("/v1/sagas/undo-failed/picture.svg").text
+    )
     figure = 'sagas_attention_required{reason="undo_failed"} '
     assert measured(client, f"{figure}1.0")
     first = client.get("/ui?kind=undo_failed&search=undo-failed").text
@@ -251,16 +377,18 @@ def test_a_compensation_that_failed(client: httpx.Client) -> None:
     assert get(client, "/v1/sagas?phase=undo_failed")["sagas"] == []
     assert measured(client, f"{figure}0.0")
     assert "undoing car" not in client.get("/ui?kind=undo_failed&search=undo-failed").text
-    assert "A compensation had failed, and it is resolved" in client.get(
-        "/ui/sagas/undo-failed"
-    ).text
+    assert (
+        "A compensation had failed, and it is resolved" in client.get("/ui/sagas/undo-failed").text
+    )
 
 
 def test_a_beaten_lease_holds(client: httpx.Client) -> None:
     """As long as it is beaten for, nobody else gets the task."""
     start(client, "trip", "beats")
     (task,) = take(client, "trip/flight", lease=2)
-    until = client.post(f"/v1/tasks/{task['attempt_id']}/heartbeat", json={"lease": task["lease"], "seconds": 600}).json()["until"]
+    until = client.post(
+        f"/v1/tasks/{task['attempt_id']}/heartbeat", json={"lease": task["lease"], "seconds": 600}
+    ).json()["until"]
     time.sleep(2.5)
     assert until > time.time() and take(client, "trip/flight", wait=0) == []
     report(client, task)
@@ -276,11 +404,22 @@ def test_a_report_takes_the_next(client: httpx.Client) -> None:
     assert report(client, first, next={"steps": ["no step"]}).status_code == 422
     answer = report(client, first, next={"steps": ["trip/flight"], "lease": 600}).json()
     (second,) = answer.pop("next")["tasks"]
-    assert answer == {"kept": True, "repeated": False} and {first["key"], second["key"]} == {"next-1", "next-2"}
-    assert report(client, second, "fail", error="no", next={"steps": ["trip/flight"]}).json()["next"]["tasks"] == []
+    assert answer == {"kept": True, "repeated": False} and {first["key"], second["key"]} == {
+        "next-1",
+        "next-2",
+    }
+    assert (
+        report(client, second, "fail", error="no", next={"steps": ["trip/flight"]}).json()["next"][
+            "tasks"
+        ]
+        == []
+    )
     all_done(client, "trip/car", "trip/tour")
     for key in ("next-1", "next-2"):
-        assert get(client, f"/v1/sagas/{key}/wait?seconds=60")["phase"] in ("completed", "recovered")
+        assert get(client, f"/v1/sagas/{key}/wait?seconds=60")["phase"] in (
+            "completed",
+            "recovered",
+        )
 
 
 def test_a_limit_holds_for_leases(service: Served, client: httpx.Client) -> None:
@@ -291,15 +430,21 @@ def test_a_limit_holds_for_leases(service: Served, client: httpx.Client) -> None
     assert take(client, "few/a", wait=0) == []
     found: list[Any] = []
     with service.client() as other:
-        taker = threading.Thread(target=lambda: found.extend(take(other, "few/a", most=10, lease=1)))
+        taker = threading.Thread(
+            target=lambda: found.extend(take(other, "few/a", most=10, lease=1))
+        )
         taker.start()
         report(client, first)
         taker.join(LONG)
     (third,) = found  # its lease runs out, and then the next one is there
     (fourth,) = take(client, "few/a", most=10)
-    assert {first["key"], second["key"], third["key"], fourth["key"]} >= {f"few-{number}" for number in range(3)}
+    assert {first["key"], second["key"], third["key"], fourth["key"]} >= {
+        f"few-{number}" for number in range(3)
+    }
     if fourth["key"] != third["key"]:
-        late = client.post(f"/v1/tasks/{third['attempt_id']}/heartbeat", json={"lease": third["lease"]})
+        late = client.post(
+            f"/v1/tasks/{third['attempt_id']}/heartbeat", json={"lease": third["lease"]}
+        )
         assert error_of(late) == "LeaseLost" and "have its place" in late.json()["detail"]
         assert report(client, third).status_code == 200  # done counts all the same
     report(client, second, "unknown", error="who knows")
@@ -318,13 +463,26 @@ def test_a_limit_holds_for_leases(service: Served, client: httpx.Client) -> None
     undone = []
     while len(undone) < 5:
         undone += take(client, "few/a/undo", most=10)
-    assert [queue for queue in client.get("/v1/queues").json()["queues"] if queue["definition"] == "few"] == [
-        {"definition": "few", "step": "a", "undo": True, "ready": 0, "oldest": None, "oldest_at": None, "claimed": 5}
+    assert [
+        queue for queue in client.get("/v1/queues").json()["queues"] if queue["definition"] == "few"
+    ] == [
+        {
+            "definition": "few",
+            "step": "a",
+            "undo": True,
+            "ready": 0,
+            "oldest": None,
+            "oldest_at": None,
+            "claimed": 5,
+        }
     ]
     for task in undone:
         report(client, task)
     for number in range(5):
-        assert get(client, f"/v1/sagas/few-{number}/wait?seconds=60")["states"] == {"a": "undone", "b": "failed"}
+        assert get(client, f"/v1/sagas/few-{number}/wait?seconds=60")["states"] == {
+            "a": "undone",
+            "b": "failed",
+        }
 
 
 def test_a_task_that_is_offered_again_has_no_worker(client: httpx.Client) -> None:
@@ -352,11 +510,18 @@ def test_unknown_is_said_once_under_a_lease(client: httpx.Client) -> None:
     (task,) = take(client, "few/a")
     assert report(client, task, "unknown", error="who knows").json()["repeated"] is False
     deadline = time.monotonic() + LONG
-    while not any(queue["step"] == "a" and queue["ready"] for queue in get(client, "/v1/queues")["queues"]):
+    while not any(
+        queue["step"] == "a" and queue["ready"] for queue in get(client, "/v1/queues")["queues"]
+    ):
         assert time.monotonic() < deadline
     assert report(client, task, "unknown", error="who knows").json()["repeated"] is True
     assert error_of(report(client, task, "fail", error="no")) == "ConflictingReport"
-    assert error_of(client.post(f"/v1/tasks/{task['attempt_id']}/heartbeat", json={"lease": task["lease"]})) == "LeaseLost"
+    assert (
+        error_of(
+            client.post(f"/v1/tasks/{task['attempt_id']}/heartbeat", json={"lease": task["lease"]})
+        )
+        == "LeaseLost"
+    )
     (again,) = take(client, "few/a")
     assert again["attempt_id"] == task["attempt_id"] and again["lease"] > task["lease"]
     assert error_of(report(client, task, "fail", error="no")) == "LeaseLost"
@@ -375,11 +540,23 @@ def test_nobody_knows(client: httpx.Client) -> None:
     assert take(client, "trip/tour", wait=2) == []
     (held,) = get(client, "/v1/sagas/hazy")["waits"]
     assert (held["why"], held["person"], held["said"]) == ("unknown", True, "the line went dead")
-    assert client.post("/v1/sagas/hazy/steps/tour/complete", json={"result": "it is there", "note": "asked them"}).status_code == 200
+    assert (
+        client.post(
+            "/v1/sagas/hazy/steps/tour/complete",
+            json={"result": "it is there", "note": "asked them"},
+        ).status_code
+        == 200
+    )
     end = get(client, "/v1/sagas/hazy/wait?seconds=60")
     assert end["results"]["tour"] == "it is there"
-    notes = [event["value"] for event in get(client, "/v1/sagas/hazy/log")["events"] if event["event"] == "note"]
-    assert [(note["what"], note["by"], note["note"], note["answer"]) for note in notes] == [("complete", "local", "asked them", True)]
+    notes = [
+        event["value"]
+        for event in get(client, "/v1/sagas/hazy/log")["events"]
+        if event["event"] == "note"
+    ]
+    assert [(note["what"], note["by"], note["note"], note["answer"]) for note in notes] == [
+        ("complete", "local", "asked them", True)
+    ]
 
 
 def test_an_approval(client: httpx.Client) -> None:
@@ -389,14 +566,23 @@ def test_an_approval(client: httpx.Client) -> None:
     while not get(client, "/v1/sagas/approve-me")["waits"]:
         assert time.monotonic() < deadline
     assert (
-        error_of(client.post("/v1/sagas/approve-me/steps/send/complete", json={"result": 1, "early": False}))
+        error_of(
+            client.post(
+                "/v1/sagas/approve-me/steps/send/complete", json={"result": 1, "early": False}
+            )
+        )
         == "StepNotWaiting"
     )
     assert (
-        client.post("/v1/sagas/approve-me/steps/review/complete", json={"result": {"by": "Ada"}}).status_code
+        client.post(
+            "/v1/sagas/approve-me/steps/review/complete", json={"result": {"by": "Ada"}}
+        ).status_code
         == 200
     )
-    assert client.post("/v1/sagas/approve-me/steps/review/fail", json={"error": "no"}).status_code == 409
+    assert (
+        client.post("/v1/sagas/approve-me/steps/review/fail", json={"error": "no"}).status_code
+        == 409
+    )
     all_done(client, "order/send")
     assert get(client, "/v1/sagas/approve-me/wait?seconds=60")["results"]["review"] == {"by": "Ada"}
 
@@ -418,7 +604,10 @@ def test_a_report_comes_before_its_step(client: httpx.Client) -> None:
 def test_an_aborted_task_that_nobody_took_is_not_begun(client: httpx.Client) -> None:
     start(client, "order", "early")
     client.post("/v1/sagas/early/steps/review/complete", json={"result": None})
-    assert client.post("/v1/sagas/early/abort", json={"note": "wrong address"}).json() == {"key": "early", "aborted": True}
+    assert client.post("/v1/sagas/early/abort", json={"note": "wrong address"}).json() == {
+        "key": "early",
+        "aborted": True,
+    }
     end = get(client, "/v1/sagas/early/wait?seconds=60")
     assert end["phase"] == "recovered" and end["states"]["send"] != "committed"
     assert client.post("/v1/sagas/early/abort", json={}).json()["aborted"] is False
@@ -430,7 +619,9 @@ def test_a_long_take_is_woken(service: Served, client: httpx.Client) -> None:
         gone.post("/v1/tasks/claim", json={"steps": ["licence/server"], "wait": 30}, timeout=0.5)
     found: list[Any] = []
     with service.client() as other:
-        taker = threading.Thread(target=lambda: found.extend(take(other, "licence/server", wait=30)))
+        taker = threading.Thread(
+            target=lambda: found.extend(take(other, "licence/server", wait=30))
+        )
         taker.start()
         time.sleep(1.0)
         start(client, "licence", "woken")
@@ -474,12 +665,20 @@ def test_events_are_streamed(service: Served, client: httpx.Client) -> None:
             if line.startswith("data:") and names[-1] == "saga_ended":
                 assert json.loads(line[5:])["key"] == "streamed"
                 break
-    assert names[0] == "saga_started" and names.count("step_started") == 2 and "step_succeeded" in names
+    assert (
+        names[0] == "saga_started"
+        and names.count("step_started") == 2
+        and "step_succeeded" in names
+    )
     boot, _, number = last.partition("-")
-    with service.client() as other, other.stream("GET", "/v1/events?key=streamed", headers={"Last-Event-ID": f"{boot}-{int(number) - 1}"}) as stream:
+    with service.client() as other, other.stream(
+        "GET", "/v1/events?key=streamed", headers={"Last-Event-ID": f"{boot}-{int(number) - 1}"}
+    ) as stream:
         again = next(line.strip() for line in stream.iter_lines() if line.startswith("event:"))
     assert again == "event: saga_ended"
-    with service.client() as other, other.stream("GET", "/v1/events", headers={"Last-Event-ID": "0-0"}) as stream:
+    with service.client() as other, other.stream(
+        "GET", "/v1/events", headers={"Last-Event-ID": "0-0"}
+    ) as stream:
         assert "event: missed" in [line.strip() for _, line in zip(range(3), stream.iter_lines())]
 
 
@@ -489,8 +688,20 @@ def test_a_stuck_one_is_resolved(client: httpx.Client) -> None:
         "cost": None,
         "blocking_steps": ["licence"],
         "steps": [
-            {"step": "server", "found": "committed", "cost_to_keep": 0, "cost_to_drop": None, "decision": "stuck"},
-            {"step": "licence", "found": "failed", "cost_to_keep": None, "cost_to_drop": None, "decision": "stuck"},
+            {
+                "step": "server",
+                "found": "committed",
+                "cost_to_keep": 0,
+                "cost_to_drop": None,
+                "decision": "stuck",
+            },
+            {
+                "step": "licence",
+                "found": "failed",
+                "cost_to_keep": None,
+                "cost_to_drop": None,
+                "decision": "stuck",
+            },
         ],
     }
     assert client.post("/v1/sagas/stuck-1/resolve", json={"note": ""}).status_code == 422
@@ -498,7 +709,8 @@ def test_a_stuck_one_is_resolved(client: httpx.Client) -> None:
     assert client.post("/v1/sagas/stuck-1/resolve", json={"note": "bought one"}).status_code == 200
     assert client.post("/v1/sagas/stuck-1/resolve", json={"note": "again"}).status_code == 409
     assert [get(client, "/v1/sagas/stuck-1")[word] for word in ("phase", "note")] == [
-        "resolved", "bought one",
+        "resolved",
+        "bought one",
     ]
 
 
@@ -521,12 +733,21 @@ def test_figures_and_life(client: httpx.Client) -> None:
     all_done(client, "licence/server", "licence/licence")
     get(client, "/v1/sagas/figures/wait?seconds=60")
     deadline = time.monotonic() + LONG
-    while 'sagas_current{phase="completed",saga="licence"}' not in (text := client.get("/metrics").text):
+    while 'sagas_current{phase="completed",saga="licence"}' not in (
+        text := client.get("/metrics").text
+    ):
         assert time.monotonic() < deadline  # they are counted once in a while
         time.sleep(0.1)
     for name in (
-        'sagas_started_total{saga="licence"}', 'sagas_current{phase="completed",saga="licence"}', 'sagas_steps_total{action="run",outcome="succeeded",saga="licence",step="server"}',
-        "sagas_step_seconds_bucket", "sagas_attention_required", "sagas_tasks_ready", "sagas_tasks_reclaimed_total", "sagas_commits_total", "sagas_http_requests_total",
+        'sagas_started_total{saga="licence"}',
+        'sagas_current{phase="completed",saga="licence"}',
+        'sagas_steps_total{action="run",outcome="succeeded",saga="licence",step="server"}',
+        "sagas_step_seconds_bucket",
+        "sagas_attention_required",
+        "sagas_tasks_ready",
+        "sagas_tasks_reclaimed_total",
+        "sagas_commits_total",
+        "sagas_http_requests_total",
     ):
         assert name in text, name
     assert get(client, "/health/live") == {"alive": True}
@@ -539,20 +760,35 @@ def test_the_log_is_lines_of_json(service: Served, client: httpx.Client) -> None
     all_done(client, "licence/server", "licence/licence", failing=["licence/licence"])
     get(client, "/v1/sagas/logged/wait?seconds=60")
     deadline = time.monotonic() + LONG
-    while '"/v1/sagas/logged/wait"' not in service.told():  # a request is logged once it is answered
+    while (
+        '"/v1/sagas/logged/wait"' not in service.told()
+    ):  # a request is logged once it is answered
         assert time.monotonic() < deadline
         time.sleep(0.05)
-    told = [json.loads(line) for line in service.told().splitlines() if not line.startswith("sagas serve: ")]  # what it says before
+    told = [
+        json.loads(line)
+        for line in service.told().splitlines()
+        if not line.startswith("sagas serve: ")
+    ]  # what it says before
     assert all({"at", "level", "logger", "message"} <= set(line) for line in told)
-    (stuck,) = (line for line in told if line.get("name") == "saga_stuck" and line["key"] == "logged")
+    (stuck,) = (
+        line for line in told if line.get("name") == "saga_stuck" and line["key"] == "logged"
+    )
     assert (stuck["level"], stuck["logger"], stuck["saga"]) == ("error", "sagas", "licence")
     asked = next(line for line in told if line.get("path") == "/v1/sagas/logged/wait")
-    assert (asked["logger"], asked["method"], asked["status"], asked["who"]) == ("sagas.http", "GET", 200, "local")
+    assert (asked["logger"], asked["method"], asked["status"], asked["who"]) == (
+        "sagas.http",
+        "GET",
+        200,
+        "local",
+    )
 
 
 def test_it_goes_on_after_a_kill(tmp_path: pathlib.Path, place: str) -> None:
     """Leases, approvals and reports outlive the service; the same report again is still one."""
-    with served(tmp_path, DEFINITIONS, "--node", "one", store=place) as service, service.client() as client:
+    with served(
+        tmp_path, DEFINITIONS, "--node", "one", store=place
+    ) as service, service.client() as client:
         start(client, "trip", "k")
         (flight,) = take(client, "trip/flight", lease=600)
         start(client, "order", "o")
@@ -621,30 +857,59 @@ def test_it_stops_although_clients_ask_on(tmp_path: pathlib.Path) -> None:
         ),
         (DEFINITIONS, ("--listen", "0.0.0.0:0"), "only a loopback address is allowed"),
         (DEFINITIONS, ("--listen", "here"), "use HOST:PORT"),
-        (DEFINITIONS, ("--blobs", "definitions/order.toml"), "order.toml: this is a file; pass a directory"),
-        (DEFINITIONS, ("--token-file", "nowhere.toml"), "nowhere.toml: file does not exist; create it with `sagas token"),
+        (
+            DEFINITIONS,
+            ("--blobs", "definitions/order.toml"),
+            "order.toml: this is a file; pass a directory",
+        ),
+        (
+            DEFINITIONS,
+            ("--token-file", "nowhere.toml"),
+            "nowhere.toml: file does not exist; create it with `sagas token",
+        ),
         (DEFINITIONS, ("--app", "nowhere:store"), "--app nowhere:store: No module"),
     ],
 )
-def test_what_cannot_be_served(tmp_path: pathlib.Path, files: dict[str, str], words: tuple[str, ...], says: str) -> None:
+def test_what_cannot_be_served(
+    tmp_path: pathlib.Path, files: dict[str, str], words: tuple[str, ...], says: str
+) -> None:
     """It says what is wrong and where, and does not start."""
     from serving import environment
 
     one = Served(tmp_path, files, *words)
-    done = subprocess.run(one.command(), env=environment(), capture_output=True, text=True, timeout=LONG, cwd=tmp_path)
+    done = subprocess.run(
+        one.command(), env=environment(), capture_output=True, text=True, timeout=LONG, cwd=tmp_path
+    )
     assert done.returncode in (1, 2, 4) and says in done.stderr, done.stderr
     assert "Traceback" not in done.stderr
 
 
 def test_numbers_that_options_do_not_take() -> None:
     """They end the command with status 2 and a line that says what to use, before anything starts; so do names that are none."""
-    for option in ("--rate", "--lease", "--concurrency", "--most-body", "--most-connections", "--blob-threshold"):
+    for option in (
+        "--rate",
+        "--lease",
+        "--concurrency",
+        "--most-body",
+        "--most-connections",
+        "--blob-threshold",
+    ):
         for value in ("0", "-1", "nan", "inf", "1e99", "x", "9" * 20):
             done = command("serve", "x.db", option, value)
-            assert done.returncode == 2 and f"argument {option}: invalid value '{value}': use " in done.stderr, done.stderr
-    for words in (("--app", ":x"), ("--app", ".shop:x"), ("--listen", "127.0.0.1:²"), ("--listen", "127.0.0.1:" + "1" * 5000)):
+            assert (
+                done.returncode == 2
+                and f"argument {option}: invalid value '{value}': use " in done.stderr
+            ), done.stderr
+    for words in (
+        ("--app", ":x"),
+        ("--app", ".shop:x"),
+        ("--listen", "127.0.0.1:²"),
+        ("--listen", "127.0.0.1:" + "1" * 5000),
+    ):
         done = command("serve", "x.db", *words)
-        assert done.returncode == 2 and f"sagas serve: invalid {words[0]} " in done.stderr, done.stderr
+        assert (
+            done.returncode == 2 and f"sagas serve: invalid {words[0]} " in done.stderr
+        ), done.stderr
 
 
 def test_what_is_meant_for_a_database(tmp_path: pathlib.Path) -> None:
@@ -653,7 +918,9 @@ def test_what_is_meant_for_a_database(tmp_path: pathlib.Path) -> None:
 
     for store in ("password=s3cret host=127.0.0.1", "postgresql//me:s3cret@host/a"):
         asked = Served(tmp_path, store=store).command()
-        done = subprocess.run(asked, env=environment(), capture_output=True, text=True, timeout=LONG, cwd=tmp_path)
+        done = subprocess.run(
+            asked, env=environment(), capture_output=True, text=True, timeout=LONG, cwd=tmp_path
+        )
         assert done.returncode == 2 and "a store is an SQLite file" in done.stderr, done.stderr
         assert "s3cret" not in done.stderr + done.stdout
     assert [path.name for path in tmp_path.iterdir()] == ["definitions"]
@@ -666,7 +933,9 @@ def test_a_module_s_steps_run_here(tmp_path: pathlib.Path) -> None:
         'send = shop.step(external=True, name="send", needs=[price])\nlong = sagas.Saga("long")\n\n'
         '@long.step(concurrency=1)\ndef once(task):\n    threading.Event().wait()\n\nstore = sagas.open("unused.db", [shop, long])\n'
     )
-    with served(tmp_path, {"order.toml": ORDER_OF_ONE}, "--app", "shop:store") as service, service.client() as client:
+    with served(
+        tmp_path, {"order.toml": ORDER_OF_ONE}, "--app", "shop:store"
+    ) as service, service.client() as client:
         start(client, "shop", "s", 21)
         (task,) = take(client, "shop/send")
         assert task["results"] == {"price": 42}
@@ -677,9 +946,15 @@ def test_a_module_s_steps_run_here(tmp_path: pathlib.Path) -> None:
             assert get(client, f"/v1/sagas/{key}/wait?seconds=0.2")["over"] is False
         first, second = (get(client, f"/v1/sagas/{key}") for key in ("long-1", "long-2"))
         assert (first["states"], first["waits"]) == ({"once": "running"}, [])
-        assert (second["states"], [one["why"] for one in second["waits"]]) == ({"once": "begun"}, ["concurrency"])
+        assert (second["states"], [one["why"] for one in second["waits"]]) == (
+            {"once": "begun"},
+            ["concurrency"],
+        )
         assert "once: running, attempt 1" in client.get("/v1/sagas/long-1/picture.svg").text
-        assert "once: waits, for a slot of its concurrency" in client.get("/v1/sagas/long-2/picture.svg").text
+        assert (
+            "once: waits, for a slot of its concurrency"
+            in client.get("/v1/sagas/long-2/picture.svg").text
+        )
 
 
 ORDER_OF_ONE = 'format = 2\nname = "one"\n[[step]]\nname = "a"\n'

@@ -43,11 +43,23 @@ def test_a_saga_from_its_start_to_its_end(service: Served, client: sagas.Service
     soon = datetime.datetime.now(datetime.timezone.utc) + datetime.timedelta(hours=1)
     run = client.start(ORDER, "full", {"n": 2**70}, labels={"of": "client"}, deadline=soon)
     again = client.start("order", "full", {"n": 2**70}, version=1)
-    assert (run.new, again.new) == (True, False) and (run.saga, run.version, repr(run)) == ("order", 1, "<run 'full'>")
-    with pytest.raises(TimeoutError, match=r"'full' is still open after 0 s: review waits for an approval"):
+    assert (run.new, again.new) == (True, False) and (run.saga, run.version, repr(run)) == (
+        "order",
+        1,
+        "<run 'full'>",
+    )
+    with pytest.raises(
+        TimeoutError, match=r"'full' is still open after 0 s: review waits for an approval"
+    ):
         run.wait(timeout=0)
     saga = run.get()
-    assert saga and not saga.over and not saga.ok and saga.labels == {"of": "client"} and saga.cost is None
+    assert (
+        saga
+        and not saga.over
+        and not saga.ok
+        and saga.labels == {"of": "client"}
+        and saga.cost is None
+    )
     assert saga.deadline and abs(saga.deadline - soon.timestamp()) < LONG
     client.complete("full", review, {"by": "Ada"}, note="seen")
     with service.client() as http:
@@ -64,7 +76,13 @@ def test_a_plan(client: sagas.ServiceClient) -> None:
     run = client.start("order", "aborted")
     assert run.abort() is True
     end = run.wait(timeout=LONG)
-    assert (end.phase, end.aborted, end.ok, end.cost, end.blocking_steps) == ("recovered", True, False, 0, [])
+    assert (end.phase, end.aborted, end.ok, end.cost, end.blocking_steps) == (
+        "recovered",
+        True,
+        False,
+        0,
+        [],
+    )
 
 
 def test_errors_are_those_of_a_store(client: sagas.ServiceClient) -> None:
@@ -72,7 +90,11 @@ def test_errors_are_those_of_a_store(client: sagas.ServiceClient) -> None:
     client.start("order", "known", {"card": "4111"})
     with pytest.raises(sagas.KeyConflict) as conflict:
         client.start("order", "known", {"card": "4222"})
-    assert "4111" not in str(conflict.value) and "4222" not in str(conflict.value) and "409" not in str(conflict.value)
+    assert (
+        "4111" not in str(conflict.value)
+        and "4222" not in str(conflict.value)
+        and "409" not in str(conflict.value)
+    )
     with pytest.raises(sagas.ServiceRefused) as refused:
         client.start("none", "key")
     assert (refused.value.status, refused.value.name) == (404, "NoSuchDefinition")
@@ -107,7 +129,11 @@ def test_lists(client: sagas.ServiceClient) -> None:
     client.fail(keys[0], "review", "too ünusual")
     assert client.wait(keys[0], timeout=LONG).errors == {"review": "too ünusual"}
     found = list(client.list(labels={"list": "a=b"}, saga=ORDER, page_size=2))
-    assert [one.key for one in found] == keys[::-1] and found[0].phase == "open" and found[0].labels == {"list": "a=b"}
+    assert (
+        [one.key for one in found] == keys[::-1]
+        and found[0].phase == "open"
+        and found[0].labels == {"list": "a=b"}
+    )
     moment = datetime.datetime.fromtimestamp(before, datetime.timezone.utc)
     assert len(list(client.list(search="listed", started_after=moment))) == 5
     assert list(client.list(search="listed", started_before=before)) == []
@@ -131,17 +157,28 @@ def test_events_go_on_behind_the_last_one(service: Served) -> None:
             for key in keys[4:]:
                 client.start("order", key)
             with client.events(last_event_id=seen[-1].id) as events:
-                seen += itertools.islice((event for event in events if event.name == "saga_started"), 3)
+                seen += itertools.islice(
+                    (event for event in events if event.name == "saga_started"), 3
+                )
                 assert events.last_event_id == seen[-1].id
-    assert [event.key for event in seen] == keys and all(event.saga == "order" and event.at > 0 for event in seen)
+    assert [event.key for event in seen] == keys and all(
+        event.saga == "order" and event.at > 0 for event in seen
+    )
 
 
 def test_nobody_answers(service: Served) -> None:
     """That is told once the time is over; the next one of several services is asked."""
     dead = f"http://{host()}:9"
     with sagas.ServiceClient(dead, timeout=0.2) as client:
-        for call in (lambda: client.start("order", "late"), lambda: client.events().open(), lambda: next(client.events())):
-            with pytest.raises(sagas.ServiceUnavailable, match="does not answer within 0.2 s: .*refused.* Repeat it"):
+        for call in (
+            lambda: client.start("order", "late"),
+            lambda: client.events().open(),
+            lambda: next(client.events()),
+        ):
+            with pytest.raises(
+                sagas.ServiceUnavailable,
+                match="does not answer within 0.2 s: .*refused.* Repeat it",
+            ):
                 call()
     assert issubclass(sagas.ServiceUnavailable, sagas.TemporaryError)
     with sagas.ServiceClient([dead, service.url], timeout=LONG) as client:

@@ -35,7 +35,11 @@ backoff = { initial = 1, maximum = 60 }
 concurrency = 4
 """
 FAULTS = [
-    (GOOD.replace('"trip"', '"Trip"'), BESIDE, "a.toml:3: saga 'Trip': invalid name: use 1 to 32 characters a-z"),
+    (
+        GOOD.replace('"trip"', '"Trip"'),
+        BESIDE,
+        "a.toml:3: saga 'Trip': invalid name: use 1 to 32 characters a-z",
+    ),
     (
         GOOD.replace("format = 2", "format = 3"),
         BESIDE,
@@ -172,7 +176,7 @@ FAULTS = [
         BESIDE.replace("concurrency = 4", "concurrency = "),
         "a.service.toml:8: invalid TOML: Invalid value",
     ),
-]  # fmt: skip
+]
 
 
 @pytest.mark.parametrize("text, beside, says", FAULTS)
@@ -192,7 +196,9 @@ def test_what_is_good(tmp_path: pathlib.Path) -> None:
     (tmp_path / "a.toml").write_text(GOOD.replace("undo = 5", "undo = 5\nkeep = 1"))
     (tmp_path / "a.service.toml").write_text(BESIDE)
     (saga,) = definition_files.read(tmp_path)
-    assert [step.name for step in saga.steps] == ["car", "review"] and saga.steps[0].concurrency == 4
+    assert [step.name for step in saga.steps] == ["car", "review"] and saga.steps[
+        0
+    ].concurrency == 4
     (warning,) = saga.warnings()
     assert warning.startswith(
         f"{tmp_path}/a.toml:5: saga 'trip', step 'car': the compensation can never be called"
@@ -237,7 +243,7 @@ PLACES = [
     (("step", 1, "name"), 17),
     (("step", 1, "none"), 16),
     (("none",), 1),
-]  # fmt: skip
+]
 
 
 @pytest.mark.parametrize("path, line", PLACES)

@@ -139,7 +139,13 @@ def test_a_client_that_goes_before_its_body_is_whole(tmp_path: pathlib.Path) -> 
     assert (line["logger"], line["status"]) == ("sagas.http", 0)
 
 
-POSTS = ("/v1/sagas", "/v1/tasks/claim", "/v1/sagas/x/steps/y/complete", "/v1/sagas/x/abort", "/v1/tasks/x/complete")
+POSTS = (
+    "/v1/sagas",
+    "/v1/tasks/claim",
+    "/v1/sagas/x/steps/y/complete",
+    "/v1/sagas/x/abort",
+    "/v1/tasks/x/complete",
+)
 REFUSED: list[tuple[str, str | None, set[int]]] = [
     *((path, name, {401, 429}) for path in POSTS for name in (None, "wrong")),
     ("/v1/sagas", "worker", {403}),
@@ -148,7 +154,7 @@ REFUSED: list[tuple[str, str | None, set[int]]] = [
     ("/v1/sagas/x/abort", "approver", {403}),
     ("/v1/sagas/x/resolve", "approver", {403}),
     ("/ui/start", None, {403}),
-]  # fmt: skip
+]
 
 
 @pytest.fixture(scope="module")

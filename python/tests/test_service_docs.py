@@ -42,7 +42,9 @@ def folder_of(tmp_path: pathlib.Path) -> dict[str, str]:
         (tmp_path / name).symlink_to(TOP / name)
     (tmp_path / "bin").mkdir()
     for name, words in (("python3", ""), ("sagas", "-m sagas ")):
-        (tmp_path / "bin" / name).write_text(f'#!/bin/sh\nexec {shlex.quote(sys.executable)} {words}"$@"\n')
+        (tmp_path / "bin" / name).write_text(
+            f'#!/bin/sh\nexec {shlex.quote(sys.executable)} {words}"$@"\n'
+        )
         (tmp_path / "bin" / name).chmod(0o755)
     told = {name: value for name, value in environment().items() if name != "PYTHONPATH"}
     return told | {"PATH": f"{tmp_path / 'bin'}:{os.environ['PATH']}"}
@@ -54,15 +56,28 @@ def test_the_page(tmp_path: pathlib.Path) -> None:
     assert len(told) > 20
     script = ["trap 'kill $(jobs -p) 2>/dev/null; wait' EXIT"]
     for number, (command, _) in enumerate(told):
-        script.append(f"{{ {command.replace('127.0.0.1', address)}\n}} >{tmp_path}/out.{number} 2>&1")
+        script.append(
+            f"{{ {command.replace('127.0.0.1', address)}\n}} >{tmp_path}/out.{number} 2>&1"
+        )
         if "sagas serve" in command:
             script.append(f"until [ -s {tmp_path}/out.{number} ]; do sleep 0.1; done")
-    done = subprocess.run(["bash", "-c", "\n".join(script)], cwd=tmp_path, env=folder_of(tmp_path), stdin=subprocess.DEVNULL, stdout=subprocess.PIPE, stderr=subprocess.STDOUT, text=True, timeout=240)
+    done = subprocess.run(
+        ["bash", "-c", "\n".join(script)],
+        cwd=tmp_path,
+        env=folder_of(tmp_path),
+        stdin=subprocess.DEVNULL,
+        stdout=subprocess.PIPE,
+        stderr=subprocess.STDOUT,
+        text=True,
+        timeout=240,
+    )
     log = (tmp_path / "service.log").read_text()
     for number, (command, wanted) in enumerate(told):
         out = (tmp_path / f"out.{number}").read_text().replace(address, "127.0.0.1")
         if not (command.endswith("&") and not wanted):
-            assert out == wanted, f"$ {command}\n{out}instead of\n{wanted}\n{done.stdout}\n{log[-3000:]}"
+            assert (
+                out == wanted
+            ), f"$ {command}\n{out}instead of\n{wanted}\n{done.stdout}\n{log[-3000:]}"
     assert "Traceback" not in log
 
 
@@ -85,15 +100,26 @@ def test_each_command_is_described() -> None:
     page = (REFERENCE / "cli-store.md").read_text()
     headings = " ".join(re.findall(r"^## (.*)$", page, re.M))
     assert {name for name in commands if not re.search(rf"`{name}[ `]", headings)} == set()
-    pages = {page: commands.values(), (TOP / "docs" / "guides" / "service.md").read_text(): (serve(), token_parser())}
+    pages = {
+        page: commands.values(),
+        (TOP / "docs" / "guides" / "service.md").read_text(): (serve(), token_parser()),
+    }
     for text, parsers in pages.items():
-        options = {word for one in parsers for action in one._actions for word in action.option_strings if word.startswith("--")}
+        options = {
+            word
+            for one in parsers
+            for action in one._actions
+            for word in action.option_strings
+            if word.startswith("--")
+        }
         assert {word for word in options - {"--help"} if not re.search(rf"{word}\b", text)} == set()
 
 
 def test_metrics_are_described(tmp_path: pathlib.Path) -> None:
     """The reference has each figure that a service tells, and each that an alert names is among them."""
-    alerts = " ".join(re.findall(r"expr: (.*)", (TOP / "examples" / "service" / "alerts.yml").read_text()))
+    alerts = " ".join(
+        re.findall(r"expr: (.*)", (TOP / "examples" / "service" / "alerts.yml").read_text())
+    )
     board = json.loads((TOP / "examples" / "service" / "grafana.json").read_text())
     targets = [target for panel in board["panels"] for target in panel["targets"]]
     shown = " ".join(target["expr"] for target in targets)
@@ -107,7 +133,9 @@ def test_metrics_are_described(tmp_path: pathlib.Path) -> None:
         start(client, "trip", "a")
         take(client, "trip/flight")
         text = client.get("/metrics").text
-    told = {name for name in re.findall(r"# TYPE (sagas_\w+)", text) if not name.endswith("_created")}
+    told = {
+        name for name in re.findall(r"# TYPE (sagas_\w+)", text) if not name.endswith("_created")
+    }
     counted = {name.removesuffix("_total") for name in told}
     assert names and names <= counted, names - counted
     assert told == set(re.findall(r"`(sagas_\w+[a-z])[{`]", (REFERENCE / "metrics.md").read_text()))
@@ -120,37 +148,63 @@ def test_each_wait_is_described() -> None:
 
     table = PAGE.partition("| `why` |")[2].partition("\n\n")[0]
     inner = {Suspension.STEP_LIMIT, Suspension.FLEET_LIMIT}  # what the store calls them
-    assert set(WAITS_FOR) - inner == set(re.findall(r"`(\w+)`", re.sub(r"(?m)^(\|[^|]*)\|.*", r"\1", table)))
+    assert set(WAITS_FOR) - inner == set(
+        re.findall(r"`(\w+)`", re.sub(r"(?m)^(\|[^|]*)\|.*", r"\1", table))
+    )
     page = (TOP / "docs" / "guides" / "troubleshooting.md").read_text()
     assert {word for word in NEEDS.values() if word != "stuck" and f"`{word}`" not in page} == set()
     rows = [re.sub("NAME|N", ".+", row) for row in re.findall(r"^\| ([^|]*) \|", page, re.M)]
     one = {"until": None, "count": 1, "worker": "w", "saga": "trip", "version": 1}
     kinds = ["unknown", "exhausted", "retry", "cannot_decode", "node", "approval", "wait", "child"]
     said = [waits_for(one | {"why": why}) for why in kinds]
-    said += [waits_for(one | {"why": "external", "until": 4e9}), waits_for(one | {"why": "unknown", "until": 4e9})]
+    said += [
+        waits_for(one | {"why": "external", "until": 4e9}),
+        waits_for(one | {"why": "unknown", "until": 4e9}),
+    ]
     assert [text for text in said if not any(re.match(row, text) for row in rows)] == []
 
 
 @pytest.mark.parametrize("engine", ["podman", "docker"])
-def test_the_containers_have_one_image_and_its_tokens_can_be_read(tmp_path: pathlib.Path, engine: str) -> None:
+def test_the_containers_have_one_image_and_its_tokens_can_be_read(
+    tmp_path: pathlib.Path, engine: str
+) -> None:
     """With docker, root owns the files that a container writes: those of tokens are for others, too."""
     deploy = shutil.copytree(TOP / "examples" / "deploy", tmp_path / "deploy")
     places = (TOP / "docs" / "guides" / "service.md", deploy / "Containerfile")
-    (image,) = {name for path in places for name in re.findall(r"podman build .* -t (\S+) \.", path.read_text())}
+    (image,) = {
+        name
+        for path in places
+        for name in re.findall(r"podman build .* -t (\S+) \.", path.read_text())
+    }
     (tmp_path / "bin").mkdir()
     text = '#!/bin/bash\nwhile [ "$1" != --volume ]; do shift; done; folder=${2%:*}; image=$5; script=${7//\\/made/$folder}\n'
-    text += f'(umask 022; bash -ec "$script") && stat -c "%a $image" "$folder"/* >>{tmp_path}/made\n'
+    text += (
+        f'(umask 022; bash -ec "$script") && stat -c "%a $image" "$folder"/* >>{tmp_path}/made\n'
+    )
     (tmp_path / "bin" / engine).write_text(text)
-    (tmp_path / "bin" / "sagas").write_text(f'#!/bin/sh\nexec {shlex.quote(sys.executable)} -m sagas "$@"\n')
+    (tmp_path / "bin" / "sagas").write_text(
+        f'#!/bin/sh\nexec {shlex.quote(sys.executable)} -m sagas "$@"\n'
+    )
     for path in (tmp_path / "bin").iterdir():
         path.chmod(0o755)
     for name in ("bash", "sh", "dirname", "mktemp", "rm", "stat", "od", "tr", "cat", "cp", "chmod"):
         (tmp_path / "bin" / name).symlink_to(str(shutil.which(name)))
-    told = subprocess.run([deploy / "setup"], env=environment() | {"PATH": str(tmp_path / "bin")}, capture_output=True, text=True, check=True)
+    told = subprocess.run(
+        [deploy / "setup"],
+        env=environment() | {"PATH": str(tmp_path / "bin")},
+        capture_output=True,
+        text=True,
+        check=True,
+    )
     assert re.fullmatch(r"caller:   sagas_\S+\noperator: sagas_\S+\n", told.stdout)
-    assert "SAGAS_WORKER_TOKEN=sagas_" in (deploy / ".env").read_text() and (deploy / ".env").stat().st_mode & 0o077 == 0
+    assert (
+        "SAGAS_WORKER_TOKEN=sagas_" in (deploy / ".env").read_text()
+        and (deploy / ".env").stat().st_mode & 0o077 == 0
+    )
     assert set((tmp_path / "made").read_text().splitlines()) == {f"644 {image}"}
-    assert f"SAGAS_IMAGE:-{image}}}" in (deploy / "compose.yaml").read_text() and image.startswith("localhost/")
+    assert f"SAGAS_IMAGE:-{image}}}" in (deploy / "compose.yaml").read_text() and image.startswith(
+        "localhost/"
+    )
 
 
 def test_the_unit_starts_a_service(tmp_path: pathlib.Path) -> None:
@@ -161,10 +215,15 @@ def test_the_unit_starts_a_service(tmp_path: pathlib.Path) -> None:
     assert int(service["TimeoutStopSec"]) > 20 and int(service["LimitNOFILE"]) > 2000
     (tmp_path / "definitions").symlink_to(TOP / "examples" / "service" / "definitions")
     token(tmp_path, "shop", "caller")
-    words = [re.sub("^(/var/lib|/etc)/sagas", str(tmp_path), word) for word in shlex.split(service["ExecStart"])]
+    words = [
+        re.sub("^(/var/lib|/etc)/sagas", str(tmp_path), word)
+        for word in shlex.split(service["ExecStart"])
+    ]
     assert words[:2] == ["/usr/bin/sagas", "serve"] and words[-2:] == ["--listen", "127.0.0.1:8080"]
     words[:1], words[-1] = [sys.executable, "-m", "sagas"], f"{host()}:0"
-    with subprocess.Popen(words, env=environment(), cwd=tmp_path, stdout=subprocess.PIPE, text=True) as process:
+    with subprocess.Popen(
+        words, env=environment(), cwd=tmp_path, stdout=subprocess.PIPE, text=True
+    ) as process:
         try:
             assert process.stdout and "http://" in process.stdout.readline()
             process.send_signal(signal.SIGTERM)
@@ -177,7 +236,14 @@ def test_the_unit_starts_a_service(tmp_path: pathlib.Path) -> None:
 def test_the_unit_is_hardened() -> None:
     """systemd's own measure of what the service may do: at most 2.0 of 10."""
     unit = TOP / "examples" / "service" / "sagas.service"
-    words = ["systemd-analyze", "security", "--offline=true", "--no-pager", "--threshold=20", str(unit)]
+    words = [
+        "systemd-analyze",
+        "security",
+        "--offline=true",
+        "--no-pager",
+        "--threshold=20",
+        str(unit),
+    ]
     done = subprocess.run(words, capture_output=True, text=True, check=False)
     assert done.returncode == 0, done.stdout[-300:] + done.stderr
 

@@ -45,7 +45,7 @@ WORDS: list[tuple[str, dict[str, Any]]] = [
     ("fail", {"error": "forged"}),
     ("unknown", {"error": "forged"}),
     ("heartbeat", {"seconds": 600}),
-]  # fmt: skip
+]
 
 
 class World:
@@ -222,7 +222,7 @@ def test_another_worker_s_task(world: World) -> None:
     assert report(world.clients["ada"][-1], task, "fail", error="full").json() == {
         "kept": True,
         "repeated": False,
-            "next": None,
+        "next": None,
     }
     (again,) = take(world.ada, "few/a/undo", "few/a", wait=1) or [None]
     assert again is None or again["attempt_id"] != task["attempt_id"]
@@ -255,7 +255,8 @@ def test_a_lease_is_of_one_attempt(world: World) -> None:
         assert world.forged(second["attempt_id"], lease, by="ada") == INVALID
     assert report(world.ada, second, result=5).json()["kept"] is True
     assert (
-        world.operator.get("/v1/sagas/forged-attempt/wait?seconds=60").json()["results"]["tour"] == 5
+        world.operator.get("/v1/sagas/forged-attempt/wait?seconds=60").json()["results"]["tour"]
+        == 5
     )
 
 

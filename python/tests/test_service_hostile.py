@@ -42,7 +42,9 @@ def service(tmp_path_factory: pytest.TempPathFactory) -> Iterator[Served]:
 def memory(service: Served) -> int:
     """The most memory that the service has had, in bytes."""
     assert service.process
-    found = re.search(r"VmHWM:\s+(\d+) kB", pathlib.Path(f"/proc/{service.process.pid}/status").read_text())
+    found = re.search(
+        r"VmHWM:\s+(\d+) kB", pathlib.Path(f"/proc/{service.process.pid}/status").read_text()
+    )
     assert found
     return int(found[1]) * 1024
 
@@ -52,12 +54,37 @@ def is_well(service: Served) -> None:
     with service.client() as client:
         assert client.get("/health/live").json() == {"alive": True}
         assert client.get("/v1/sagas/there").json()["key"] == "there"
-    assert "Traceback" not in service.told() and '"trace"' not in service.told(), service.told()[-3000:]
+    assert "Traceback" not in service.told() and '"trace"' not in service.told(), service.told()[
+        -3000:
+    ]
 
 
-TEXT = st.one_of(st.text(max_size=20), st.sampled_from(["there", "ordered", "trip", "order", "tour", "review", "trip/flight", "order/send/undo", "..", "\ud800", "0" * 700]))
+TEXT = st.one_of(
+    st.text(max_size=20),
+    st.sampled_from(
+        [
+            "there",
+            "ordered",
+            "trip",
+            "order",
+            "tour",
+            "review",
+            "trip/flight",
+            "order/send/undo",
+            "..",
+            "\ud800",
+            "0" * 700,
+        ]
+    ),
+)
 VALUES = st.recursive(
-    st.one_of(st.none(), st.booleans(), st.integers(-(2**70), 2**70), st.floats(allow_nan=False, allow_infinity=False), TEXT),
+    st.one_of(
+        st.none(),
+        st.booleans(),
+        st.integers(-(2**70), 2**70),
+        st.floats(allow_nan=False, allow_infinity=False),
+        TEXT,
+    ),
     lambda inner: st.one_of(st.lists(inner, max_size=3), st.dictionaries(TEXT, inner, max_size=3)),
     max_leaves=8,
 )
@@ -71,11 +98,21 @@ def of_schema(told: dict[str, Any], whole: dict[str, Any]) -> st.SearchStrategy[
         return st.sampled_from(told["enum"])
     kind = told.get("type")
     if kind == "object":
-        needed = {name: of_schema(part, whole) for name, part in told.get("properties", {}).items() if name in told.get("required", ())}
-        more = {name: of_schema(part, whole) for name, part in told.get("properties", {}).items() if name not in needed}
+        needed = {
+            name: of_schema(part, whole)
+            for name, part in told.get("properties", {}).items()
+            if name in told.get("required", ())
+        }
+        more = {
+            name: of_schema(part, whole)
+            for name, part in told.get("properties", {}).items()
+            if name not in needed
+        }
         return st.fixed_dictionaries(needed, optional=more)
     if kind == "array":
-        return st.lists(of_schema(told.get("items", {}), whole), min_size=told.get("minItems", 0), max_size=3)
+        return st.lists(
+            of_schema(told.get("items", {}), whole), min_size=told.get("minItems", 0), max_size=3
+        )
     if kind in ("integer", "number"):
         low, high = int(told.get("minimum", 0)), int(min(told.get("maximum", 1000), 2**62))
         return st.integers(low, high)
@@ -92,18 +129,35 @@ def requests(draw: st.DrawFn, schema: dict[str, Any]) -> tuple[str, str, bytes, 
     query = {}
     for word in told.get("parameters", ()):
         if word["in"] == "path":
-            path = path.replace(f"{{{word['name']}}}", quote(draw(TEXT).encode("utf-8", "surrogatepass"), safe=""))
+            path = path.replace(
+                f"{{{word['name']}}}", quote(draw(TEXT).encode("utf-8", "surrogatepass"), safe="")
+            )
         elif draw(st.booleans()):
             query[word["name"]] = draw(st.one_of(of_schema(word["schema"], schema), TEXT))
-    query = {name: str(value).encode("utf-8", "surrogatepass") for name, value in query.items()} | ({"seconds": b"0"} if path.endswith("/wait") else {})
+    query = {name: str(value).encode("utf-8", "surrogatepass") for name, value in query.items()} | (
+        {"seconds": b"0"} if path.endswith("/wait") else {}
+    )
     body = b""
     if "requestBody" in told:
         of = told["requestBody"]["content"]["application/json"]["schema"]
         value = draw(st.one_of(of_schema(of, schema), of_schema(of, schema), VALUES))
         if isinstance(value, dict) and path == "/v1/tasks/claim":
             value = value | {"wait": 0}
-        body = draw(st.one_of(st.just(json.dumps(value).encode()), st.binary(max_size=30))) if draw(st.integers(0, 9)) == 0 else json.dumps(value).encode()
-    return method.upper(), f"{path}?{urlencode(query)}" if query else path, body, draw(st.sampled_from(["application/json"] * 5 + ["text/plain", "application/x-www-form-urlencoded", "x"]))
+        body = (
+            draw(st.one_of(st.just(json.dumps(value).encode()), st.binary(max_size=30)))
+            if draw(st.integers(0, 9)) == 0
+            else json.dumps(value).encode()
+        )
+    return (
+        method.upper(),
+        f"{path}?{urlencode(query)}" if query else path,
+        body,
+        draw(
+            st.sampled_from(
+                ["application/json"] * 5 + ["text/plain", "application/x-www-form-urlencoded", "x"]
+            )
+        ),
+    )
 
 
 def send_any_json(service: Served, most: settings) -> None:
@@ -130,23 +184,56 @@ def send_odd_texts(service: Served) -> None:
     """Zeros, halves of pairs and what is no UTF-8, wherever a text may stand."""
     with service.client() as client:
         for odd in ODD:
-            for path in (f"/v1/sagas?search={odd}", f"/v1/sagas?definition={odd}", f"/v1/sagas?after={odd}", f"/v1/sagas/{odd}", f"/v1/sagas/{odd}/log", f"/v1/sagas/{odd}/wait?seconds=0"):
+            for path in (
+                f"/v1/sagas?search={odd}",
+                f"/v1/sagas?definition={odd}",
+                f"/v1/sagas?after={odd}",
+                f"/v1/sagas/{odd}",
+                f"/v1/sagas/{odd}/log",
+                f"/v1/sagas/{odd}/wait?seconds=0",
+            ):
                 assert client.get(path).status_code < 500, path
-            for path in (f"/ui/sagas?search={odd}", f"/ui/sagas?definition={odd}", f"/ui/sagas/{odd}"):
+            for path in (
+                f"/ui/sagas?search={odd}",
+                f"/ui/sagas?definition={odd}",
+                f"/ui/sagas/{odd}",
+            ):
                 assert client.get(path).status_code < 500, path
-            for path in (f"/v1/sagas/{odd}/abort", f"/v1/sagas/there/steps/{odd}/complete", f"/v1/sagas/{odd}/resolve"):
+            for path in (
+                f"/v1/sagas/{odd}/abort",
+                f"/v1/sagas/there/steps/{odd}/complete",
+                f"/v1/sagas/{odd}/resolve",
+            ):
                 assert client.post(path, json={"note": odd}).status_code < 500, path
             assert client.post(f"/v1/tasks/{odd}/complete", json={"lease": 1}).status_code < 500
         for text in ("\0", "\ud800", "a\0b"):
-            body = json.dumps({"definition": "order", "key": f"odd-{text!r}", "input": {text: [text]}}).encode()
-            assert client.post("/v1/sagas", content=body, headers={"content-type": "application/json"}).status_code == 201
+            body = json.dumps(
+                {"definition": "order", "key": f"odd-{text!r}", "input": {text: [text]}}
+            ).encode()
+            assert (
+                client.post(
+                    "/v1/sagas", content=body, headers={"content-type": "application/json"}
+                ).status_code
+                == 201
+            )
             key = quote(f"odd-{text!r}", safe="")
             for path in (f"/v1/sagas/{key}/steps/review/complete", f"/v1/sagas/{key}/abort"):
                 more = {"result": text} if "steps" in path else {}
                 body = json.dumps({**more, "note": f"x{text}"}).encode()
-                assert client.post(path, content=body, headers={"content-type": "application/json"}).status_code < 500, path
+                assert (
+                    client.post(
+                        path, content=body, headers={"content-type": "application/json"}
+                    ).status_code
+                    < 500
+                ), path
             assert client.get(f"/v1/sagas/{key}").json()["input"] == {text: [text]}
-            for path in (f"/ui/sagas/{key}", f"/v1/sagas/{key}/log", f"/v1/sagas/{key}/picture.svg", "/ui/sagas", "/ui"):
+            for path in (
+                f"/ui/sagas/{key}",
+                f"/v1/sagas/{key}/log",
+                f"/v1/sagas/{key}/picture.svg",
+                "/ui/sagas",
+                "/ui",
+            ):
                 assert client.get(path).status_code == 200, path
 
 
@@ -167,12 +254,22 @@ BODIES = [b"[" * 200_000, DEEP, b"1" * 50_000, b'"\xff"', b'{"a":1e999}', b"\x00
 def test_bodies_that_are_none(service: Served) -> None:
     with service.client() as client:
         for body in BODIES:
-            answer = client.post("/v1/sagas", content=body, headers={"content-type": "application/json"})
+            answer = client.post(
+                "/v1/sagas", content=body, headers={"content-type": "application/json"}
+            )
             assert 400 <= answer.status_code < 500 and "type" in answer.json(), body[:20]
     is_well(service)
 
 
-PARTS = [b"GET / HTTP/1.1\r\nHost: 127.0.0.1\r\n", b"POST /v1/sagas HTTP/1.1\r\n", b"Content-Length: 10\r\n", b"Transfer-Encoding: chunked\r\n", b"\r\n", b"GET /\xff\xfe HTTP/1.1\r\n", b"Host: [\r\n\r\n"]
+PARTS = [
+    b"GET / HTTP/1.1\r\nHost: 127.0.0.1\r\n",
+    b"POST /v1/sagas HTTP/1.1\r\n",
+    b"Content-Length: 10\r\n",
+    b"Transfer-Encoding: chunked\r\n",
+    b"\r\n",
+    b"GET /\xff\xfe HTTP/1.1\r\n",
+    b"Host: [\r\n\r\n",
+]
 
 
 @MANY
@@ -209,7 +306,9 @@ def test_a_body_that_is_no_http(service: Served, path: str) -> None:
         while one.recv(65536):
             pass
     with connection(service) as one:  # read only once the request before it is answered
-        one.sendall(b"GET /health/live HTTP/1.1\r\nHost: 127.0.0.1\r\n\r\n" + head + b"no chunk\r\n")
+        one.sendall(
+            b"GET /health/live HTTP/1.1\r\nHost: 127.0.0.1\r\n\r\n" + head + b"no chunk\r\n"
+        )
         while one.recv(65536):
             pass
     with connection(service) as one:
@@ -230,14 +329,21 @@ def pieces(count: int, size: int) -> Iterator[bytes]:
 def is_refused(service: Served, path: str, content: Any) -> None:
     """It is too long: 413, or the connection ends while it is sent."""
     with service.client() as client, contextlib.suppress(httpx.TransportError):
-        assert client.post(path, content=content, headers={"content-type": "application/json"}).status_code == 413
+        assert (
+            client.post(
+                path, content=content, headers={"content-type": "application/json"}
+            ).status_code
+            == 413
+        )
 
 
 def test_long_bodies(service: Served) -> None:
     """A body of 100 MB is refused, whether it says its length or not, and never stands in memory."""
     before = memory(service)
     with connection(service) as one:
-        one.sendall(b"POST /v1/sagas HTTP/1.1\r\nHost: 127.0.0.1\r\nContent-Type: application/json\r\nContent-Length: 104857600\r\n\r\n")
+        one.sendall(
+            b"POST /v1/sagas HTTP/1.1\r\nHost: 127.0.0.1\r\nContent-Type: application/json\r\nContent-Length: 104857600\r\n\r\n"
+        )
         assert one.recv(4096).startswith(b"HTTP/1.1 413 ")
     for _ in range(3):
         is_refused(service, "/v1/sagas", pieces(100, MEGA))
@@ -246,7 +352,11 @@ def test_long_bodies(service: Served) -> None:
         assert start(client, "trip", "large", "x" * (MEGA - 1000)).status_code == 201
         assert len(client.get("/v1/sagas/large").json()["input"]) == MEGA - 1000
         (task,) = [one for one in take(client, "trip/flight", most=10) if one["key"] == "large"]
-        is_refused(service, f"/v1/tasks/{task['attempt_id']}/complete", json.dumps({"lease": task["lease"], "result": "y" * MEGA}).encode())
+        is_refused(
+            service,
+            f"/v1/tasks/{task['attempt_id']}/complete",
+            json.dumps({"lease": task["lease"], "result": "y" * MEGA}).encode(),
+        )
     is_well(service)
 
 
@@ -299,7 +409,13 @@ def test_whoever_does_not_read_is_cut_off() -> None:
     async def long(scope: Any, receive: Any, send: Any) -> None:
         if connection := counted.of(scope["client"]):
             connection.starts(is_whole=True)
-        await send({"type": "http.response.start", "status": 200, "headers": [(b"content-length", str(32 * MEGA).encode())]})
+        await send(
+            {
+                "type": "http.response.start",
+                "status": 200,
+                "headers": [(b"content-length", str(32 * MEGA).encode())],
+            }
+        )
         await send({"type": "http.response.body", "body": bytes(32 * MEGA)})
         if connection:
             connection.ends()
@@ -307,12 +423,22 @@ def test_whoever_does_not_read_is_cut_off() -> None:
     counted = Connections(10, LONG, 1.0)
 
     async def main() -> None:
-        config = uvicorn.Config(long, http=uvicorn_server.protocol(counted), timeout_keep_alive=int(LONG), log_config=None, log_level="error")
+        config = uvicorn.Config(
+            long,
+            http=uvicorn_server.protocol(counted),
+            timeout_keep_alive=int(LONG),
+            log_config=None,
+            log_level="error",
+        )
         config.load()
         state = ServerState()
-        listening = await asyncio.get_running_loop().create_server(lambda: config.http_protocol_class(config=config, server_state=state), host(), 0)
+        listening = await asyncio.get_running_loop().create_server(
+            lambda: config.http_protocol_class(config=config, server_state=state), host(), 0
+        )
         address = listening.sockets[0].getsockname()[:2]
-        (slow, ask), (_, stands) = await asyncio.open_connection(*address, limit=MEGA), await asyncio.open_connection(*address)
+        (slow, ask), (_, stands) = await asyncio.open_connection(
+            *address, limit=MEGA
+        ), await asyncio.open_connection(*address)
         for one in (ask, stands):
             one.write(b"GET / HTTP/1.1\r\nHost: 127.0.0.1\r\n\r\n")
         assert (await slow.readuntil(b"\r\n\r\n")).startswith(b"HTTP/1.1 200 ")
@@ -350,7 +476,9 @@ def test_a_client_that_says_no_more_is_gone() -> None:
         config = uvicorn.Config(waits, http=Seen, log_config=None, log_level="critical")
         config.load()
         state = ServerState()
-        listening = await asyncio.get_running_loop().create_server(lambda: Seen(config=config, server_state=state), host(), 0)
+        listening = await asyncio.get_running_loop().create_server(
+            lambda: Seen(config=config, server_state=state), host(), 0
+        )
         back, there = await asyncio.open_connection(*listening.sockets[0].getsockname()[:2])
         there.write(b"GET / HTTP/1.1\r\nHost: 127.0.0.1\r\n\r\n")
         there.write_eof()
@@ -366,7 +494,9 @@ def test_a_body_that_does_not_come(tmp_path: pathlib.Path, monkeypatch: pytest.M
     """Once its time has passed that is answered with 408, and the connection ends; a body that comes in parts is taken."""
     monkeypatch.setenv("SAGAS_PROGRAM", program())
     Served(tmp_path)
-    told = Settings(str(tmp_path / "store.db"), definition_files.read(tmp_path / "definitions"), body_time=1.0)
+    told = Settings(
+        str(tmp_path / "store.db"), definition_files.read(tmp_path / "definitions"), body_time=1.0
+    )
     body = json.dumps({"definition": "trip", "key": "parted"}).encode()
     head = f"POST /v1/sagas HTTP/1.1\r\nHost: 127.0.0.1\r\nContent-Type: application/json\r\nContent-Length: {len(body)}\r\n\r\n".encode()
 

@@ -15,7 +15,18 @@ import httpx
 import pytest
 from hypothesis import HealthCheck, settings
 from server import Server, folder_of_programs
-from serving import DEFINITIONS, LONG, Served, all_done, error_of, report, served, start, stuck, take
+from serving import (
+    DEFINITIONS,
+    LONG,
+    Served,
+    all_done,
+    error_of,
+    report,
+    served,
+    start,
+    stuck,
+    take,
+)
 from test_service_hostile import is_well, send_any_json, send_odd_texts
 from test_service_workers import working
 
@@ -33,7 +44,15 @@ class Pair:
         self.services = []
         for name in ("one", "two"):
             (folder / name).mkdir()
-            service = Served(folder / name, DEFINITIONS, "--node", f"the \"{name}\"", "--lease", str(LEASE), store=url)
+            service = Served(
+                folder / name,
+                DEFINITIONS,
+                "--node",
+                f'the "{name}"',
+                "--lease",
+                str(LEASE),
+                store=url,
+            )
             stack.callback(service.kill)
             service.start()
             self.services.append(service)
@@ -77,9 +96,17 @@ def test_a_task_goes_through_both(both: Pair) -> None:
     assert (again.status_code, again.json()["new"]) == (200, False)
     assert error_of(start(two, "trip", "both", {"to": "Oslo"})) == "KeyConflict"
     (flight,) = take(two, "trip/flight")
-    assert (flight["key"], flight["input"]) == ("both", {"to": "Rome"}) and 500 < flight["seconds"] <= 600
+    assert (flight["key"], flight["input"]) == ("both", {"to": "Rome"}) and 500 < flight[
+        "seconds"
+    ] <= 600
     assert take(one, "trip/flight", wait=0) == take(two, "trip/flight", wait=0) == []
-    assert two.post(f"/v1/tasks/{flight['attempt_id']}/heartbeat", json={"lease": flight["lease"], "seconds": 700}).json()["until"] > time.time() + 600
+    assert (
+        two.post(
+            f"/v1/tasks/{flight['attempt_id']}/heartbeat",
+            json={"lease": flight["lease"], "seconds": 700},
+        ).json()["until"]
+        > time.time() + 600
+    )
     number, _, signed = flight["lease"].partition(".")
     forged = {**flight, "lease": f"{int(number) - 1}.{signed}"}
     for client in (one, two):
@@ -87,13 +114,28 @@ def test_a_task_goes_through_both(both: Pair) -> None:
         answer = client.post(f"/v1/tasks/{flight['attempt_id']}/heartbeat", json=told)
         assert error_of(answer) == "InvalidLease"
         assert error_of(report(client, forged, "fail", error="no")) == "InvalidLease"
-    assert report(one, flight, result={"seat": 1}).json() == {"kept": True, "repeated": False, "next": None}
-    assert report(two, flight, result={"seat": 1}).json() == {"kept": True, "repeated": True, "next": None}
+    assert report(one, flight, result={"seat": 1}).json() == {
+        "kept": True,
+        "repeated": False,
+        "next": None,
+    }
+    assert report(two, flight, result={"seat": 1}).json() == {
+        "kept": True,
+        "repeated": True,
+        "next": None,
+    }
     assert error_of(report(two, flight, result={"seat": 2})) == "ConflictingReport"
-    assert error_of(two.post(f"/v1/tasks/{flight['attempt_id']}/heartbeat", json={"lease": flight["lease"]})) == "LeaseLost"
+    assert (
+        error_of(
+            two.post(f"/v1/tasks/{flight['attempt_id']}/heartbeat", json={"lease": flight["lease"]})
+        )
+        == "LeaseLost"
+    )
     (car,) = take(two, "trip/car")
     assert car["results"] == {"flight": {"seat": 1}}
-    answer = report(two, car, result=7, next={"steps": ["trip/tour"], "wait": 10, "lease": 600}).json()
+    answer = report(
+        two, car, result=7, next={"steps": ["trip/tour"], "wait": 10, "lease": 600}
+    ).json()
     (tour,) = answer["next"]["tasks"]
     report(two, tour, "fail", error="full", final=True)
     (undo,) = take(two, "trip/car/undo")
@@ -101,7 +143,10 @@ def test_a_task_goes_through_both(both: Pair) -> None:
     report(two, undo)
     for client in (one, two):
         end = client.get("/v1/sagas/both/wait?seconds=60").json()
-        assert end["states"] == {"flight": "committed", "car": "undone", "tour": "failed"} and end["plan"]["cost"] == 15
+        assert (
+            end["states"] == {"flight": "committed", "car": "undone", "tour": "failed"}
+            and end["plan"]["cost"] == 15
+        )
         assert client.get("/v1/sagas?search=both").json()["sagas"][0]["key"] == "both"
         until = time.monotonic() + LONG  # the figures are counted again within seconds
         while 'phase="completed",saga="trip"' not in client.get("/metrics").text:
@@ -128,15 +173,24 @@ def test_a_long_take_hears_of_the_other_s_task(both: Pair) -> None:
     with pytest.raises(httpx.ReadTimeout), both.services[1].client() as gone:
         gone.post("/v1/tasks/claim", json={"steps": ["licence/server"], "wait": 30}, timeout=0.5)
     found: list[Any] = []
-    taker = threading.Thread(target=lambda: found.extend(take(both.two, "licence/server", wait=30, most=5)))
+    taker = threading.Thread(
+        target=lambda: found.extend(take(both.two, "licence/server", wait=30, most=5))
+    )
     with both.services[0].client() as client:
         taker.start()
         time.sleep(0.5)
         start(client, "licence", "heard")
         taker.join(LONG)
         assert [task["key"] for task in found] == ["heard"]
-        (queue,) = [queue for queue in client.get("/v1/queues").json()["queues"] if queue["step"] == "server"]
-        assert queue == both.two.get("/v1/queues").json()["queues"][0] and (queue["ready"], queue["claimed"]) == (0, 1)
+        (queue,) = [
+            queue
+            for queue in client.get("/v1/queues").json()["queues"]
+            if queue["step"] == "server"
+        ]
+        assert queue == both.two.get("/v1/queues").json()["queues"][0] and (
+            queue["ready"],
+            queue["claimed"],
+        ) == (0, 1)
         assert "local/w" in client.get("/ui/workers").text  # who asked at the other
     report(both.two, found[0])
     all_done(both.two, "licence/licence")
@@ -146,7 +200,9 @@ def test_what_has_waited_longest_comes_first(both: Pair) -> None:
     """Whichever service has it; and many who wait at one get what comes at the other, all of them."""
     start(both.one, "licence", "first")
     deadline = time.monotonic() + LONG
-    while not any(queue["oldest"] < time.time() - 2 for queue in both.two.get("/v1/queues").json()["queues"]):
+    while not any(
+        queue["oldest"] < time.time() - 2 for queue in both.two.get("/v1/queues").json()["queues"]
+    ):
         assert time.monotonic() < deadline
         time.sleep(0.1)
     start(both.two, "licence", "second")
@@ -188,8 +244,14 @@ def test_people_say_it_anywhere(both: Pair) -> None:
     assert error_of(other) == "ConflictingReport"
     all_done(both.two, "order/send")
     assert both.two.get("/v1/sagas/approved/wait?seconds=60").json()["results"]["review"] == "yes"
-    notes = [event["value"] for event in both.one.get("/v1/sagas/approved/log").json()["events"] if event["event"] == "note"]
-    assert [(note["by"], note["note"], note["answer"]) for note in notes if note["answer"] is True] == [("local", "by two", True)]
+    notes = [
+        event["value"]
+        for event in both.one.get("/v1/sagas/approved/log").json()["events"]
+        if event["event"] == "note"
+    ]
+    assert [
+        (note["by"], note["note"], note["answer"]) for note in notes if note["answer"] is True
+    ] == [("local", "by two", True)]
     start(both.one, "order", "aborted")
     assert both.two.post("/v1/sagas/aborted/abort", json={"note": "no"}).json()["aborted"] is True
     assert both.one.get("/v1/sagas/aborted/wait?seconds=60").json()["aborted"] is True
@@ -200,7 +262,9 @@ def test_people_say_it_anywhere(both: Pair) -> None:
 
 def test_events_of_all(both: Pair) -> None:
     """A stream at one has what happens at the other."""
-    with both.services[1].client() as other, other.stream("GET", "/v1/events?key=streamed") as stream:
+    with both.services[1].client() as other, other.stream(
+        "GET", "/v1/events?key=streamed"
+    ) as stream:
         lines = stream.iter_lines()
         assert next(lines).startswith("retry")
         start(both.one, "licence", "streamed")
@@ -211,7 +275,11 @@ def test_events_of_all(both: Pair) -> None:
                 names.append(line[7:].strip())
                 if names[-1] == "saga_ended":
                     break
-    assert names[0] == "saga_started" and names.count("step_started") == 2 and "step_succeeded" in names
+    assert (
+        names[0] == "saga_started"
+        and names.count("step_started") == 2
+        and "step_succeeded" in names
+    )
 
 
 def test_events_that_a_service_did_not_hear() -> None:
@@ -220,7 +288,9 @@ def test_events_that_a_service_did_not_hear() -> None:
     async def main() -> None:
         hub, event = Hub(), Event("saga_ended", 0.0)
         hub.publish(event)
-        away, there = hub.now, hub.stream(Listener(None, None, lambda saga: True), hub.now, lambda: True)
+        away, there = hub.now, hub.stream(
+            Listener(None, None, lambda saga: True), hub.now, lambda: True
+        )
         for _ in range(2):  # it is open
             await anext(there)
         hub.missed()
@@ -229,8 +299,9 @@ def test_events_that_a_service_did_not_hear() -> None:
         assert hub.behind(away) == ([(3, event)], True)
         told = [await anext(there) for _ in range(2)]
         assert [text.split("\n")[:2] for text in told] == [
-            [f"id: {hub.boot}-2", "event: missed"], [f"id: {hub.boot}-3", "event: saga_ended"]
-        ]  # fmt: skip
+            [f"id: {hub.boot}-2", "event: missed"],
+            [f"id: {hub.boot}-3", "event: saga_ended"],
+        ]
         assert hub.behind(f"{hub.boot}-2") == ([(3, event)], False)
 
     asyncio.run(main())
@@ -242,7 +313,9 @@ def test_whatever_is_asked(both: Pair) -> None:
     start(both.one, "order", "ordered")
     service = both.services[1]
     send_odd_texts(service)
-    send_any_json(service, settings(max_examples=60, deadline=None, suppress_health_check=list(HealthCheck)))
+    send_any_json(
+        service, settings(max_examples=60, deadline=None, suppress_health_check=list(HealthCheck))
+    )
     is_well(service)
     is_well(both.services[0])
 
@@ -258,8 +331,16 @@ def test_one_is_killed(tmp_path: pathlib.Path, url: str) -> None:
         two.services[0].kill()
         (waits,) = take(two.two, "trip/flight")
         assert (waits["key"], waits["definition"], waits["step"]) == ("waits", "trip", "flight")
-        assert report(two.two, flight, result=5).json() == {"kept": True, "repeated": False, "next": None}
-        assert report(two.two, waits, result=6).json() == {"kept": True, "repeated": False, "next": None}
+        assert report(two.two, flight, result=5).json() == {
+            "kept": True,
+            "repeated": False,
+            "next": None,
+        }
+        assert report(two.two, waits, result=6).json() == {
+            "kept": True,
+            "repeated": False,
+            "next": None,
+        }
         assert report(two.two, flight, result=5).json()["repeated"] is True
         worker = sagas.Worker([service.url for service in two.services], wait=1.0)
         for saga, step in (("order", "send"), ("trip", "car"), ("trip", "tour")):
@@ -288,14 +369,20 @@ def test_the_database_goes_away(tmp_path: pathlib.Path, postgresql: Server, url:
             time.sleep(0.1)
         return answer
 
-    with served(tmp_path, DEFINITIONS, "--lease", "2", store=url) as service, service.client() as client:
+    with served(
+        tmp_path, DEFINITIONS, "--lease", "2", store=url
+    ) as service, service.client() as client:
         start(client, "trip", "k")
         (flight,) = take(client, "trip/flight")
         postgresql.stop()
         try:
             until(503, lambda: client.get("/health/ready"))
             assert client.get("/health/live").status_code == 200
-            assert error_of(client.get("/v1/sagas/k")) == error_of(start(client, "trip", "x")) == "StoreUnavailable"
+            assert (
+                error_of(client.get("/v1/sagas/k"))
+                == error_of(start(client, "trip", "x"))
+                == "StoreUnavailable"
+            )
         finally:
             postgresql.start()
         until(200, lambda: client.get("/health/ready"))
@@ -309,7 +396,9 @@ def test_the_database_goes_away(tmp_path: pathlib.Path, postgresql: Server, url:
 def test_a_backup_of_the_database(tmp_path: pathlib.Path, postgresql: Server, url: str) -> None:
     """`pg_dump` beside a running service, and the copy served: what was open goes on, and its task has the same token."""
     words = [str(folder_of_programs() / name) for name in ("pg_dump", "pg_restore")]
-    with served(tmp_path, DEFINITIONS, "--node", "one", "--lease", str(LEASE), store=url) as service, service.client() as client:
+    with served(
+        tmp_path, DEFINITIONS, "--node", "one", "--lease", str(LEASE), store=url
+    ) as service, service.client() as client:
         start(client, "trip", "k")
         (flight,) = take(client, "trip/flight")
         subprocess.run([words[0], "-Fc", "-f", str(tmp_path / "dump"), url], check=True)
@@ -317,9 +406,15 @@ def test_a_backup_of_the_database(tmp_path: pathlib.Path, postgresql: Server, ur
     copy = postgresql.create()
     subprocess.run([words[1], "-d", copy, str(tmp_path / "dump")], check=True)
     (tmp_path / "copy").mkdir()
-    with served(tmp_path / "copy", DEFINITIONS, "--node", "one", store=copy) as service, service.client() as client:
+    with served(
+        tmp_path / "copy", DEFINITIONS, "--node", "one", store=copy
+    ) as service, service.client() as client:
         assert take(client, "trip/flight", wait=0) == []  # its lease holds
-        assert report(client, flight, result=1).json() == {"kept": True, "repeated": False, "next": None}
+        assert report(client, flight, result=1).json() == {
+            "kept": True,
+            "repeated": False,
+            "next": None,
+        }
         all_done(client, "trip/car", "trip/tour")
         assert client.get("/v1/sagas/k/wait?seconds=60").json()["phase"] == "completed"
     postgresql.drop(copy)

@@ -44,10 +44,18 @@ class Browser:
     def __init__(self, service: Served, shots: pathlib.Path) -> None:
         options = Options()
         options.binary_location = str(shutil.which("chromium"))
-        for word in ("--headless=new", "--no-sandbox", "--disable-gpu", "--disable-dev-shm-usage", f"--user-data-dir={shots / 'profile'}"):
+        for word in (
+            "--headless=new",
+            "--no-sandbox",
+            "--disable-gpu",
+            "--disable-dev-shm-usage",
+            f"--user-data-dir={shots / 'profile'}",
+        ):
             options.add_argument(word)
         options.set_capability("goog:loggingPrefs", {"browser": "ALL"})
-        self.driver = webdriver.Chrome(service=Driver(shutil.which("chromedriver")), options=options)
+        self.driver = webdriver.Chrome(
+            service=Driver(shutil.which("chromedriver")), options=options
+        )
         self.driver.set_page_load_timeout(LONG)
         self.service, self.shots = service, shots
 
@@ -66,7 +74,9 @@ class Browser:
 
     def _click(self, css: str, text: str) -> bool:
         for one in self.driver.find_elements(By.CSS_SELECTOR, css):
-            if text in (one.text or one.get_attribute("aria-label") or "") or text in (one.get_attribute("aria-label") or ""):
+            if text in (one.text or one.get_attribute("aria-label") or "") or text in (
+                one.get_attribute("aria-label") or ""
+            ):
                 one.click()
                 return True
         return False
@@ -101,7 +111,11 @@ class Browser:
 
     def is_quiet(self) -> None:
         """No error in the console."""
-        assert [entry for entry in self.driver.get_log("browser") if entry["level"] in ("SEVERE", "WARNING")] == []
+        assert [
+            entry
+            for entry in self.driver.get_log("browser")
+            if entry["level"] in ("SEVERE", "WARNING")
+        ] == []
 
 
 @pytest.fixture(scope="module")
@@ -137,7 +151,14 @@ def seed(client: httpx.Client) -> None:
     all_done(client, "trip/car/undo")
     assert client.get("/v1/sagas/failed-1/wait?seconds=60").json()["over"]
     start(client, "trip", "fixed-1")
-    all_done(client, "trip/flight", "trip/car", "trip/tour", "trip/car/undo", failing=["trip/tour", "trip/car/undo"])
+    all_done(
+        client,
+        "trip/flight",
+        "trip/car",
+        "trip/tour",
+        "trip/car/undo",
+        failing=["trip/tour", "trip/car/undo"],
+    )
     assert client.get("/v1/sagas/fixed-1/wait?seconds=60").json()["over"]
     stuck(client, "stuck-1")
     stuck(client, "stuck-2")
@@ -154,12 +175,22 @@ def seed(client: httpx.Client) -> None:
 def test_a_failed_saga_says_what_stands(browser: Browser) -> None:
     """Its picture has each step, what was kept and why, and the price of the plan."""
     browser.go("/ui/sagas/failed-1")
-    titles = browser.driver.execute_script("return [...document.querySelectorAll('svg.picture g.step title')].map((t) => t.textContent)")
-    assert titles == ["flight: done, plan: keep", "car: undone, plan: undo, costs 5", "tour: failed, plan: skip, costs 10"]
+    titles = browser.driver.execute_script(
+        "return [...document.querySelectorAll('svg.picture g.step title')].map((t) => t.textContent)"
+    )
+    assert titles == [
+        "flight: done, plan: keep",
+        "car: undone, plan: undo, costs 5",
+        "tour: failed, plan: skip, costs 10",
+    ]
     text = browser.text
     assert "plan of cost 15" in text and "the tour is full" in text and "Timeline" in text
-    bars = browser.driver.execute_script("return [...document.querySelectorAll('svg.timeline g.run title')].map((t) => t.textContent)")
-    assert len(bars) == 5 and bars[2].startswith("tour, action, attempt 1: failed, will be retried after")
+    bars = browser.driver.execute_script(
+        "return [...document.querySelectorAll('svg.timeline g.run title')].map((t) => t.textContent)"
+    )
+    assert len(bars) == 5 and bars[2].startswith(
+        "tour, action, attempt 1: failed, will be retried after"
+    )
     browser.shot("failed")
     browser.driver.find_element(By.LINK_TEXT, "the certificate").click()
     browser.has('"cost": 15')
@@ -183,7 +214,9 @@ def test_a_stuck_one_is_found_in_two_clicks_and_resolved(browser: Browser) -> No
     browser.type("textarea[name=note]", "bought a licence by hand")
     browser.click("main button", "Mark as resolved")
     browser.has("It was stuck, and is resolved")
-    assert "local marked it as resolved" in browser.text and "bought a licence by hand" in browser.text
+    assert (
+        "local marked it as resolved" in browser.text and "bought a licence by hand" in browser.text
+    )
     browser.go("/ui")
     assert "stuck-1" not in browser.text and "stuck-2" in browser.text
     browser.is_quiet()
@@ -211,7 +244,9 @@ def test_an_approval(browser: Browser) -> None:
     browser.shot("approved")
     with browser.service.client() as client:
         all_done(client, "order/send")
-    browser.wait(lambda: browser.driver.find_elements(By.CSS_SELECTOR, ".head .badge.completed"))  # it came by itself
+    browser.wait(
+        lambda: browser.driver.find_elements(By.CSS_SELECTOR, ".head .badge.completed")
+    )  # it came by itself
     browser.is_quiet()
 
 
@@ -219,8 +254,13 @@ def test_an_unknown_outcome_and_an_abort(browser: Browser) -> None:
     """A person says that it had no effect, and why; another saga is aborted."""
     browser.go("/ui/sagas/hazy-1")
     browser.has("The outcome of tour is unknown")
-    assert "-tour-run" in browser.text.split("with the same idempotency key,")[1].split(".")[0]  # to look for it in the other system
-    assert browser.text.count("Undo car, keep flight: costs 15") == 1 and "The saga is completed" in browser.text
+    assert (
+        "-tour-run" in browser.text.split("with the same idempotency key,")[1].split(".")[0]
+    )  # to look for it in the other system
+    assert (
+        browser.text.count("Undo car, keep flight: costs 15") == 1
+        and "The saga is completed" in browser.text
+    )
     browser.click("a.button", "It had no effect…")
     browser.has("Now it would: Undo car, keep flight: costs 15.")
     browser.type("input[name=failed]", "they have no booking")
@@ -228,7 +268,11 @@ def test_an_unknown_outcome_and_an_abort(browser: Browser) -> None:
     browser.has("they have no booking")
     with browser.service.client() as client:
         all_done(client, "trip/car/undo")
-        assert client.get("/v1/sagas/hazy-1/wait?seconds=60").json()["states"] == {"flight": "committed", "car": "undone", "tour": "failed"}
+        assert client.get("/v1/sagas/hazy-1/wait?seconds=60").json()["states"] == {
+            "flight": "committed",
+            "car": "undone",
+            "tour": "failed",
+        }
     browser.go("/ui/sagas/order-2")
     browser.click("a.button", "Abort…")
     browser.has("Abort this saga?")
@@ -256,7 +300,9 @@ def test_what_no_worker_takes(browser: Browser) -> None:
         client.post("/v1/sagas/idle-1/abort", json={})
     browser.go("/ui/sagas?definition=trip")
     browser.has("failed-1")  # the page may be renewed meanwhile: its rows are read at once
-    rows = browser.driver.execute_script("return [...document.querySelectorAll('tbody tr')].map((row) => row.innerText)")
+    rows = browser.driver.execute_script(
+        "return [...document.querySelectorAll('tbody tr')].map((row) => row.innerText)"
+    )
     assert any("failed-1" in row and "Recovered" in row for row in rows)
     browser.is_quiet()
 
@@ -270,7 +316,10 @@ def test_a_saga_is_started_by_hand(browser: Browser) -> None:
     browser.type("[name=input]", "{to: Oslo}")
     browser.click("button.primary")
     browser.has("The input is not valid JSON")
-    assert browser.driver.find_element(By.CSS_SELECTOR, "[name=key]").get_attribute("value") == "by-hand-1"
+    assert (
+        browser.driver.find_element(By.CSS_SELECTOR, "[name=key]").get_attribute("value")
+        == "by-hand-1"
+    )
     browser.type("[name=input]", '{"to": "Oslo"}')
     browser.click("button.primary")
     browser.wait(lambda: browser.driver.current_url.endswith("/ui/sagas/by-hand-1"))
@@ -292,15 +341,28 @@ def test_the_first_page_shows_what_is_new_by_itself(browser: Browser) -> None:
     with browser.service.client() as client:
         for number in range(3):
             start(client, "order", f"late-{number}")
-            browser.wait(lambda: browser.driver.find_elements(By.CSS_SELECTOR, f"[aria-label='Look at late-{number}']"))
+            browser.wait(
+                lambda: browser.driver.find_elements(
+                    By.CSS_SELECTOR, f"[aria-label='Look at late-{number}']"
+                )
+            )
             asked = len(client.get("/v1/sagas?search=late-").json()["sagas"])
             browser.wait(lambda: f"Approvals {asked}" in browser.text)  # those of the filter
             if number == 0:  # what is selected stays so when the page is renewed
                 browser.click("input[name=group]")
         assert browser.driver.find_element(By.CSS_SELECTOR, "input[name=group]").is_selected()
         for number in range(3):
-            assert client.post(f"/v1/sagas/late-{number}/steps/review/complete", json={"result": 1}).status_code == 200
-        browser.wait(lambda: not browser.driver.find_elements(By.CSS_SELECTOR, "[aria-label^='Look at late-']"))
+            assert (
+                client.post(
+                    f"/v1/sagas/late-{number}/steps/review/complete", json={"result": 1}
+                ).status_code
+                == 200
+            )
+        browser.wait(
+            lambda: not browser.driver.find_elements(
+                By.CSS_SELECTOR, "[aria-label^='Look at late-']"
+            )
+        )
     browser.is_quiet()
 
 
@@ -352,17 +414,39 @@ def test_those_that_ended_by_plan(browser: Browser) -> None:
     found = {row.text for row in browser.driver.find_elements(By.CSS_SELECTOR, "tbody td .badge")}
     assert found == {"Recovered", "Undo failed"}
     browser.click(".tabs a", "Undo failed")
-    browser.wait(lambda: [row.text for row in browser.driver.find_elements(By.CSS_SELECTOR, "tbody td .badge")] == ["Undo failed"])
+    browser.wait(
+        lambda: [
+            row.text for row in browser.driver.find_elements(By.CSS_SELECTOR, "tbody td .badge")
+        ]
+        == ["Undo failed"]
+    )
     browser.click("a.key", "fixed-1")
     browser.has("Undoing car failed permanently: “no”. Its effect is still there.")
     browser.shot("undo-failed")
     with browser.service.client() as client:
         listed = client.get("/v1/sagas?phase=recovered").json()["sagas"]
-        assert "failed-1" in [one["key"] for one in listed] and all(one["phase"] == "recovered" for one in listed)
+        assert "failed-1" in [one["key"] for one in listed] and all(
+            one["phase"] == "recovered" for one in listed
+        )
     browser.is_quiet()
 
 
-PATHS = ("/ui", "/ui?kind=undo_failed", "/ui/definitions", "/ui/definitions/trip", "/ui/sagas", "/ui/start", "/ui/sagas/failed-1", "/ui/sagas/fixed-1", "/ui/sagas/stuck-2", "/ui/sagas/work-1", "/ui/workers", "/ui/webhooks", "/ui/sagas/work-1/abort", "/ui/sagas/nobody")
+PATHS = (
+    "/ui",
+    "/ui?kind=undo_failed",
+    "/ui/definitions",
+    "/ui/definitions/trip",
+    "/ui/sagas",
+    "/ui/start",
+    "/ui/sagas/failed-1",
+    "/ui/sagas/fixed-1",
+    "/ui/sagas/stuck-2",
+    "/ui/sagas/work-1",
+    "/ui/workers",
+    "/ui/webhooks",
+    "/ui/sagas/work-1/abort",
+    "/ui/sagas/nobody",
+)
 
 
 WIDTH = "return document.documentElement.scrollWidth"
@@ -383,7 +467,9 @@ def test_each_page_can_be_read(browser: Browser, width: int) -> None:
                 assert browser.driver.execute_script(CONTRAST) == [], (path, dark)
     finally:
         browser.size(1280)
-    logged = [entry for entry in browser.driver.get_log("browser") if "nobody" not in entry["message"]]
+    logged = [
+        entry for entry in browser.driver.get_log("browser") if "nobody" not in entry["message"]
+    ]
     assert logged == []
 
 
@@ -393,10 +479,18 @@ def test_each_control_has_a_name_and_is_reached_by_keyboard(browser: Browser) ->
         browser.go(path)
         nodes = browser.driver.execute_cdp_cmd("Accessibility.getFullAXTree", {})["nodes"]
         roles = ("link", "button", "textbox", "searchbox", "combobox", "img", "table")
-        nameless = [node["role"]["value"] for node in nodes if not node["ignored"] and node["role"]["value"] in roles and not node["name"].get("value", "").strip()]
+        nameless = [
+            node["role"]["value"]
+            for node in nodes
+            if not node["ignored"]
+            and node["role"]["value"] in roles
+            and not node["name"].get("value", "").strip()
+        ]
         assert nameless == [], path
         wanted = browser.driver.execute_script(FOCUSABLE)
-        browser.driver.execute_script("document.activeElement.blur(); window.seen = new Set(); document.addEventListener('focusin', (e) => seen.add(e.target))")
+        browser.driver.execute_script(
+            "document.activeElement.blur(); window.seen = new Set(); document.addEventListener('focusin', (e) => seen.add(e.target))"
+        )
         for _ in range(4):  # a page may be renewed meanwhile
             browser.driver.switch_to.active_element.send_keys(Keys.TAB * (wanted + 2))
             if (seen := browser.driver.execute_script("return seen.size")) >= wanted:
@@ -410,16 +504,37 @@ def test_each_control_has_a_name_and_is_reached_by_keyboard(browser: Browser) ->
 
 def fill(store: pathlib.Path, count: int) -> None:
     """Makes a store of so many sagas that ended, some of them stuck, in logs that are closed."""
-    end = json.dumps({"aborted": False, "answer": None, "kept": [0, 1], "states": ["committed"] * 2})
+    end = json.dumps(
+        {"aborted": False, "answer": None, "kept": [0, 1], "states": ["committed"] * 2}
+    )
     rows = (
-        (1_000_000 + n, f"old-{n:06}", "licence", 0, '{"n":%d,"more":"%s"}' % (n, "x" * 200), 1.7e9 + n, "stuck" if n % 1000 == 0 else "ended", end, 1.7e9 + n + 60, None)
+        (
+            1_000_000 + n,
+            f"old-{n:06}",
+            "licence",
+            0,
+            '{"n":%d,"more":"%s"}' % (n, "x" * 200),
+            1.7e9 + n,
+            "stuck" if n % 1000 == 0 else "ended",
+            end,
+            1.7e9 + n + 60,
+            None,
+        )
         for n in range(count)
     )
     with sqlite3.connect(store) as db:
         for log in range(1000, 1000 + count // 1000):
-            db.execute("INSERT INTO shards(shard, name, closed) VALUES(?, ?, 1)", (log, f"{log:016x}"))
-            db.execute("INSERT INTO shard_definitions SELECT ?, place, definition FROM shard_definitions WHERE shard = 0", (log,))
-        db.executemany("INSERT INTO sagas(id, key, saga, definition_index, input, at, phase, outcome, ended, note) VALUES(?, ?, ?, ?, ?, ?, ?, ?, ?, ?)", rows)
+            db.execute(
+                "INSERT INTO shards(shard, name, closed) VALUES(?, ?, 1)", (log, f"{log:016x}")
+            )
+            db.execute(
+                "INSERT INTO shard_definitions SELECT ?, place, definition FROM shard_definitions WHERE shard = 0",
+                (log,),
+            )
+        db.executemany(
+            "INSERT INTO sagas(id, key, saga, definition_index, input, at, phase, outcome, ended, note) VALUES(?, ?, ?, ?, ?, ?, ?, ?, ?, ?)",
+            rows,
+        )
     db.close()
 
 
@@ -446,7 +561,9 @@ def test_a_hundred_thousand_sagas(tmp_path: pathlib.Path, shots: pathlib.Path) -
             browser.has("old-099999")
             browser.type("[data-search]", "old-012345")
             browser.driver.find_element(By.CSS_SELECTOR, "[data-search]").send_keys(Keys.ENTER)
-            browser.wait(lambda: len(browser.driver.find_elements(By.CSS_SELECTOR, "tbody tr")) == 1)
+            browser.wait(
+                lambda: len(browser.driver.find_elements(By.CSS_SELECTOR, "tbody tr")) == 1
+            )
             browser.go("/ui/sagas?phase=stuck")
             assert len(browser.driver.find_elements(By.CSS_SELECTOR, "tbody tr")) == 50
             browser.shot("many-stuck")
@@ -455,7 +572,13 @@ def test_a_hundred_thousand_sagas(tmp_path: pathlib.Path, shots: pathlib.Path) -
             browser.driver.quit()
         with service.client() as client:
             began = time.monotonic()
-            for path in ("/ui/sagas", "/ui/sagas?phase=completed&definition=licence", "/ui/sagas?phase=recovered", "/ui/sagas?search=99999", "/ui/sagas?before=1700050000.0-1050000"):
+            for path in (
+                "/ui/sagas",
+                "/ui/sagas?phase=completed&definition=licence",
+                "/ui/sagas?phase=recovered",
+                "/ui/sagas?search=99999",
+                "/ui/sagas?before=1700050000.0-1050000",
+            ):
                 assert client.get(path).status_code == 200
             assert time.monotonic() - began < LONG
 

@@ -120,7 +120,11 @@ def test_waits_and_claims_of_a_token(
             assert (await others.ask(started(tokens["other"]))).status == 201
             await evil.held(5, text(line, tokens["evil"], body))
             found = await others.ask(text(line, tokens["evil"], body))
-            assert (found.status, found.problem, found.headers["retry-after"]) == (503, "TooManyWaits", "1")
+            assert (found.status, found.problem, found.headers["retry-after"]) == (
+                503,
+                "TooManyWaits",
+                "1",
+            )
             await others.held(5, text(line, tokens["other"], body))
             await evil.end()
             waiting = others.send(text(line, tokens["evil"], body))
@@ -141,7 +145,9 @@ def test_a_report_counts_when_no_claim_may_follow(
     async def ask(address: tuple[str, int]) -> None:
         async with callers(address) as evil, callers(address) as others:
             assert (await others.ask(started(tokens["other"]))).status == 201
-            back = await evil.send(text(CLAIM, tokens["evil"], '{"steps":["trip/flight"],"wait":9}'))
+            back = await evil.send(
+                text(CLAIM, tokens["evil"], '{"steps":["trip/flight"],"wait":9}')
+            )
             head = await back.readuntil(b"\r\n\r\n")
             size = int(re.search(rb"content-length: (\d+)", head.lower())[1])  # type: ignore[index]
             (task,) = json.loads(await back.readexactly(size))["tasks"]
@@ -149,7 +155,9 @@ def test_a_report_counts_when_no_claim_may_follow(
             report = {"lease": task["lease"], "next": {"steps": ["trip/tour"], "wait": 30}}
             line = f"POST /v1/tasks/{task['attempt_id']}/complete HTTP/1.1"
             async with asyncio.timeout(20):
-                assert (await evil.ask(text(line, tokens["evil"], json.dumps(report)))).status == 200
+                assert (
+                    await evil.ask(text(line, tokens["evil"], json.dumps(report)))
+                ).status == 200
 
     inside(tmp_path, ask, tokens=tmp_path / "tokens.toml", places=PlaceSettings(claims=2))
 
@@ -197,7 +205,9 @@ def test_connections_of_an_address(
                 for request in (text(LIVE), text("GET /v1/attention HTTP/1.1", tokens["op"])):
                     assert (await others.ask(request)).status == 200
             else:
-                assert (await others.ask(text("GET /v1/sagas HTTP/1.1", tokens["op"]))).status == 200
+                assert (
+                    await others.ask(text("GET /v1/sagas HTTP/1.1", tokens["op"]))
+                ).status == 200
             await evil.end()
             await others.end()
             while (await others.ask(once)).status != 200:
@@ -439,7 +449,7 @@ def test_what_is_no_request_is_refused(tmp_path: pathlib.Path) -> None:
     assert '"level": "error"' not in service.told()
 
 
-STUCK = '''
+STUCK = """
 import pathlib
 import threading
 import sagas
@@ -452,7 +462,7 @@ def waits(task: sagas.Task) -> None:
     threading.Event().wait()
 
 SAGAS = [saga]
-'''
+"""
 QUICK = """
 import dataclasses
 import sys

@@ -19,14 +19,34 @@ from sagas.storage.folder_blobs import FolderBlobStore
 from sagas.storage.record_file import RecordFile
 
 PAGES = [
-    "/ui", "/ui?kind=unknown&search=a%26b", "/ui/sagas?label=a%3Db#top", "/ui/workers", "/ui/start",
-    "/ui/sagas/order-1", "/ui/sagas/a%2Fb%23c%3F%25/abort", "/ui/definitions/trip",
-]  # fmt: skip
+    "/ui",
+    "/ui?kind=unknown&search=a%26b",
+    "/ui/sagas?label=a%3Db#top",
+    "/ui/workers",
+    "/ui/start",
+    "/ui/sagas/order-1",
+    "/ui/sagas/a%2Fb%23c%3F%25/abort",
+    "/ui/definitions/trip",
+]
 ELSEWHERE = [
-    "", "/", "/uix", "/ui//evil.example", "/ui/../v1/sagas", "/ui/..//evil.example", "//evil.example",
-    "https://evil.example/ui", "/ui\\evil.example", "/ui/sagas/a/b/c/d", "/ui/nothing", "/ui/events",
-    "/ui/static/page.js", "/ui/login?next=/ui", "/ui/sagas/\r\nX: y", "/ui/sagas/\u202e", "/v1/sagas",
-]  # fmt: skip
+    "",
+    "/",
+    "/uix",
+    "/ui//evil.example",
+    "/ui/../v1/sagas",
+    "/ui/..//evil.example",
+    "//evil.example",
+    "https://evil.example/ui",
+    "/ui\\evil.example",
+    "/ui/sagas/a/b/c/d",
+    "/ui/nothing",
+    "/ui/events",
+    "/ui/static/page.js",
+    "/ui/login?next=/ui",
+    "/ui/sagas/\r\nX: y",
+    "/ui/sagas/\u202e",
+    "/v1/sagas",
+]
 
 
 @pytest.fixture(scope="module")
@@ -74,10 +94,20 @@ def test_a_key_comes_once(service: tuple[Served, str], body: str) -> None:
 
 
 QUERIES = [
-    ("limit", "1_0"), ("limit", "٣"), ("limit", "+5"), ("limit", " 5"), ("limit", "1e1"), ("limit", "5.0"),
-    ("limit", "１"), ("started_after", "1_000"), ("started_after", "١"), ("started_after", "inf"),
-    ("started_after", "nan"), ("started_after", "٢027-01-01T00:00:00Z"), ("after", "١-١"),
-]  # fmt: skip
+    ("limit", "1_0"),
+    ("limit", "٣"),
+    ("limit", "+5"),
+    ("limit", " 5"),
+    ("limit", "1e1"),
+    ("limit", "5.0"),
+    ("limit", "１"),
+    ("started_after", "1_000"),
+    ("started_after", "١"),
+    ("started_after", "inf"),
+    ("started_after", "nan"),
+    ("started_after", "٢027-01-01T00:00:00Z"),
+    ("after", "١-١"),
+]
 
 
 @pytest.mark.parametrize("name, value", QUERIES)
@@ -183,7 +213,11 @@ def test_files_of_rights(tmp_path: pathlib.Path) -> None:
     finally:
         os.umask(before)
     assert (tmp_path / "other" / "tokens.toml").stat().st_mode & 0o777 == 0o600
-    for mode, says in ((0o640, None), (0o644, "every user may read"), (0o660, "its group may write")):
+    for mode, says in (
+        (0o640, None),
+        (0o644, "every user may read"),
+        (0o660, "its group may write"),
+    ):
         path.chmod(mode)
         token(tmp_path, f"b{mode}", "caller")
         assert path.stat().st_mode & 0o777 == mode and len(auth.read(path)) > 1
@@ -207,5 +241,12 @@ def test_files_of_rights(tmp_path: pathlib.Path) -> None:
         assert "hooks.toml: every user may read it" in service.told()
     hooks.chmod(0o602)
     (tmp_path / "definitions").mkdir(exist_ok=True)
-    done = command("serve", str(tmp_path / "s.db"), "--definitions", str(tmp_path / "definitions"), "--webhooks", str(hooks))
+    done = command(
+        "serve",
+        str(tmp_path / "s.db"),
+        "--definitions",
+        str(tmp_path / "definitions"),
+        "--webhooks",
+        str(hooks),
+    )
     assert done.returncode == 4 and "every user may write it" in done.stderr

@@ -74,7 +74,8 @@ class World:
     def waits(self, key: str, why: str) -> None:
         deadline = time.monotonic() + LONG
         while why not in [
-            one["why"] for one in self["operator"].get(f"/v1/sagas/{quote(key, safe='')}").json()["waits"]
+            one["why"]
+            for one in self["operator"].get(f"/v1/sagas/{quote(key, safe='')}").json()["waits"]
         ]:
             assert time.monotonic() < deadline
 
@@ -219,8 +220,10 @@ def test_a_token_of_some_keys(world: World) -> None:
     assert start(client, "order", "team-a-1").status_code == 201
     for key in ("team-b-1", "team-a", "b", "shared-2"):
         assert told(start(client, "order", key)) == (
-            403, "Forbidden", f"team-a has no right to the key {key!r}"
-        )  # fmt: skip
+            403,
+            "Forbidden",
+            f"team-a has no right to the key {key!r}",
+        )
     for name in ("team-a", "caller"):
         refused = start(world[name], "order", "team-a-1/:sub")
         assert (refused.status_code, error_of(refused)) == (422, "InvalidKey"), refused.text
@@ -232,7 +235,9 @@ def test_a_token_of_some_keys(world: World) -> None:
     assert {one["key"] for one in client.get("/v1/sagas").json()["sagas"]} == mine
     entries = client.get("/v1/attention?reason=approval").json()
     assert "team-b-1" not in str(entries)
-    counts = {one["name"]: one["sagas"] for one in client.get("/v1/definitions").json()["definitions"]}
+    counts = {
+        one["name"]: one["sagas"] for one in client.get("/v1/definitions").json()["definitions"]
+    }
     assert (counts["order"]["open"], sum(counts["trip"].values())) == (3, 0)
     for _, method, path, body in BY_KEY:
         if "of-trip" != _:
@@ -328,10 +333,13 @@ def test_a_worker_takes_its_steps(world: World) -> None:
         answer = world[name].post("/v1/tasks/claim", json={"steps": steps, "wait": 0})
         assert told(answer) == (403, "Forbidden", f"{name} has no right to the steps {beyond}")
     assert (
-        world["flies"].post("/v1/tasks/claim", json={"steps": ["flight"], "wait": 0}).status_code == 422
+        world["flies"].post("/v1/tasks/claim", json={"steps": ["flight"], "wait": 0}).status_code
+        == 422
     )
     assert {one["step"] for one in world["flies"].get("/v1/queues").json()["queues"]} == {"flight"}
-    assert {one["definition"] for one in world["sends"].get("/v1/queues").json()["queues"]} == {"order"}
+    assert {one["definition"] for one in world["sends"].get("/v1/queues").json()["queues"]} == {
+        "order"
+    }
     (sent,) = [one for one in take(world["both"], "order/send", most=10) if one["key"] == "stepped"]
     forbidden = report(world["both"], sent, result=1, next={"steps": ["trip/flight"]})
     assert (forbidden.status_code, error_of(forbidden)) == (403, "Forbidden")
@@ -349,7 +357,12 @@ def test_a_worker_ends_its_own_claims(world: World) -> None:
     path, ends = "/v1/tasks/claim/end", {"worker": "w"}
     for name in ("caller", "approves-trip"):
         assert world[name].post(path, json=ends).status_code == 403
-    for name, words in (("worker", ends), ("operator", ends), ("sends", {"worker": "x"}), ("sends", {})):
+    for name, words in (
+        ("worker", ends),
+        ("operator", ends),
+        ("sends", {"worker": "x"}),
+        ("sends", {}),
+    ):
         assert world[name].post(path, json=words).json() == {"ended": 0}
     until_ended = time.monotonic() + LONG  # until the claim has come there
     other = world.service.client(world.tokens["sends"])
@@ -384,7 +397,14 @@ def test_the_dashboard_has_its_definitions(world: World) -> None:
     assert others and 'name="group"' not in page.get("/ui?kind=stuck").text
     csrf = re.search(r'name="csrf" value="([^"]+)"', page.get("/ui").text)
     assert csrf is not None
-    form = {"csrf": csrf[1], "kind": "stuck", "verb": "resolve", "sure": "1", "count": "1", "note": "x"}
+    form = {
+        "csrf": csrf[1],
+        "kind": "stuck",
+        "verb": "resolve",
+        "sure": "1",
+        "count": "1",
+        "note": "x",
+    }
     refused = page.post("/ui/inbox", data={**form, **others})
     assert refused.status_code == 422 and "Nothing is selected" in refused.text
     assert world["operator"].get("/v1/sagas/a-licence").json()["phase"] == "stuck"
@@ -397,9 +417,11 @@ def test_the_dashboard_has_its_definitions(world: World) -> None:
 
 
 FORMS: list[tuple[str, dict[str, str]]] = [
-    ("abort", {}), ("steps/flight/done", {"result": "1"}), ("steps/flight/failed", {"failed": "x"}),
+    ("abort", {}),
+    ("steps/flight/done", {"result": "1"}),
+    ("steps/flight/failed", {"failed": "x"}),
     ("resolve", {"note": "x"}),
-]  # fmt: skip
+]
 
 
 def test_the_dashboard_does_nothing_to_others(world: World) -> None:
@@ -512,7 +534,9 @@ def test_a_stream_ends_with_its_token(tmp_path: pathlib.Path) -> None:
         assert any('"told"' in line for line in lines)
 
 
-def test_a_file_that_was_unreadable_once(tmp_path: pathlib.Path, monkeypatch: pytest.MonkeyPatch) -> None:
+def test_a_file_that_was_unreadable_once(
+    tmp_path: pathlib.Path, monkeypatch: pytest.MonkeyPatch
+) -> None:
     """It is read at a later look though nothing of it has changed, as behind a `chown`; the log says it once."""
     gone, stays = (token(tmp_path, name, "operator") for name in ("gone", "stays"))
     file, said = tmp_path / "tokens.toml", list[str]()
@@ -527,7 +551,9 @@ def test_a_file_that_was_unreadable_once(tmp_path: pathlib.Path, monkeypatch: py
         resource.setrlimit(resource.RLIMIT_NOFILE, (soft, hard))
     assert tokens.find(gone) is None and tokens.find(stays)
     (line,) = said
-    assert "Too many open files" in line and line.endswith("; the previous tokens stay valid until it is fixed")
+    assert "Too many open files" in line and line.endswith(
+        "; the previous tokens stay valid until it is fixed"
+    )
 
 
 def test_what_waits_ends_with_its_token(tmp_path: pathlib.Path) -> None:
@@ -583,8 +609,14 @@ FAULTS = [
         "steps must be a list of one or more DEFINITION/STEP or DEFINITION/STEP/undo",
     ),
     ("steps = [1]", "steps must be a list of one or more DEFINITION/STEP or DEFINITION/STEP/undo"),
-    ("expires = 2027-01-01T00:00:00", "expires must be a time with an offset, for example 2027-01-01T00:00:00Z"),
-    ("expires = 2027-01-01", "expires must be a time with an offset, for example 2027-01-01T00:00:00Z"),
+    (
+        "expires = 2027-01-01T00:00:00",
+        "expires must be a time with an offset, for example 2027-01-01T00:00:00Z",
+    ),
+    (
+        "expires = 2027-01-01",
+        "expires must be a time with an offset, for example 2027-01-01T00:00:00Z",
+    ),
     (
         "keys = []",
         "keys must be a list of one or more keys, or beginnings of keys with * at the end, "
@@ -596,7 +628,10 @@ FAULTS = [
         "without /:",
     ),
     ('keys = ["a*"]', "keys can only restrict a token with the roles caller and approver"),
-    ('expires = "tomorrow"', "expires must be a time with an offset, for example 2027-01-01T00:00:00Z"),
+    (
+        'expires = "tomorrow"',
+        "expires must be a time with an offset, for example 2027-01-01T00:00:00Z",
+    ),
     ("expires = 5", "expires must be a time with an offset, for example 2027-01-01T00:00:00Z"),
     (
         'definition = ["trip"]',

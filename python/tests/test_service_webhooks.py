@@ -111,13 +111,20 @@ def test_what_is_posted(tmp_path: pathlib.Path, receiver: Receiver) -> None:
         found = receiver.wait(5)
         told = {(one["type"], one["data"]["key"]): one["data"] for one in found}
         assert {*told} == {
-            ("saga.completed", "good"), ("saga.recovered", "bad"), ("saga.stuck", "stuck-1"),
-            ("saga.attention", "asked"), ("saga.attention", "hazy"),
-        }  # fmt: skip
+            ("saga.completed", "good"),
+            ("saga.recovered", "bad"),
+            ("saga.stuck", "stuck-1"),
+            ("saga.attention", "asked"),
+            ("saga.attention", "hazy"),
+        }
         assert told["saga.attention", "asked"]["kind"] == "approval"
         assert told["saga.attention", "hazy"] == {
-            "key": "hazy", "definition": "trip", "kind": "unknown", "step": "tour", "undo": False,
-        }  # fmt: skip
+            "key": "hazy",
+            "definition": "trip",
+            "kind": "unknown",
+            "step": "tour",
+            "undo": False,
+        }
         assert not any(b"secret" in body or b"dead" in body for _, body in receiver.got)
         listed = client.get("/v1/webhooks/deliveries?state=delivered").json()["deliveries"]
         assert len(listed) == 5 and listed[0]["attempts"] == 1 and SECRET not in str(listed)
@@ -165,12 +172,19 @@ def delivered(client: httpx.Client) -> dict[tuple[str, str, str], dict[str, Any]
 
 def test_it_survives_a_kill(tmp_path: pathlib.Path, store: str | None) -> None:
     """What was not posted when the service was killed is posted by the next one, under its id; what was posted before, is not. Over PostgreSQL two services share the
-    posts: each is posted once. A delivery that was given up is posted again where an operator asks for it, and nobody else may."""
+    posts: each is posted once. A delivery that was given up is posted again where an operator asks for it, and nobody else may.
+    """
     receiver = Receiver(410, *[500] * 3)
-    words = ("--local-webhooks", "--webhooks", written(tmp_path, table(receiver.url, 'definitions = ["order", "trip"]')))
+    words = (
+        "--local-webhooks",
+        "--webhooks",
+        written(tmp_path, table(receiver.url, 'definitions = ["order", "trip"]')),
+    )
     tokens = {role: token(tmp_path, role, role) for role in ("caller", "operator")}
     words += ("--token-file", str(tmp_path / "tokens.toml"))
-    with served(tmp_path, DEFINITIONS, *words, store=store) as service, service.client(tokens["operator"]) as client:
+    with served(tmp_path, DEFINITIONS, *words, store=store) as service, service.client(
+        tokens["operator"]
+    ) as client:
         start(client, "order", "given-up")
         receiver.wait(1)
         ((_, _, key),) = delivered(client)
@@ -189,14 +203,22 @@ def test_it_survives_a_kill(tmp_path: pathlib.Path, store: str | None) -> None:
             assert {one["state"] for one in found.values()} == {"delivered", "failed"}
             ids = [headers["webhook-id"] for headers, _ in receiver.got]
             assert ids.count(found["one", "saga.attention", "given-up"]["id"]) == 1
-            assert all(ids.count(found["one", "saga.attention", f"held-{n}"]["id"]) == 2 for n in range(3))
+            assert all(
+                ids.count(found["one", "saga.attention", f"held-{n}"]["id"]) == 2 for n in range(3)
+            )
             before = len(receiver.got)
             for count in range(12):
                 start(client, "order", f"o-{count}")
             receiver.wait(before + 12)
             assert len(delivered(client)) == 16
-            assert len({headers["webhook-id"] for headers, _ in receiver.got[before:]}) == len(receiver.got) - before == 12
-        again = f"/v1/webhooks/deliveries/{found['one', 'saga.attention', 'given-up']['id']}/redeliver"
+            assert (
+                len({headers["webhook-id"] for headers, _ in receiver.got[before:]})
+                == len(receiver.got) - before
+                == 12
+            )
+        again = (
+            f"/v1/webhooks/deliveries/{found['one', 'saga.attention', 'given-up']['id']}/redeliver"
+        )
         with service.client(tokens["caller"]) as caller:
             assert caller.post(again, json={}).status_code == 403
         assert client.post(again.replace("msg_", "msg_x"), json={}).status_code == 404
@@ -208,7 +230,14 @@ def test_it_survives_a_kill(tmp_path: pathlib.Path, store: str | None) -> None:
 
 def test_nothing_is_stored_for_nobody(tmp_path: pathlib.Path) -> None:
     """Of what no webhook is told there is no row."""
-    words = ("--local-webhooks", "--webhooks", written(tmp_path, table("http://127.0.0.1:9/", 'types = ["saga.stuck"]\ndefinitions = ["licence"]')))
+    words = (
+        "--local-webhooks",
+        "--webhooks",
+        written(
+            tmp_path,
+            table("http://127.0.0.1:9/", 'types = ["saga.stuck"]\ndefinitions = ["licence"]'),
+        ),
+    )
     with served(tmp_path, DEFINITIONS, *words) as service, service.client() as client:
         start(client, "order", "asked")
         start(client, "licence", "good")
@@ -235,14 +264,23 @@ def test_who_may_look(tmp_path: pathlib.Path) -> None:
         ('[[webhook]]\nname = "a"\nurl = "https://x/"\nsecret = "whsec_YWJj"', "at least 24"),
         ("[[webhook]]\nurls = 1", "unknown key 'urls'"),
         (f"[[webhook]]\n{table('https://x/')}\ntypes = ['saga.lost']", "unknown type 'saga.lost'"),
-        (f"[[webhook]]\n{table('https://x/')}\n[[webhook]]\n{table('https://x/')}", "duplicate name"),
+        (
+            f"[[webhook]]\n{table('https://x/')}\n[[webhook]]\n{table('https://x/')}",
+            "duplicate name",
+        ),
         ("[[webhook", "cannot be read"),
         *(
             (f"[[webhook]]\n{table(url)}", "percent-encoded path")
             for url in (
-                "https://x:80800/?secret", "https://x:p/?secret", "https://a..b/?secret", "https://x/zürich?secret",
-                "https://x/?secret=ü", "https://x/a b?secret", "https://x y/?secret", "https://[::1/?secret",
-            )  # fmt: skip
+                "https://x:80800/?secret",
+                "https://x:p/?secret",
+                "https://a..b/?secret",
+                "https://x/zürich?secret",
+                "https://x/?secret=ü",
+                "https://x/a b?secret",
+                "https://x y/?secret",
+                "https://[::1/?secret",
+            )
         ),
     ],
 )
@@ -256,7 +294,9 @@ def test_a_file_that_is_wrong(tmp_path: pathlib.Path, text: str, says: str) -> N
 
 def test_a_host_beyond_ascii(tmp_path: pathlib.Path) -> None:
     """Its name is sent in its ASCII form."""
-    (one,) = webhook_file.read(pathlib.Path(written(tmp_path, table("https://zürich.example:8443/a%20b?c=%C3%BC"))))
+    (one,) = webhook_file.read(
+        pathlib.Path(written(tmp_path, table("https://zürich.example:8443/a%20b?c=%C3%BC")))
+    )
     assert one.url == "https://zürich.example:8443/a%20b?c=%C3%BC"
 
 
@@ -268,7 +308,10 @@ def test_whatever_a_post_raises(place: str) -> None:
 
     def are_there() -> list[tuple[bool, str | None]]:
         with Snapshot(place) as store:
-            return [(one.attempts > 1, one.error) for one in store.ask(deliveries.listed(None, None, 10))]
+            return [
+                (one.attempts > 1, one.error)
+                for one in store.ask(deliveries.listed(None, None, 10))
+            ]
 
     async def main() -> None:
         store = sagas.open(place, [trip])
@@ -284,7 +327,9 @@ def test_whatever_a_post_raises(place: str) -> None:
     asyncio.run(main())
 
 
-async def trickling(back: asyncio.StreamReader, there: asyncio.StreamWriter, first: bytes, part: bytes) -> None:
+async def trickling(
+    back: asyncio.StreamReader, there: asyncio.StreamWriter, first: bytes, part: bytes
+) -> None:
     """A receiver of which there is always more to come."""
     with contextlib.suppress(OSError):
         await back.readuntil(b"\r\n\r\n")
@@ -296,7 +341,11 @@ async def trickling(back: asyncio.StreamReader, there: asyncio.StreamWriter, fir
 
 
 ANSWERS: list[tuple[bytes, bytes, Any]] = [
-    (b"HTTP/1.1 204 No Content\r\n", b"X: y\r\n", 204),  # its head never ends, and its status is there
+    (
+        b"HTTP/1.1 204 No Content\r\n",
+        b"X: y\r\n",
+        204,
+    ),  # its head never ends, and its status is there
     (b"HTTP/1.1 ", b"2", TimeoutError),
     (b"", b"", TimeoutError),
     (b"HTTP/1.1 100 Continue\r\n", b"X: y\r\n", TimeoutError),
@@ -349,7 +398,11 @@ def test_a_stop_does_not_wait_for_a_receiver(tmp_path: pathlib.Path) -> None:
 
         held: list[socket.socket] = []
         threading.Thread(target=receive, daemon=True).start()
-        words = ("--local-webhooks", "--webhooks", written(tmp_path, table(f"http://{name}:{port}/")))
+        words = (
+            "--local-webhooks",
+            "--webhooks",
+            written(tmp_path, table(f"http://{name}:{port}/")),
+        )
         with served(tmp_path, DEFINITIONS, *words) as service, service.client() as client:
             start(client, "order", "asked")
             assert asked.wait(LONG)
@@ -361,7 +414,16 @@ def test_a_stop_does_not_wait_for_a_receiver(tmp_path: pathlib.Path) -> None:
 
 
 @pytest.mark.parametrize(
-    "address", ["127.0.0.1", "localhost", "[::1]", "169.254.169.254", "[fe80::1]", "[::ffff:127.0.0.1]", "0.0.0.0"],
+    "address",
+    [
+        "127.0.0.1",
+        "localhost",
+        "[::1]",
+        "169.254.169.254",
+        "[fe80::1]",
+        "[::ffff:127.0.0.1]",
+        "0.0.0.0",
+    ],
 )
 def test_a_local_receiver(tmp_path: pathlib.Path, address: str) -> None:
     """It is refused unless it is meant, by the file and wherever a name leads."""

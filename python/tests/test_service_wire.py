@@ -44,7 +44,10 @@ HEADS = [
     ("GET /health/live HTTP/1.1\nHost: @\nHost: @", b""),
     ("GET /health/live HTTP/1.1\nHost: @\nHOST: elsewhere.example", b""),
     ("GET /health/live HTTP/1.1", b""),
-    ("POST /v1/sagas HTTP/1.1\nHost: @\nContent-Length: 5\nTransfer-Encoding: chunked", b"0\r\n\r\n"),
+    (
+        "POST /v1/sagas HTTP/1.1\nHost: @\nContent-Length: 5\nTransfer-Encoding: chunked",
+        b"0\r\n\r\n",
+    ),
     ("POST /v1/sagas HTTP/1.1\nHost: @\nContent-Length: 2\nContent-Length: 3", b"{} "),
     ("POST /v1/sagas HTTP/1.1\nHost: @\nContent-Length: +2", b"{}"),
     ("POST /v1/sagas HTTP/1.1\nHost: @\nContent-Length: 2, 3", b"{} "),
@@ -95,7 +98,7 @@ BODIES: list[tuple[str, dict[str, Any]]] = [
     ("/v1/tasks/x/fail", {"lease": "1", "error": 5}),
     ("/v1/tasks/x/fail", {"lease": "1", "error": "x", "final": "no"}),
     ("/v1/tasks/x/complete", {"lease": 1}),
-]  # fmt: skip
+]
 
 
 @pytest.mark.parametrize("path, body", BODIES)
@@ -104,7 +107,9 @@ def test_texts_are_texts(service: Served, path: str, body: dict[str, Any]) -> No
     with service.client() as client:
         answer = client.post(path, json=body)
         assert (answer.status_code, error_of(answer)) == (422, "InvalidRequest"), answer.text
-        assert client.get("/v1/sagas/5").status_code == client.get("/v1/sagas/True").status_code == 404
+        assert (
+            client.get("/v1/sagas/5").status_code == client.get("/v1/sagas/True").status_code == 404
+        )
 
 
 def test_a_path_makes_no_line_of_the_log(service: Served) -> None:
@@ -146,7 +151,9 @@ def test_a_traceback_is_set_in() -> None:
             (type(error), error, error.__traceback__),
         )
     first, *lines = (
-        log_format.Text("%(asctime)s %(levelname)s %(name)s: %(message)s").format(record).split("\n")
+        log_format.Text("%(asctime)s %(levelname)s %(name)s: %(message)s")
+        .format(record)
+        .split("\n")
     )
     assert (
         first.endswith("ERROR sagas: failed: a\\nb")
@@ -219,4 +226,7 @@ def test_trusted_proxies(tmp_path: pathlib.Path) -> None:
     done = subprocess.run(
         one.command(), env=environment(), capture_output=True, text=True, timeout=LONG, cwd=tmp_path
     )
-    assert done.returncode == 2 and "use networks or addresses, for example 10.0.0.0/8,192.0.2.7" in done.stderr
+    assert (
+        done.returncode == 2
+        and "use networks or addresses, for example 10.0.0.0/8,192.0.2.7" in done.stderr
+    )

@@ -17,7 +17,19 @@ from typing import Any
 
 import httpx
 import pytest
-from serving import DEFINITIONS, LONG, Served, all_done, environment, host, report, served, start, take, token
+from serving import (
+    DEFINITIONS,
+    LONG,
+    Served,
+    all_done,
+    environment,
+    host,
+    report,
+    served,
+    start,
+    take,
+    token,
+)
 
 import sagas
 
@@ -65,19 +77,26 @@ def test_a_step_is_declared_twice() -> None:
     worker = sagas.Worker("http://127.0.0.1:1")
 
     @worker.step("trip", "car")
-    def car(task: sagas.Task[Any]) -> None: ...
+    def car(task: sagas.Task[Any]) -> None:
+        ...
 
     worker.compensation("trip", "car")(car)
-    with pytest.raises(sagas.DefinitionError, match=r"trip/car is declared twice, at .*test_service_workers.py:\d+ and .*test_service_workers.py:\d+"):
+    with pytest.raises(
+        sagas.DefinitionError,
+        match=r"trip/car is declared twice, at .*test_service_workers.py:\d+ and .*test_service_workers.py:\d+",
+    ):
 
         @worker.step("trip", "car")
-        def another(task: sagas.Task[Any]) -> None: ...
+        def another(task: sagas.Task[Any]) -> None:
+            ...
 
 
 def test_a_worker(tmp_path: pathlib.Path, caplog: pytest.LogCaptureFixture) -> None:
     """What its functions do means what it means in a store; a long one keeps its lease by beats. A step that no definition has is told in its log, once."""
     calls: list[tuple[str, bool, str]] = []
-    with served(tmp_path, {"steps.toml": STEPS, "steps.service.toml": SERVICE}) as service, service.client() as client:
+    with served(
+        tmp_path, {"steps.toml": STEPS, "steps.service.toml": SERVICE}
+    ) as service, service.client() as client:
         worker = sagas.Worker(service.url, lease=3.0, wait=1.0, concurrency=2)
 
         @worker.step("steps", "flaky")
@@ -121,9 +140,16 @@ def test_a_worker(tmp_path: pathlib.Path, caplog: pytest.LogCaptureFixture) -> N
         with working(worker):
             end = client.get("/v1/sagas/s/wait?seconds=60").json()
         log = client.get("/v1/sagas/s/log").json()["events"]
-    assert end["phase"] == "recovered" and end["results"]["flaky"] == 42 and end["results"]["hazy"] == "42"
+    assert (
+        end["phase"] == "recovered"
+        and end["results"]["flaky"] == 42
+        and end["results"]["hazy"] == "42"
+    )
     assert "unstorable" in end["results"]["odd"] and end["states"]["last"] == "failed"
-    assert [event["event"] for event in log if event["step"] == "flaky"] == ["start_run", "missed"] * 2 + ["start_run", "commit"]
+    assert [event["event"] for event in log if event["step"] == "flaky"] == [
+        "start_run",
+        "missed",
+    ] * 2 + ["start_run", "commit"]
     first = next(event for event in log if event["event"] == "missed" and event["step"] == "last")
     assert first["value"] == {"error": "sagas.Fail: never", "final": True}
     assert [step for step, undone, _ in calls][:6] == ["flaky"] * 3 + ["hazy"] * 2 + ["slow"]
@@ -139,7 +165,14 @@ def test_a_worker_that_is_interrupted(tmp_path: pathlib.Path) -> None:
     with served(tmp_path) as service, service.client() as client:
         start(client, "trip", "x")
         words = [sys.executable, str(tmp_path / "worker.py"), service.url]
-        with subprocess.Popen(words, env=environment(), stdin=subprocess.PIPE, stdout=subprocess.PIPE, stderr=subprocess.PIPE, text=True) as worker:
+        with subprocess.Popen(
+            words,
+            env=environment(),
+            stdin=subprocess.PIPE,
+            stdout=subprocess.PIPE,
+            stderr=subprocess.PIPE,
+            text=True,
+        ) as worker:
             assert worker.stdin and worker.stdout and worker.stderr
             assert worker.stdout.readline() == "at work\n"
             worker.send_signal(signal.SIGINT)
@@ -264,7 +297,9 @@ ODD = SystemExit, KeyboardInterrupt, GeneratorExit, asyncio.CancelledError
 
 
 @pytest.mark.parametrize("is_async", [False, True])
-def test_a_function_raises_what_it_should_not(ones: tuple[Served, httpx.Client], is_async: bool) -> None:
+def test_a_function_raises_what_it_should_not(
+    ones: tuple[Served, httpx.Client], is_async: bool
+) -> None:
     """That is unknown, as in a store: the same thread calls it again, with the same idempotency key."""
     service, client = ones
     calls: list[tuple[str, str]] = []
@@ -284,11 +319,16 @@ def test_a_function_raises_what_it_should_not(ones: tuple[Served, httpx.Client],
         start(client, "one", key, number)
     with working(worker):
         for kind, key in zip(ODD, keys):
-            assert client.get(f"/v1/sagas/{key}/wait?seconds=20", timeout=LONG).json()["phase"] == "completed", kind
+            assert (
+                client.get(f"/v1/sagas/{key}/wait?seconds=20", timeout=LONG).json()["phase"]
+                == "completed"
+            ), kind
     assert len(calls) == 2 * len(set(calls)) == 2 * len(ODD)
 
 
-def test_no_thread_of_a_worker_ends_silently(ones: tuple[Served, httpx.Client], caplog: pytest.LogCaptureFixture) -> None:
+def test_no_thread_of_a_worker_ends_silently(
+    ones: tuple[Served, httpx.Client], caplog: pytest.LogCaptureFixture
+) -> None:
     """The worker ends with it, and its log says so: whether it claims, or keeps leases; `run` raises what ended it."""
     service, client = ones
     claims = sagas.Worker(service.url, wait=1.0, lease=1.0)
@@ -345,7 +385,9 @@ class Calls:
         self._came = threading.Condition()
         self.held, self.hold = threading.Event(), threading.Event()
 
-    def of(self, name: str, seconds: float = 0.0, holds: Asking | None = None) -> Callable[[sagas.Task[None]], None]:
+    def of(
+        self, name: str, seconds: float = 0.0, holds: Asking | None = None
+    ) -> Callable[[sagas.Task[None]], None]:
         def function(task: sagas.Task[None]) -> None:
             with self._came:
                 self.all.append((name, task.key))
@@ -369,7 +411,9 @@ class Calls:
 @pytest.fixture(scope="module")
 def ones(tmp_path_factory: pytest.TempPathFactory) -> Iterator[tuple[Served, httpx.Client]]:
     """A service for sagas of one step."""
-    with served(tmp_path_factory.mktemp("ones"), {"one.toml": ONE}) as service, service.client() as client:
+    with served(
+        tmp_path_factory.mktemp("ones"), {"one.toml": ONE}
+    ) as service, service.client() as client:
         yield service, client
 
 
@@ -387,10 +431,17 @@ def test_reports_together(ones: tuple[Served, httpx.Client]) -> None:
         start(client, "one", f"together-{number}")
     tasks = take(client, "one/a", most=6)
     outcomes: list[dict[str, Any]] = [
-        {"outcome": "complete", "result": {"n": 1}}, {"outcome": "complete"}, {"outcome": "fail", "error": "no", "final": True},
-        {"outcome": "unknown", "error": "who knows"}, {"outcome": "complete"}, {"outcome": "complete"},
-    ]  # fmt: skip
-    reports = [{"attempt_id": one["attempt_id"], "lease": one["lease"], **outcome} for one, outcome in zip(tasks, outcomes)]
+        {"outcome": "complete", "result": {"n": 1}},
+        {"outcome": "complete"},
+        {"outcome": "fail", "error": "no", "final": True},
+        {"outcome": "unknown", "error": "who knows"},
+        {"outcome": "complete"},
+        {"outcome": "complete"},
+    ]
+    reports = [
+        {"attempt_id": one["attempt_id"], "lease": one["lease"], **outcome}
+        for one, outcome in zip(tasks, outcomes)
+    ]
     reports[4] |= {"lease": tasks[5]["lease"]}
     reports[5] |= {"attempt_id": "0-1-a-run-1"}
 
@@ -398,17 +449,26 @@ def test_reports_together(ones: tuple[Served, httpx.Client]) -> None:
         return client.post("/v1/tasks/report", json={"reports": some, **more})
 
     for wrong in (
-        sent(), sent(*reports * 17), sent({**reports[0], "outcome": "done"}), sent(reports[0], {**reports[2], "error": None}),
+        sent(),
+        sent(*reports * 17),
+        sent({**reports[0], "outcome": "done"}),
+        sent(reports[0], {**reports[2], "error": None}),
         sent(reports[0], next={"steps": ["one"]}),
-    ):  # fmt: skip
+    ):
         assert wrong.status_code == 422
     assert sent(reports[0], {**reports[2], "error": None}).json()["field"] == "reports.1.error"
     told = sent(*reports, next={"steps": ["one/a"]}).json()
     assert [one["attempt_id"] for one in told["reports"]] == [one["attempt_id"] for one in reports]
-    assert [one["kept"] for one in told["reports"]] == [True] * 4 + [False] * 2 and told["next"]["unknown_steps"] == []
-    assert [one["problem"]["type"].rpartition(":")[2] for one in told["reports"][4:]] == ["InvalidLease"] * 2
+    assert [one["kept"] for one in told["reports"]] == [True] * 4 + [False] * 2 and told["next"][
+        "unknown_steps"
+    ] == []
+    assert [one["problem"]["type"].rpartition(":")[2] for one in told["reports"][4:]] == [
+        "InvalidLease"
+    ] * 2
     again = sent(*reports[:3], {**reports[2], "outcome": "complete"}).json()
-    assert [(one["kept"], one["repeated"]) for one in again["reports"]] == [(True, True)] * 3 + [(False, False)]
+    assert [(one["kept"], one["repeated"]) for one in again["reports"]] == [(True, True)] * 3 + [
+        (False, False)
+    ]
     assert again["next"] is None and again["reports"][3]["problem"]["status"] == 409
     for one, word in zip(tasks, ("completed", "completed", "recovered")):
         assert client.get(f"/v1/sagas/{one['key']}/wait").json()["phase"] == word
@@ -431,14 +491,20 @@ def test_a_worker_takes_short_ones_ahead(ones: tuple[Served, httpx.Client]) -> N
         if seconds:
             assert worker.given == [1] * count
         else:
-            assert worker.given[0] == 1 and 2 < max(worker.given) <= 10 and len(worker.given) < count, worker.given
+            assert (
+                worker.given[0] == 1 and 2 < max(worker.given) <= 10 and len(worker.given) < count
+            ), worker.given
     assert not left_open(client)
 
 
 def test_what_a_worker_took_ahead(ones: tuple[Served, httpx.Client]) -> None:
     """Where a function is slow, or the worker is stopped, what stands in its queue is soon another's, long before its lease is over; each is done once."""
     service, client = ones
-    reclaimed = [line for line in client.get("/metrics").text.splitlines() if line.startswith("sagas_tasks_reclaimed_total ")]
+    reclaimed = [
+        line
+        for line in client.get("/metrics").text.splitlines()
+        if line.startswith("sagas_tasks_reclaimed_total ")
+    ]
     assert len(reclaimed) == 1
     for stopped in (False, True):
         calls, before = Calls(), service.told().count("/heartbeat 200")
@@ -473,13 +539,23 @@ class Workers:
         self.environment = environment() | {"PATH": f"{folder}:{environment()['PATH']}"}
         node = shutil.which("node")
         assert node
-        self.commands = [[sys.executable, str(EXAMPLES / "worker.py")], [node, str(EXAMPLES / "worker.mjs")], [str(EXAMPLES / "worker.sh")]]
+        self.commands = [
+            [sys.executable, str(EXAMPLES / "worker.py")],
+            [node, str(EXAMPLES / "worker.mjs")],
+            [str(EXAMPLES / "worker.sh")],
+        ]
         self.service = service
         self.there = [self._start(command) for command in self.commands]
 
     def _start(self, command: list[str]) -> subprocess.Popen[bytes]:
         with open(self.service.folder / "workers", "ab") as log:
-            return subprocess.Popen([*command, self.service.url], env=self.environment, stdout=log, stderr=log, start_new_session=True)
+            return subprocess.Popen(
+                [*command, self.service.url],
+                env=self.environment,
+                stdout=log,
+                stderr=log,
+                start_new_session=True,
+            )
 
     def kill(self, place: int) -> None:
         self._end(self.there[place])
@@ -590,7 +666,12 @@ def test_the_examples_go_on(tmp_path: pathlib.Path) -> None:
             deadline = time.monotonic() + 2 * LONG
             while waiting and time.monotonic() < deadline:
                 for key in sorted(waiting):
-                    if client.post(f"/v1/sagas/{key}/steps/review/complete", json={"result": "yes"}).status_code == 200:
+                    if (
+                        client.post(
+                            f"/v1/sagas/{key}/steps/review/complete", json={"result": "yes"}
+                        ).status_code
+                        == 200
+                    ):
                         waiting.discard(key)
                 time.sleep(0.1)
             service.kill()
@@ -598,6 +679,8 @@ def test_the_examples_go_on(tmp_path: pathlib.Path) -> None:
             for key in keys:
                 end = client.get(f"/v1/sagas/{key}/wait?seconds=60").json()
                 assert end["phase"] == "completed" and end["results"]["hotel"]["room"] == 4, end
-                assert end["results"]["tour"].startswith("booked under ") and end["results"]["tour"].endswith("-tour-run"), end
+                assert end["results"]["tour"].startswith("booked under ") and end["results"][
+                    "tour"
+                ].endswith("-tour-run"), end
         finally:
             workers.end()

@@ -112,8 +112,11 @@ def test_scripts_name_all_items_or_one() -> None:
 def test_a_dict_gives_keys_beside_the_numbers() -> None:
     saga = sagas.Saga("keyed")
 
-    @saga.step(for_each=lambda input: {item["sku"]: item for item in input["items"]},
-               keep=lambda item: item["count"], undo=0)  # fmt: skip
+    @saga.step(
+        for_each=lambda input: {item["sku"]: item for item in input["items"]},
+        keep=lambda item: item["count"],
+        undo=0,
+    )
     def pick(task: sagas.Task[Any]) -> str:
         return f"{task.item['count']} of {task.index}"
 
@@ -543,9 +546,11 @@ def test_a_wrong_type_of_items_is_found(tmp_path: pathlib.Path) -> None:
     number = "builtins.int"
     key = f"Union[{number}, builtins.str]"
     assert seen == [
-        f"builtins.list[{number}]", f"builtins.dict[builtins.str, {number}]", number,
+        f"builtins.list[{number}]",
+        f"builtins.dict[builtins.str, {number}]",
+        number,
         f"builtins.dict[{key}, {number}]",
-    ]  # fmt: skip
+    ]
     (error,) = [line for line in told if ": error: " in line]
     assert "ItemTask[Order, Letter]" in error and "ItemTask[Any, Parcel]" in error
 
@@ -564,10 +569,10 @@ def test_definitions_that_differ_in_costs_share_the_rest() -> None:
 
     first = saga.step(
         name="first", run=lambda given: len(given["items"]), undo=sagas.NEVER, keep=7
-    )(lambda task: None)  # fmt: skip
+    )(lambda task: None)
     work = saga.step(
         name="work", for_each="items", needs=[first], skip=cost, undo=cost, keep=cost, tries=2
-    )(lambda task: None)  # fmt: skip
+    )(lambda task: None)
     work.compensation(lambda task: None)
     saga.step(name="last", when=lambda given: given["last"], needs=[first], undo=0, skip=3)(
         lambda task: None

@@ -94,20 +94,26 @@ def bad(case: Case, given: Any) -> Case:
 THIRTEEN = [5, 13, 0, 2]
 CASES = {
     **{f"items-{count}": items(count) for count in (0, 1, 3, 50, 500)},
-    "twice-0": items(0, True), "twice-3": items(3, True), "twice-200": items(200, True),
-    "keys": keyed(), "no-keys": Case(many, {"items": {}}, 1, last, {}),
+    "twice-0": items(0, True),
+    "twice-3": items(3, True),
+    "twice-200": items(200, True),
+    "keys": keyed(),
+    "no-keys": Case(many, {"items": {}}, 1, last, {}),
     **{f"order-{count}": sent(count, count == 3) for count in (0, 1, 3, 50)},
-    "trip-0": travel(0, [], False), "trip-1": travel(1, ["vw"], True),
+    "trip-0": travel(0, [], False),
+    "trip-1": travel(1, ["vw"], True),
     "trip-50": travel(50, ["vw"] * 9, True),
-    "fails-1": bad(items(1), {"items": [13]}), "fails-4": bad(items(4), {"items": THIRTEEN}),
+    "fails-1": bad(items(1), {"items": [13]}),
+    "fails-4": bad(items(4), {"items": THIRTEEN}),
     "fails-50": bad(items(50), {"items": [13, *[number % 9 for number in range(49)]]}),
     "fails-500": bad(items(500), {"items": [*[number % 9 for number in range(499)], 13]}),
     "fails-twice": bad(items(4, True), {"items": THIRTEEN, "twice": True}),
     "fails-key": bad(keyed(), {"items": dict(zip(KEYS, [0, 5, 13, 2, 1, 9, 3, 0]))}),
     "fails-order": bad(sent(3), Order([Parcel("Rome", 7), Parcel("nowhere"), Parcel("Oslo", 99)])),
-    "fails-trip": bad(travel(1, ["vw", "none"], True),
-                      Trip(Package(Hotel("Rome", ["a"], True), ["vw", "none"]))),
-}  # fmt: skip
+    "fails-trip": bad(
+        travel(1, ["vw", "none"], True), Trip(Package(Hotel("Rome", ["a"], True), ["vw", "none"]))
+    ),
+}
 SAGAS = [many, order, trip, shaped.booking, shaped.package, shaped.hire]
 Ways = Callable[[str], Any]
 

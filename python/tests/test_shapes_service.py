@@ -13,7 +13,6 @@ from test_service_workers import ONE, working
 import sagas
 
 
-
 def module(folder: pathlib.Path) -> None:
     (folder / "shop.py").write_text(
         "import sagas\n"
@@ -30,12 +29,15 @@ def module(folder: pathlib.Path) -> None:
 def test_tasks_of_items(tmp_path: pathlib.Path) -> None:
     """A task says its declared step and its item; a list has numbers, an object keys beside. The metrics count by the declared step."""
     module(tmp_path)
-    with served(tmp_path, {"one.toml": ONE}, "--app", "shop:store") as service, service.client() as client:
+    with served(
+        tmp_path, {"one.toml": ONE}, "--app", "shop:store"
+    ) as service, service.client() as client:
         start(client, "order", "list", {"parcels": ["book", "lamp"]})
         found = {task["index"]: task for task in (take(client, "order/ship")[0] for _ in range(2))}
         assert [(found[at]["step"], found[at]["item"], found[at]["item_key"]) for at in (0, 1)] == [
-            ("ship-0", "book", None), ("ship-1", "lamp", None),
-        ]  # fmt: skip
+            ("ship-0", "book", None),
+            ("ship-1", "lamp", None),
+        ]
         assert {task["declared_step"] for task in found.values()} == {"ship"}
         assert {task["name"] for task in found.values()} == {"order/ship"}
         for at in (1, 0):
@@ -46,7 +48,10 @@ def test_tasks_of_items(tmp_path: pathlib.Path) -> None:
         report(client, mail)
         start(client, "order", "keyed", {"parcels": {"a b": 1, "c/d": 2}})
         keyed = [take(client, "order/ship")[0] for _ in range(2)]
-        assert sorted((task["index"], task["item_key"], task["item"]) for task in keyed) == [(0, "a b", 1), (1, "c/d", 2)]
+        assert sorted((task["index"], task["item_key"], task["item"]) for task in keyed) == [
+            (0, "a b", 1),
+            (1, "c/d", 2),
+        ]
         for task in keyed:
             report(client, task, result=task["item_key"])
         (mail,) = take(client, "order/mail")
@@ -57,32 +62,48 @@ def test_tasks_of_items(tmp_path: pathlib.Path) -> None:
         assert mail["results"] == {"ship": []}
         report(client, mail)
         text = client.get("/metrics").text
-        assert 'sagas_steps_total{action="run",outcome="succeeded",saga="order",step="ship"} 4.0' in text
+        assert (
+            'sagas_steps_total{action="run",outcome="succeeded",saga="order",step="ship"} 4.0'
+            in text
+        )
         assert "ship-0" not in text
 
 
 def test_tasks_of_included_sagas(tmp_path: pathlib.Path) -> None:
     """They are asked for by the path of their names, and see what their own saga has."""
     module(tmp_path)
-    with served(tmp_path, {"one.toml": ONE}, "--app", "shop:store") as service, service.client() as client:
+    with served(
+        tmp_path, {"one.toml": ONE}, "--app", "shop:store"
+    ) as service, service.client() as client:
         start(client, "fair", "f", {"stalls": [{"parcels": ["book"]}]})
-        answer = client.post("/v1/tasks/claim", json={"steps": ["fair/stall/ship", "fair/nobody/ship"], "wait": 30, "worker": "w"})
+        answer = client.post(
+            "/v1/tasks/claim",
+            json={"steps": ["fair/stall/ship", "fair/nobody/ship"], "wait": 30, "worker": "w"},
+        )
         (task,) = answer.json()["tasks"]
         assert answer.json()["unknown_steps"] == ["fair/nobody/ship"]
-        assert (task["name"], task["step"], task["declared_step"]) == ("fair/stall/ship", "stall-0-ship-0", "stall/ship")
+        assert (task["name"], task["step"], task["declared_step"]) == (
+            "fair/stall/ship",
+            "stall-0-ship-0",
+            "stall/ship",
+        )
         assert (task["input"], task["item"]) == ({"parcels": ["book"]}, "book")
         report(client, task, result=7)
         (mail,) = take(client, "fair/stall/mail")
         assert mail["results"] == {"ship-0": 7, "ship": [7]}
         queues = client.get("/v1/queues").json()["queues"]
-        assert [(queue["definition"], queue["step"], queue["undo"]) for queue in queues] == [("fair", "stall/mail", False)]
+        assert [(queue["definition"], queue["step"], queue["undo"]) for queue in queues] == [
+            ("fair", "stall/mail", False)
+        ]
 
 
 def test_a_worker_s_function_reads_its_item(tmp_path: pathlib.Path) -> None:
     """`task.item`, `task.index` and `task.result_of` are as in a store."""
     module(tmp_path)
     calls: list[Any] = []
-    with served(tmp_path, {"one.toml": ONE}, "--app", "shop:store") as service, service.client() as client:
+    with served(
+        tmp_path, {"one.toml": ONE}, "--app", "shop:store"
+    ) as service, service.client() as client:
         worker = sagas.Worker(service.url, wait=1.0)
 
         @worker.step("order", "ship")
@@ -113,16 +134,23 @@ def test_events_of_items(tmp_path: pathlib.Path) -> None:
             raise sagas.Fail("no")
 
     @order.step
-    def bill(task: sagas.Task[Any]) -> None: ...
+    def bill(task: sagas.Task[Any]) -> None:
+        ...
 
     events: list[sagas.Event] = []
 
     async def main() -> None:
         async with sagas.open(tmp_path / "store.db", [order], on_event=events.append) as store:
-            await (await store.start(order, key="k", input={"parcels": {"a": "good", "b": "bad"}})).wait()
+            await (
+                await store.start(order, key="k", input={"parcels": {"a": "good", "b": "bad"}})
+            ).wait()
 
     asyncio.run(main())
-    found = {(event.step, event.index) for event in events if event.name in ("step_succeeded", "step_failed")}
+    found = {
+        (event.step, event.index)
+        for event in events
+        if event.name in ("step_succeeded", "step_failed")
+    }
     assert found == {("ship", "a"), ("ship", "b"), ("bill", None)}
 
 
@@ -155,7 +183,9 @@ store = sagas.open("unused.db", [order, trip, outer])
 def test_what_is_given_to_a_worker(tmp_path: pathlib.Path) -> None:
     """`given=` is computed where a task is handed out, also of a compensation, and two deep; if it raises, the attempt fails, as a function that raises."""
     (tmp_path / "shop.py").write_text(GIVING)
-    with served(tmp_path, {"one.toml": ONE}, "--app", "shop:store") as service, service.client() as client:
+    with served(
+        tmp_path, {"one.toml": ONE}, "--app", "shop:store"
+    ) as service, service.client() as client:
         start(client, "order", "plain", {"parcels": ["p"]})
         (task,) = take(client, "order/ship")
         assert task["given"] is None
@@ -166,13 +196,26 @@ def test_what_is_given_to_a_worker(tmp_path: pathlib.Path) -> None:
         report(client, tasks[0], result=1)
         report(client, tasks[1], "fail", error="no", final=True)
         assert client.get("/v1/sagas/good/wait?seconds=60").json()["over"]
-        for flight, said in (("bad", "ValueError: no given here"), ("never", "sagas.Fail: nothing to give"), ("none", "NotSerializable")):
+        for flight, said in (
+            ("bad", "ValueError: no given here"),
+            ("never", "sagas.Fail: nothing to give"),
+            ("none", "NotSerializable"),
+        ):
             start(client, "trip", flight, {"flight": flight, "parcels": ["a"]})
-            assert client.post("/v1/tasks/claim", json={"steps": ["trip/box/ship"], "wait": 2, "worker": "w"}).json()["tasks"] == []
+            assert (
+                client.post(
+                    "/v1/tasks/claim", json={"steps": ["trip/box/ship"], "wait": 2, "worker": "w"}
+                ).json()["tasks"]
+                == []
+            )
             end = client.get(f"/v1/sagas/{flight}/wait?seconds=60").json()
             assert end["phase"] == "recovered" and "given= raised" in end["errors"]["box-ship-0"]
             assert said in end["errors"]["box-ship-0"]
-        attempts = [one for one in client.get("/v1/sagas/bad/timeline").json()["attempts"] if one["step"] == "box-ship-0"]
+        attempts = [
+            one
+            for one in client.get("/v1/sagas/bad/timeline").json()["attempts"]
+            if one["step"] == "box-ship-0"
+        ]
         assert len(attempts) == 2
         start(client, "outer", "deep", {"trips": [{"flight": "X", "parcels": {"k": 1}}]})
         worker = sagas.Worker(service.url, wait=1.0)
@@ -215,10 +258,19 @@ def test_approvals_of_items_and_of_included_sagas(tmp_path: pathlib.Path) -> Non
     with served(tmp_path, {"one.toml": ONE}, "--app", "shop:store", *words) as service:
         with service.client(approver) as client, service.client(operator) as boss:
             start(boss, "order", "k", {"parcels": [1, 2], "legs": []})
-            for step, status in (("check-0", 200), ("hotel-review", 200), ("sign-1", 200), ("hotel-pay", 403), ("ship-0", 403), ("sign", 403)):
+            for step, status in (
+                ("check-0", 200),
+                ("hotel-review", 200),
+                ("sign-1", 200),
+                ("hotel-pay", 403),
+                ("ship-0", 403),
+                ("sign", 403),
+            ):
                 answer = client.post(f"/v1/sagas/k/steps/{step}/complete", json={"result": 1})
                 assert answer.status_code == status, (step, answer.text)
-            assert answer.json()["detail"].startswith("approver is an approver, and 'sign' is no approval")
+            assert answer.json()["detail"].startswith(
+                "approver is an approver, and 'sign' is no approval"
+            )
         with service.client() as page:
             page.post("/ui/login", data={"token": operator})
             assert "/steps/sign-0/done" in page.get("/ui/sagas/k?unfold=*").text
@@ -238,7 +290,10 @@ def test_an_approval_of_a_definition_that_is_elsewhere(tmp_path: pathlib.Path, u
         with other.client(approver) as client:
             answer = client.post("/v1/sagas/k/steps/check-0/complete", json={"result": 1})
             assert (answer.status_code, error_of(answer)) == (403, "Forbidden")
-            assert "this service does not have the definition 'order' of version 1" in answer.json()["detail"]
+            assert (
+                "this service does not have the definition 'order' of version 1"
+                in answer.json()["detail"]
+            )
 
 
 READING = """
@@ -274,7 +329,9 @@ def test_a_worker_asks_for_results_as_in_a_store(tmp_path: pathlib.Path, parcels
             wrong.append(str(error))
             return type(error).__name__
 
-    with served(tmp_path, {"one.toml": ONE}, "--app", "shop:store") as service, service.client() as client:
+    with served(
+        tmp_path, {"one.toml": ONE}, "--app", "shop:store"
+    ) as service, service.client() as client:
         worker = sagas.Worker(service.url, wait=1.0)
 
         @worker.step("trip", "ship")
@@ -289,7 +346,9 @@ def test_a_worker_asks_for_results_as_in_a_store(tmp_path: pathlib.Path, parcels
 
         @worker.step("trip", "tag")
         def _tag(task: sagas.Task[Any]) -> Any:
-            return [repr(found(task, one)) for one in (ship.each, ship, "ship", sagas.collect(ship))]
+            return [
+                repr(found(task, one)) for one in (ship.each, ship, "ship", sagas.collect(ship))
+            ]
 
         @worker.step("trip", "room")
         def _near(task: sagas.Task[Any]) -> Any:
@@ -305,7 +364,15 @@ def test_a_worker_asks_for_results_as_in_a_store(tmp_path: pathlib.Path, parcels
 
         @worker.step("trip", "tour")
         def _tour(task: sagas.Task[Any]) -> Any:
-            asked = [hotel[room], sure, "room", "hotel-0-room", ship.each, room, sagas.collect(ship)]
+            asked = [
+                hotel[room],
+                sure,
+                "room",
+                "hotel-0-room",
+                ship.each,
+                room,
+                sagas.collect(ship),
+            ]
             return [repr(found(task, one)) for one in asked]
 
         with working(worker):
@@ -315,16 +382,27 @@ def test_a_worker_asks_for_results_as_in_a_store(tmp_path: pathlib.Path, parcels
     results = told["results"]
     keys = [*parcels] if isinstance(parcels, dict) else [*range(len(parcels))]
     good = {key: f"{parcels[key]}!" for key in keys if parcels[key] != "bad"}
-    collected = repr(sagas.Collected(good, {key: "sagas.Fail: no" for key in keys if key not in good}))
+    collected = repr(
+        sagas.Collected(good, {key: "sagas.Fail: no" for key in keys if key not in good})
+    )
     for number, key in enumerate(keys):
         each = good.get(key, "StepFailed")
         assert results[f"label-{number}"] == each
         assert results[f"tag-{number}"] == [repr(each), "'StepFailed'", "'StepFailed'", collected]
     near = "near" if parcels else "ResultNotSerializable"
     assert results["tour"] == [
-        "['x', 'y']", repr(near), repr(near), "'x'", "'KeyError'", "'KeyError'", collected
-    ]  # fmt: skip
-    assert [results[f"hotel-{number}-key"] for number in (0, 1)] == [["x", "KeyError"], ["y", "KeyError"]]
+        "['x', 'y']",
+        repr(near),
+        repr(near),
+        "'x'",
+        "'KeyError'",
+        "'KeyError'",
+        collected,
+    ]
+    assert [results[f"hotel-{number}-key"] for number in (0, 1)] == [
+        ["x", "KeyError"],
+        ["y", "KeyError"],
+    ]
     assert any("is a step of saga" in one and "booking" in one for one in wrong)
 
 
@@ -345,7 +423,9 @@ def test_a_worker_asks_for_the_result_that_it_undoes(tmp_path: pathlib.Path) -> 
     (tmp_path / "shop.py").write_text(UNDOING)
     exec(UNDOING, names := dict[str, Any]())
     found: list[Any] = []
-    with served(tmp_path, {"one.toml": ONE}, "--app", "shop:store") as service, service.client() as client:
+    with served(
+        tmp_path, {"one.toml": ONE}, "--app", "shop:store"
+    ) as service, service.client() as client:
         worker = sagas.Worker(service.url, wait=1.0)
         worker.step("fair", "stall/ship")(lambda task: task.item * 2)
 

@@ -113,8 +113,11 @@ def test_inclusion_and_its_plan(place: str) -> None:
             end = await ended(store, trip, "good", good)
             confirmed = ["booked in Rome", ["booked in Rome: a"], "by LH1"]
             assert end.result_of(shaped.tour) == [
-                "LH1", confirmed, ["booked in Rome: a"], ["vw", "bmw"]
-            ]  # fmt: skip
+                "LH1",
+                confirmed,
+                ["booked in Rome: a"],
+                ["vw", "bmw"],
+            ]
             bad = await ended(store, trip, "bad", Trip(Package(Hotel("Rome", ["a"]), ["none"])))
             assert bad.cost == 12 == await least(store, "bad")
             assert bad.errors == {"p-car-0-take": "sagas.Fail: no car"}

@@ -28,7 +28,10 @@ import sagas
 from sagas.storage.postgresql.step_protocol import Prepares
 
 BOOK = "INSERT INTO book(key, step, token) VALUES(%s, %s, %s)"
-ORDERS = "CREATE TABLE orders(key text PRIMARY KEY)", "CREATE TABLE items(key text REFERENCES orders DEFERRABLE INITIALLY DEFERRED)"
+ORDERS = (
+    "CREATE TABLE orders(key text PRIMARY KEY)",
+    "CREATE TABLE items(key text REFERENCES orders DEFERRABLE INITIALLY DEFERRED)",
+)
 """What is looked at in the commit."""
 
 
@@ -42,7 +45,9 @@ def prepare(url: str, *more: str) -> None:
 def booked(url: str) -> Counter[tuple[str, str]]:
     """The rows of it."""
     with psycopg.connect(url) as link:
-        return Counter((key, step) for key, step in link.execute("SELECT key, step FROM book").fetchall())
+        return Counter(
+            (key, step) for key, step in link.execute("SELECT key, step FROM book").fetchall()
+        )
 
 
 def waits(url: str) -> bool:
@@ -72,7 +77,9 @@ def three(timeout: float | None = None) -> sagas.Saga:
         async def unbook(task: Task) -> None:
             await write(task, f"un{task.step}")
 
-        last = kind.step(name=name, needs=[last] if last else [], transaction=True, timeout=timeout)(book)
+        last = kind.step(
+            name=name, needs=[last] if last else [], transaction=True, timeout=timeout
+        )(book)
         last.compensation(unbook)
     return kind
 
@@ -89,14 +96,25 @@ def test_among_others_each_commits_by_itself(url: str) -> None:
 
     async def main() -> None:
         async with sagas.open(url, [kind], concurrency=8) as store:
-            ends = await asyncio.gather(*(ended(store, kind, f"k{number}", "three" if number % 2 else None) for number in range(20)))
+            ends = await asyncio.gather(
+                *(
+                    ended(store, kind, f"k{number}", "three" if number % 2 else None)
+                    for number in range(20)
+                )
+            )
             assert all(end.phase in ("completed", "recovered") for end in ends)
             await audited(store)
 
     run(main())
     names = ("one", "two", "three")
     wanted = Counter({(f"k{number}", name): 1 for number in range(0, 20, 2) for name in names})
-    wanted += Counter({(f"k{number}", name): 1 for number in range(1, 20, 2) for name in ("one", "two", "unone", "untwo")})
+    wanted += Counter(
+        {
+            (f"k{number}", name): 1
+            for number in range(1, 20, 2)
+            for name in ("one", "two", "unone", "untwo")
+        }
+    )
     assert booked(url) == wanted
 
 
@@ -115,22 +133,36 @@ def test_a_constraint_refuses_the_commit(url: str) -> None:
 
     @kind.step(needs=[reserve], transaction=True, tries=3, backoff=QUICK)
     async def item(task: Task) -> int:
-        await task.connection.execute("INSERT INTO items VALUES (%s)", (task.key if task.input == task.attempt else "none",))
+        await task.connection.execute(
+            "INSERT INTO items VALUES (%s)", (task.key if task.input == task.attempt else "none",)
+        )
         return task.attempt
 
     async def main() -> None:
         async with sagas.open(url, [kind], on_event=lambda event: said.append(event)) as store:
             with psycopg.connect(url) as link:
                 link.execute("INSERT INTO orders VALUES ('third')")
-            assert (await ended(store, kind, "third", 3)).results == {"reserve": "reserve is booked", "item": 3}
+            assert (await ended(store, kind, "third", 3)).results == {
+                "reserve": "reserve is booked",
+                "item": 3,
+            }
             end = await ended(store, kind, "never", 4)
-            assert end.states == {"reserve": "undone", "item": "failed"} and "ForeignKeyViolation" in end.errors["item"]
+            assert (
+                end.states == {"reserve": "undone", "item": "failed"}
+                and "ForeignKeyViolation" in end.errors["item"]
+            )
             await audited(store)
 
     run(main())
-    assert [event.name for event in said if event.name in ("step_retrying", "step_failed")] == ["step_retrying"] * 4 + ["step_failed"]
+    assert [event.name for event in said if event.name in ("step_retrying", "step_failed")] == [
+        "step_retrying"
+    ] * 4 + ["step_failed"]
     assert not [event for event in said if event.name == "commit_failed"]
-    assert booked(url) == {("third", "reserve"): 1, ("never", "reserve"): 1, ("never", "release"): 1}
+    assert booked(url) == {
+        ("third", "reserve"): 1,
+        ("never", "reserve"): 1,
+        ("never", "release"): 1,
+    }
     with psycopg.connect(url) as link:
         assert link.execute("TABLE items").fetchall() == [("third",)]
 
@@ -150,7 +182,9 @@ def test_the_answer_to_the_commit_is_lost(postgresql: Server, url: str) -> None:
 
     async def main() -> None:
         with relaying(postgresql.port) as relay:
-            async with sagas.open(postgresql.url(url.rpartition("/")[2], port=relay.port), [kind], lease=30) as store:
+            async with sagas.open(
+                postgresql.url(url.rpartition("/")[2], port=relay.port), [kind], lease=30
+            ) as store:
                 relay.mark = b"EXECUTE sagas_record("
                 assert (await ended(store, kind)).ok and relay.cuts["marked"] == 1
                 await audited(store)
@@ -167,17 +201,25 @@ def test_lone_sagas_while_connections_are_cut(postgresql: Server, url: str) -> N
 
     async def main() -> None:
         with relaying(postgresql.port, 3) as relay:
-            async with sagas.open(postgresql.url(url.rpartition("/")[2], port=relay.port), [kind], lease=30) as store:
+            async with sagas.open(
+                postgresql.url(url.rpartition("/")[2], port=relay.port), [kind], lease=30
+            ) as store:
                 relay.before = relay.after = 0.03
                 for number in range(15):
-                    assert (await surely_ended(store, kind, f"k{number}", "three" if number % 3 == 0 else None)).phase in ("completed", "recovered")
+                    assert (
+                        await surely_ended(
+                            store, kind, f"k{number}", "three" if number % 3 == 0 else None
+                        )
+                    ).phase in ("completed", "recovered")
                 relay.before = relay.after = 0.0
                 await audited(store)
             assert relay.cuts["after"] > 0 and relay.cuts["before"] > 0
 
     run(main())
     names = {0: ("one", "two", "unone", "untwo"), 1: ("one", "two", "three")}
-    assert booked(url) == {(f"k{number}", name): 1 for number in range(15) for name in names[min(1, number % 3)]}
+    assert booked(url) == {
+        (f"k{number}", name): 1 for number in range(15) for name in names[min(1, number % 3)]
+    }
 
 
 def test_a_limit_is_left_behind_the_commit(url: str) -> None:
@@ -274,11 +316,19 @@ def test_a_record_needs_no_setting(url: str) -> None:
 
     run(main())
     with psycopg.connect(url) as link:
-        assert link.execute("TABLE mine.saw").fetchall() == [("mine, public",), ('"$user", public',)]
+        assert link.execute("TABLE mine.saw").fetchall() == [
+            ("mine, public",),
+            ('"$user", public',),
+        ]
 
 
 @pytest.mark.parametrize(
-    "setting", ["SET statement_timeout = 777", "SELECT set_config('statement_timeout', '777', false)", "SELECT 1; SET statement_timeout = 777"]
+    "setting",
+    [
+        "SET statement_timeout = 777",
+        "SELECT set_config('statement_timeout', '777', false)",
+        "SELECT 1; SET statement_timeout = 777",
+    ],
 )
 @pytest.mark.parametrize("in_thread", [False, True])
 def test_what_a_step_does_to_its_connection(url: str, in_thread: bool, setting: str) -> None:
@@ -299,6 +349,7 @@ def test_what_a_step_does_to_its_connection(url: str, in_thread: bool, setting: 
             for text in before(task):
                 task.connection.execute(text)
             seen.append(task.connection.execute(look).fetchone())
+
     else:
 
         @kind.step(name="book", transaction=True)
@@ -311,7 +362,9 @@ def test_what_a_step_does_to_its_connection(url: str, in_thread: bool, setting: 
         async with sagas.open(url, [kind]) as store:
             for given in ("", "sets", ""):
                 assert (await ended(store, kind, f"k{len(seen)}", given)).ok
-            assert "may end it" in ((await ended(store, kind, "chains", "chains")).errors["book"] or "")
+            assert "may end it" in (
+                (await ended(store, kind, "chains", "chains")).errors["book"] or ""
+            )
             assert (await ended(store, kind, "behind", "")).ok
 
     run(main())
@@ -332,7 +385,12 @@ def test_connections_that_rest_are_let_go() -> None:
 
     async def main(url: str) -> None:
         async with sagas.open(url, [kind], lease=60) as store:
-            assert all(end.ok for end in await asyncio.gather(*(ended(store, kind, f"k{number}", "together") for number in range(4))))
+            assert all(
+                end.ok
+                for end in await asyncio.gather(
+                    *(ended(store, kind, f"k{number}", "together") for number in range(4))
+                )
+            )
             coordinator = store._inside
             with contextlib.ExitStack() as strangers:
                 while coordinator:
@@ -345,7 +403,9 @@ def test_connections_that_rest_are_let_go() -> None:
                         await asyncio.sleep(0.1)  # the server lets it go, and a stranger has it
                 assert (await asyncio.wait_for(surely_ended(store, kind, "behind"), 60)).ok
 
-    with serving({"max_connections": "20", "superuser_reserved_connections": "0", "max_wal_senders": "0"}) as server:
+    with serving(
+        {"max_connections": "20", "superuser_reserved_connections": "0", "max_wal_senders": "0"}
+    ) as server:
         url = server.create()
         prepare(url)
         run(main(url))
@@ -360,7 +420,12 @@ def test_few_statements_are_kept(url: str, monkeypatch: pytest.MonkeyPatch) -> N
     async def main() -> None:
         async with sagas.open(url, [kind]) as store:
             for number in range(6):
-                ends = await asyncio.gather(*(ended(store, kind, f"k{number}-{place}", "three" if place % 2 else None) for place in range(number)))
+                ends = await asyncio.gather(
+                    *(
+                        ended(store, kind, f"k{number}-{place}", "three" if place % 2 else None)
+                        for place in range(number)
+                    )
+                )
                 assert all(end.phase in ("completed", "recovered") for end in ends)
             coordinator = store._inside
             assert coordinator and 0 < len(coordinator.store._writer._wire._names) <= 3  # type: ignore[attr-defined]
@@ -384,6 +449,7 @@ def test_prepared_statements_are_gone(url: str, in_thread: bool, text: str) -> N
             calls.append(task.attempt_id)
             task.connection.execute(text)
             task.connection.execute(BOOK, (task.key, "book", "it's"))
+
     else:
 
         @kind.step(transaction=True, tries=1)
@@ -454,6 +520,7 @@ def test_a_rollback_leaves_what_is_prepared(url: str, in_thread: bool, way: str)
                     raise Undone
             for text in drops if task.input == "drops" else ():
                 task.connection.execute(text)
+
     else:
 
         @kind.step(transaction=True, tries=1)
@@ -510,17 +577,34 @@ KILLED = """
 """
 
 
-@pytest.mark.parametrize("method, is_there", [("storage.postgresql.step_connections.AsyncStepLink.end", False), ("runtime.shard_runner.ShardRunner.committed", True)])
-def test_a_kill_at_the_commit(url: str, tmp_path: pathlib.Path, method: str, is_there: bool) -> None:
+@pytest.mark.parametrize(
+    "method, is_there",
+    [
+        ("storage.postgresql.step_connections.AsyncStepLink.end", False),
+        ("runtime.shard_runner.ShardRunner.committed", True),
+    ],
+)
+def test_a_kill_at_the_commit(
+    url: str, tmp_path: pathlib.Path, method: str, is_there: bool
+) -> None:
     """Before it was sent nothing is there; behind its report all is, and nothing is called again."""
     prepare(url)
     script = tmp_path / "killed.py"
     module, owner, name = method.rsplit(".", 2)
-    script.write_text(textwrap.dedent(KILLED.format(url=url, module=module, owner=owner, method=name)))
-    environment = os.environ | {"PYTHONPATH": str(pathlib.Path(__file__).resolve().parents[1] / "src"), "SAGAS_PROGRAM": program()}
-    assert subprocess.run([sys.executable, str(script)], env=environment, check=False).returncode == 9
+    script.write_text(
+        textwrap.dedent(KILLED.format(url=url, module=module, owner=owner, method=name))
+    )
+    environment = os.environ | {
+        "PYTHONPATH": str(pathlib.Path(__file__).resolve().parents[1] / "src"),
+        "SAGAS_PROGRAM": program(),
+    }
+    assert (
+        subprocess.run([sys.executable, str(script)], env=environment, check=False).returncode == 9
+    )
     assert booked(url) == {("k", name): 1 for name in (("one", "two") if is_there else ("one",))}
-    assert [row.outcome for row in records.read(url).results.values()] == ["commit"] * (2 if is_there else 1)
+    assert [row.outcome for row in records.read(url).results.values()] == ["commit"] * (
+        2 if is_there else 1
+    )
     calls: list[str] = []
     kind = sagas.Saga("two")
 
@@ -537,7 +621,10 @@ def test_a_kill_at_the_commit(url: str, tmp_path: pathlib.Path, method: str, is_
             await audited(store)
 
     run(main())
-    assert calls == ([] if is_there else ["two"]) and booked(url) == {("k", "one"): 1, ("k", "two"): 1}
+    assert calls == ([] if is_there else ["two"]) and booked(url) == {
+        ("k", "one"): 1,
+        ("k", "two"): 1,
+    }
 
 
 def gated(gate: asyncio.Event) -> sagas.Saga:
@@ -562,14 +649,18 @@ def gated(gate: asyncio.Event) -> sagas.Saga:
 
 
 @contextlib.asynccontextmanager
-async def under_way(url: str) -> AsyncIterator[tuple[sagas.Saga, sagas.Store, sagas.Run, psycopg.Connection[Any]]]:
+async def under_way(
+    url: str,
+) -> AsyncIterator[tuple[sagas.Saga, sagas.Store, sagas.Run, psycopg.Connection[Any]]]:
     """A saga in a store, of whose first step the commit waits for a lock: who has it is a connection, to be rolled back."""
     prepare(url)
     gate = asyncio.Event()
     kind = gated(gate)
     async with sagas.open(url, [kind]) as store:
         going = await store.start(kind, "k")
-        await until(lambda: [row.outcome for row in records.read(url).results.values()] == ["commit"])
+        await until(
+            lambda: [row.outcome for row in records.read(url).results.values()] == ["commit"]
+        )
         with psycopg.connect(url) as link:
             link.execute("LOCK TABLE sagas.attempts IN EXCLUSIVE MODE")
             gate.set()
@@ -639,7 +730,11 @@ def test_an_end_of_another_saga_comes_with_the_report(url: str) -> None:
             assert await b.abort()
             gate.set()
             ends = [await run.wait(20) for run in (a, b)]
-            assert [end.aborted for end in ends] == [False, True] and ends[0].ok and ends[1].states == {"first": "waiting"}
+            assert (
+                [end.aborted for end in ends] == [False, True]
+                and ends[0].ok
+                and ends[1].states == {"first": "waiting"}
+            )
             await audited(store)
 
     run(main())
@@ -658,7 +753,9 @@ def test_plans_for_small_tables_are_not_kept(url: str) -> None:
     def scans() -> int:
         with psycopg.connect(url, autocommit=True) as link:
             link.execute("SELECT pg_stat_force_next_flush()")
-            ((count,),) = link.execute("SELECT sum(seq_scan) FROM pg_stat_user_tables WHERE schemaname = 'sagas' AND relname IN ('sagas', 'shards')").fetchall()
+            ((count,),) = link.execute(
+                "SELECT sum(seq_scan) FROM pg_stat_user_tables WHERE schemaname = 'sagas' AND relname IN ('sagas', 'shards')"
+            ).fetchall()
             return int(count)
 
     def sessions() -> bool:
@@ -672,7 +769,9 @@ def test_plans_for_small_tables_are_not_kept(url: str) -> None:
             for number in range(20):
                 await ended(store, kind, f"few {number}")
             with psycopg.connect(url, autocommit=True) as link:
-                link.execute("VACUUM ANALYZE sagas.sagas, sagas.shards, sagas.attempts, sagas.event_log")
+                link.execute(
+                    "VACUUM ANALYZE sagas.sagas, sagas.shards, sagas.attempts, sagas.event_log"
+                )
         await until(lambda: not sessions())
         async with sagas.open(url, [kind]) as store:
             for number in range(10):  # the server plans the first ones for themselves

@@ -47,14 +47,16 @@ def row(gate: asyncio.Event | None = None) -> sagas.Saga:
         return "A"
 
     @a.compensation
-    async def not_a(task: Task) -> None: ...
+    async def not_a(task: Task) -> None:
+        ...
 
     @row.step(needs=[a])
     async def b(task: Task) -> str:
         return task.result_of(a) + "B"
 
     @b.compensation
-    async def not_b(task: Task) -> None: ...
+    async def not_b(task: Task) -> None:
+        ...
 
     @row.step(needs=[b])
     async def c(task: Task) -> dict[str, Any]:
@@ -79,9 +81,18 @@ def test_start_with_a_key_that_is_there(place: str) -> None:
             for saga, given in ((kinds[0], {"a": 2}), (kinds[1], {"a": 1, "b": [2]})):
                 with pytest.raises(sagas.KeyConflict):
                     await store.start(saga, key="k", input=given)
-            asked = [store.start(kinds[0], key="k", input=given) for given in ({"a": 2}, {"a": 1, "b": [2]})]
-            told = await asyncio.gather(*asked, store.wait("k"), store.abort("k"), return_exceptions=True)
-            assert isinstance(told[0], sagas.KeyConflict) and not told[1].new and told[2:] == [first, False]
+            asked = [
+                store.start(kinds[0], key="k", input=given)
+                for given in ({"a": 2}, {"a": 1, "b": [2]})
+            ]
+            told = await asyncio.gather(
+                *asked, store.wait("k"), store.abort("k"), return_exceptions=True
+            )
+            assert (
+                isinstance(told[0], sagas.KeyConflict)
+                and not told[1].new
+                and told[2:] == [first, False]
+            )
             same = await asyncio.gather(*(ended(store, kinds[0], "many") for _ in range(20)))
             assert len({end.key for end in same}) == 1
         async with sagas.open(place, kinds) as store:
@@ -102,10 +113,18 @@ def test_a_key_that_is_none(place: str) -> None:
     async def main() -> None:
         async with sagas.open(place, [saga]) as store:
             for key in (17, "", "a\n", "k" * 3000, None):
-                with pytest.raises(sagas.InvalidKey, match="^key=.*: must be a text of 1 to 512 printable characters$") as error:
+                with pytest.raises(
+                    sagas.InvalidKey,
+                    match="^key=.*: must be a text of 1 to 512 printable characters$",
+                ) as error:
                     await store.start(saga, key)  # type: ignore[arg-type]
-                assert isinstance(error.value, sagas.NotSerializable) and len(str(error.value)) < 180
-            for given, text in (({"a": {1, object()}}, r'input\["a"\]: object is not JSON'), ([0.0, float("nan")], r"input\[1\]: NaN")):
+                assert (
+                    isinstance(error.value, sagas.NotSerializable) and len(str(error.value)) < 180
+                )
+            for given, text in (
+                ({"a": {1, object()}}, r'input\["a"\]: object is not JSON'),
+                ([0.0, float("nan")], r"input\[1\]: NaN"),
+            ):
                 with pytest.raises(sagas.NotSerializable, match=text):
                     await store.start(saga, "k", given)
 
@@ -133,7 +152,10 @@ class Order:
     [
         (None, "input: Order requires an object$"),
         ({}, "input: missing 'amount', which Order requires$"),
-        ({"amuont": 4}, "input: missing 'amount', which Order requires; it has 'amuont', which Order does not"),
+        (
+            {"amuont": 4},
+            "input: missing 'amount', which Order requires; it has 'amuont', which Order does not",
+        ),
         (
             {"amount": 4, "lines": [{"item": "a"}, {"count": 2}]},
             r"input\.lines\[1\]: missing 'item', which Line requires$",
@@ -157,7 +179,9 @@ def test_an_input_that_the_first_step_cannot_read(place: str, given: Any, text: 
                 await store.start(strict, "new", given)
             assert await store.get("new") is None and (await ended(store, strict, "old", given)).ok
             for well in (Order(4), {"amount": 4, "more": 1}):
-                assert (await ended(store, strict, f"well-{type(well)}", well)).results == {"charge": 4}
+                assert (await ended(store, strict, f"well-{type(well)}", well)).results == {
+                    "charge": 4
+                }
 
     run(main())
     with pytest.raises(sagas.InvalidInput, match=text):
@@ -170,9 +194,17 @@ def test_results(place: str) -> None:
 
     async def main() -> None:
         async with sagas.open(place, [saga]) as store:
-            assert (await ended(store, saga, "good")).results == {"a": "A", "b": "AB", "c": {"a": "A", "b": "AB"}}
+            assert (await ended(store, saga, "good")).results == {
+                "a": "A",
+                "b": "AB",
+                "c": {"a": "A", "b": "AB"},
+            }
             end = await ended(store, saga, "bad", "fails")
-            assert end.results == {} and end.states == {"a": "undone", "b": "undone", "c": "failed"} and end.cost == 0
+            assert (
+                end.results == {}
+                and end.states == {"a": "undone", "b": "undone", "c": "failed"}
+                and end.cost == 0
+            )
 
     run(main())
 
@@ -191,7 +223,11 @@ def test_abort(place: str) -> None:
             assert await going.abort() is True and await going.abort() is False
             gate.set()
             end = await going.wait()
-            assert end.aborted and end.phase == "recovered" and end.states == {"a": "undone", "b": "waiting", "c": "waiting"}
+            assert (
+                end.aborted
+                and end.phase == "recovered"
+                and end.states == {"a": "undone", "b": "waiting", "c": "waiting"}
+            )
             assert await going.abort() is False
             at_once = asyncio.create_task(store.start(saga, key="new"))
             await asyncio.sleep(0)
@@ -204,7 +240,9 @@ def test_abort(place: str) -> None:
 
 
 @pytest.mark.parametrize("error", [ValueError, TimeoutError], ids=["backoff", "unknown"])
-def test_a_held_step_takes_no_slot_and_keeps_nothing_from_draining(place: str, error: type[Exception]) -> None:
+def test_a_held_step_takes_no_slot_and_keeps_nothing_from_draining(
+    place: str, error: type[Exception]
+) -> None:
     """While a step waits an hour for its next try, or is called again then, another saga runs at concurrency 1; an abort does not wait for it."""
     calls: list[str] = []
 
@@ -228,7 +266,11 @@ def test_a_held_step_takes_no_slot_and_keeps_nothing_from_draining(place: str, e
             assert (await ended(store, saga, "quick")).ok
             assert await slow.abort()
             end = await slow.wait()
-            assert end.aborted and end.phase == "recovered" and calls == ["slow", "quick"] + ["slow"] * (error is TimeoutError)
+            assert (
+                end.aborted
+                and end.phase == "recovered"
+                and calls == ["slow", "quick"] + ["slow"] * (error is TimeoutError)
+            )
 
     run(main())
 
@@ -292,7 +334,10 @@ def test_no_more_than_its_concurrency(place: str) -> None:
 
     async def main() -> None:
         async with sagas.open(place, [one, other], concurrency=3) as store:
-            work = [asyncio.create_task(ended(store, (one, other)[number % 2], f"k{number}")) for number in range(12)]
+            work = [
+                asyncio.create_task(ended(store, (one, other)[number % 2], f"k{number}"))
+                for number in range(12)
+            ]
             await until(lambda: len(inside) == 3)
             await asyncio.sleep(0.1)  # a fourth would be there by now
             gate.set()
@@ -315,7 +360,8 @@ def test_a_limit_holds_back_nobody_else(place: str) -> None:
         running["a"] -= 1
 
     @quick.step
-    async def b(task: Task) -> None: ...
+    async def b(task: Task) -> None:
+        ...
 
     async def main() -> None:
         async with sagas.open(place, [slow, quick], concurrency=8) as store:
@@ -337,7 +383,11 @@ def test_wait(place: str, how: str) -> None:
     """A timer: its function is called when the time has come, and not before."""
     soon = datetime.timedelta(seconds=0.3)
     at = datetime.datetime.now(datetime.timezone.utc) + soon
-    times = {"timedelta": soon, "datetime": at, "function": lambda task: datetime.timedelta(seconds=task.input)}
+    times = {
+        "timedelta": soon,
+        "datetime": at,
+        "function": lambda task: datetime.timedelta(seconds=task.input),
+    }
     saga = sagas.Saga("late")
 
     @saga.wait(until=times[how])  # type: ignore[arg-type]
@@ -348,7 +398,9 @@ def test_wait(place: str, how: str) -> None:
         async with sagas.open(place, [saga]) as store:
             began = time.time()
             end = await ended(store, saga, given=0.3)
-            assert end.results["wait"] >= (at.timestamp() if how == "datetime" else began + 0.3) - 0.01
+            assert (
+                end.results["wait"] >= (at.timestamp() if how == "datetime" else began + 0.3) - 0.01
+            )
 
     run(main())
 
@@ -380,7 +432,9 @@ def test_a_wait_that_cannot_say_its_time(place: str) -> None:
     async def second() -> None:
         async with sagas.open(place, [saga]) as store:
             end = await store.wait("never")
-            assert end.states == {"wait": "failed"} and "datetime.fromisoformat" in end.errors["wait"]
+            assert (
+                end.states == {"wait": "failed"} and "datetime.fromisoformat" in end.errors["wait"]
+            )
             assert (await store.wait("later")).ok
             assert held(place) == []
 
@@ -438,7 +492,9 @@ def test_a_saga_that_is_over_waits_for_nothing(place: str, how: str) -> None:
 
     async def main() -> None:
         async with sagas.open(place, [saga]) as store:
-            assert (await ended(store, saga)).states["wait"] == ("failed" if how == "for good" else "waiting")
+            assert (await ended(store, saga)).states["wait"] == (
+                "failed" if how == "for good" else "waiting"
+            )
             assert held(place) == []
 
     run(main())
@@ -566,7 +622,9 @@ def test_full_logs_are_audited_and_closed(place: str, monkeypatch: pytest.Monkey
     monkeypatch.setattr("sagas.definition.shelf.SHARD_CAPACITY", 15)
     saga, right, audits = row(), program.run, Counter[str]()
 
-    def counting(command: str, texts: Sequence[str], where: str | None = None) -> subprocess.CompletedProcess[str]:
+    def counting(
+        command: str, texts: Sequence[str], where: str | None = None
+    ) -> subprocess.CompletedProcess[str]:
         if command == "audit":
             audits[texts[0]] += 1
         return right(command, texts, where)
@@ -579,12 +637,24 @@ def test_full_logs_are_audited_and_closed(place: str, monkeypatch: pytest.Monkey
 
     async def main() -> None:
         async with sagas.open(place, [saga]) as store:
-            await asyncio.gather(*(ended(store, saga, f"k{number}", "fails" if number % 3 else None) for number in range(120)))
+            await asyncio.gather(
+                *(
+                    ended(store, saga, f"k{number}", "fails" if number % 3 else None)
+                    for number in range(120)
+                )
+            )
             path = place
-            await until(lambda: sum(log.closed for log in records.read(path).logs.values()) >= len(records.read(path).logs) - 1)
+            await until(
+                lambda: sum(log.closed for log in records.read(path).logs.values())
+                >= len(records.read(path).logs) - 1
+            )
 
     run(main())
-    closed = [lines.HEADER + "".join(text for _, text in log.chunks) for log in records.read(place).logs.values() if log.closed]
+    closed = [
+        lines.HEADER + "".join(text for _, text in log.chunks)
+        for log in records.read(place).logs.values()
+        if log.closed
+    ]
     run(again())
     assert [audits[text] for text in closed] == [1] * len(closed)
     kept = records.read(place)
@@ -634,7 +704,13 @@ def test_functions_and_times_change_at_any_start(place: str) -> None:
     def kinds(number: int) -> list[sagas.Saga]:
         first, second = sagas.Saga("first"), sagas.Saga("second")
 
-        @first.step(name="a", tries=2, timeout=60.0 if number else None, backoff=sagas.Backoff(initial=number), concurrency=number or None)
+        @first.step(
+            name="a",
+            tries=2,
+            timeout=60.0 if number else None,
+            backoff=sagas.Backoff(initial=number),
+            concurrency=number or None,
+        )
         async def a(task: Task) -> int:
             tokens.append(task.attempt_id)
             if number == 0:
@@ -700,12 +776,15 @@ def test_a_function_that_is_gone(place: str) -> None:
         await gate.wait()
 
     @new.step
-    async def b(task: Task) -> None: ...
+    async def b(task: Task) -> None:
+        ...
 
     async def first() -> None:
         async with sagas.open(place, [old], shutdown_timeout=0.0) as store:
             await store.start(old, key="k")
-        if place.startswith("postgresql:"):  # another node may have it: this one leaves the saga alone
+        if place.startswith(
+            "postgresql:"
+        ):  # another node may have it: this one leaves the saga alone
             async with sagas.open(place, [new]) as store:
                 assert (await store.list(phase="open"))[0].key == "k"
             return
@@ -773,7 +852,11 @@ def test_a_log_whose_sagas_wait_lets_its_process_go(place: str) -> None:
 def lives(pid: int) -> bool:
     """Whether a process is neither dead nor killed and about to be."""
     try:
-        told = dict(line.split(":\t", 1) for line in pathlib.Path(f"/proc/{pid}/status").read_text().splitlines() if ":\t" in line)
+        told = dict(
+            line.split(":\t", 1)
+            for line in pathlib.Path(f"/proc/{pid}/status").read_text().splitlines()
+            if ":\t" in line
+        )
     except OSError:
         return False
     return told["State"][0] not in "ZX" and not int(told["ShdPnd"], 16) & 1 << 8
@@ -799,12 +882,16 @@ def test_few_children_for_many_logs(place: str, monkeypatch: pytest.MonkeyPatch)
 
     async def first() -> None:
         async with sagas.open(place, [saga], engine_processes=2, shutdown_timeout=0.0) as store:
-            await watched(asyncio.gather(*(store.start(saga, key=f"k{number}") for number in range(60))))
+            await watched(
+                asyncio.gather(*(store.start(saga, key=f"k{number}") for number in range(60)))
+            )
 
     async def second() -> None:
         gate.set()
         async with sagas.open(place, [saga], engine_processes=2) as store:
-            ends = await watched(asyncio.gather(*(store.wait(f"k{number}") for number in range(60))))
+            ends = await watched(
+                asyncio.gather(*(store.wait(f"k{number}") for number in range(60)))
+            )
             assert all(end.ok for end in ends)
 
     run(first())
@@ -829,7 +916,9 @@ def test_one_slot_for_many_logs(place: str, monkeypatch: pytest.MonkeyPatch) -> 
     async def main() -> None:
         async with sagas.open(place, [saga], concurrency=1, engine_processes=2) as store:
             for turn in range(6):
-                ends = await asyncio.gather(*(ended(store, saga, f"k{turn}-{number}") for number in range(30)))
+                ends = await asyncio.gather(
+                    *(ended(store, saga, f"k{turn}-{number}") for number in range(30))
+                )
                 assert all(end.ok for end in ends)
 
     run(main())
@@ -851,7 +940,9 @@ def locked(place: str) -> Iterator[None]:
             yield
 
 
-def test_one_transaction_takes_what_all_logs_have(place: str, monkeypatch: pytest.MonkeyPatch) -> None:
+def test_one_transaction_takes_what_all_logs_have(
+    place: str, monkeypatch: pytest.MonkeyPatch
+) -> None:
     """Steps end in eight logs while a commit is under way: one more holds all of it."""
     monkeypatch.setattr("sagas.definition.shelf.SHARD_CAPACITY", 2)
     gate, far = asyncio.Event(), sagas.Saga("far")
@@ -873,7 +964,9 @@ def test_one_transaction_takes_what_all_logs_have(place: str, monkeypatch: pytes
             await until(lambda: len(calls) == 8)
             assert store._inside
             runners = store._inside.shards.runners.values()
-            await until(lambda: len(runners) == 8 and not any(one.driver.unwritten for one in runners))
+            await until(
+                lambda: len(runners) == 8 and not any(one.driver.unwritten for one in runners)
+            )
             before = store.commits
             with locked(place):
                 gate.set()
@@ -899,7 +992,9 @@ def test_a_file_is_synced_at_each_commit(tmp_path: pathlib.Path) -> None:
 
 
 @pytest.mark.parametrize("at_once", [0.0, 60.0])
-def test_commits_in_the_loop_and_in_the_thread(tmp_path: pathlib.Path, monkeypatch: pytest.MonkeyPatch, at_once: float) -> None:
+def test_commits_in_the_loop_and_in_the_thread(
+    tmp_path: pathlib.Path, monkeypatch: pytest.MonkeyPatch, at_once: float
+) -> None:
     """All commits are made in the thread, or most where they are asked for: the same is kept, and the WAL is moved into the file now and then."""
     monkeypatch.setattr(writer_module, "AT_ONCE", at_once)
     saga, most = row(), 0
@@ -907,7 +1002,12 @@ def test_commits_in_the_loop_and_in_the_thread(tmp_path: pathlib.Path, monkeypat
     async def main() -> None:
         nonlocal most
         async with sagas.open(tmp_path / "store.db", [saga], concurrency=600) as store:
-            ends = await asyncio.gather(*(ended(store, saga, f"k{number}") for number in range(2 * shard.MOST_REPORTS + 100)))
+            ends = await asyncio.gather(
+                *(
+                    ended(store, saga, f"k{number}")
+                    for number in range(2 * shard.MOST_REPORTS + 100)
+                )
+            )
             for number in range(400):
                 ends.append(await ended(store, saga, f"one-{number}"))
                 most = max(most, (tmp_path / "store.db-wal").stat().st_size)
@@ -919,7 +1019,9 @@ def test_commits_in_the_loop_and_in_the_thread(tmp_path: pathlib.Path, monkeypat
 
 
 @pytest.mark.parametrize("wait", [0, 50])
-def test_answers_that_are_waited_for_and_others(place: str, monkeypatch: pytest.MonkeyPatch, wait: int) -> None:
+def test_answers_that_are_waited_for_and_others(
+    place: str, monkeypatch: pytest.MonkeyPatch, wait: int
+) -> None:
     """An answer that is not there in time comes by the loop, and for a while none is waited for."""
     monkeypatch.setattr(process, "WAIT", wait)
     monkeypatch.setattr(process, "AGAIN", 3)
@@ -930,8 +1032,13 @@ def test_answers_that_are_waited_for_and_others(place: str, monkeypatch: pytest.
             for number in range(12):
                 given = "fails" if number % 4 == 3 else None
                 end = await ended(store, saga, f"k{number}", given)
-                assert end.ok == (given is None) and not (await store.start(saga, f"k{number}", given)).new
-            ends = await asyncio.gather(*(ended(store, saga, f"more-{number}") for number in range(40)))
+                assert (
+                    end.ok == (given is None)
+                    and not (await store.start(saga, f"k{number}", given)).new
+                )
+            ends = await asyncio.gather(
+                *(ended(store, saga, f"more-{number}") for number in range(40))
+            )
             assert all(end.ok for end in ends)
             assert all(said.startswith("yes") for said in (await store.audit()).values())
 
@@ -966,7 +1073,11 @@ def test_each_type_is_tried_with_an_input_of_its_own(place: str) -> None:
 
     async def main() -> None:
         async with sagas.open(place, [saga]) as store:
-            assert (await ended(store, saga, given={"data": {"kind": "x"}})).results == {"a": "x", "b": "x", "c": 1}
+            assert (await ended(store, saga, given={"data": {"kind": "x"}})).results == {
+                "a": "x",
+                "b": "x",
+                "c": 1,
+            }
 
     run(main())
 
@@ -995,7 +1106,9 @@ def test_nobody_waits_for_rows_of_an_answer_that_is_late(tmp_path: pathlib.Path)
 
 
 @pytest.mark.parametrize("turn", [0.0, dispatcher.TURN])
-def test_steps_give_the_loop_a_turn(place: str, monkeypatch: pytest.MonkeyPatch, turn: float) -> None:
+def test_steps_give_the_loop_a_turn(
+    place: str, monkeypatch: pytest.MonkeyPatch, turn: float
+) -> None:
     """Whatever is committed and answered at once: what else goes on in the loop has its turn after `TURN`, and is not held up by a saga of many steps."""
     monkeypatch.setattr(dispatcher, "TURN", turn)
     saga, turns, seen = sagas.Saga("long"), 0, []
@@ -1028,11 +1141,17 @@ def test_tasks_of_a_reply() -> None:
     assert lines.tasks_in(f'{{"tasks":[{one}]}}') == told[:1]
     assert lines.tasks_in(f'{{"tasks":[{one},{two}]}}') == told
     assert lines.tasks_in(f'{{"settled":false,"tasks":[{two}]}}') == told[1:]
-    for other in (f'{{"tasks":[{one},{plan}]}}', f'{{"tasks":[{plan}]}}', '{"settled":true,"tasks":[]}'):
+    for other in (
+        f'{{"tasks":[{one},{plan}]}}',
+        f'{{"tasks":[{plan}]}}',
+        '{"settled":true,"tasks":[]}',
+    ):
         assert lines.tasks_in(other) is None
 
 
-def test_a_commit_in_the_loop_waits_for_nobody(tmp_path: pathlib.Path, monkeypatch: pytest.MonkeyPatch) -> None:
+def test_a_commit_in_the_loop_waits_for_nobody(
+    tmp_path: pathlib.Path, monkeypatch: pytest.MonkeyPatch
+) -> None:
     """While another program writes the file, the loop goes on, and the commit is made when that is over."""
     monkeypatch.setattr(writer_module, "AT_ONCE", 60.0)
     saga = simple(lambda task: 1)
@@ -1051,7 +1170,19 @@ def test_a_commit_in_the_loop_waits_for_nobody(tmp_path: pathlib.Path, monkeypat
     run(main())
 
 
-TEXTS = ["'; DROP TABLE sagas; --", '"', "%", "%s %(key)s", "{rows}", "{}", "\\", "?", "$1", ":a", "é💩"]
+TEXTS = [
+    "'; DROP TABLE sagas; --",
+    '"',
+    "%",
+    "%s %(key)s",
+    "{rows}",
+    "{}",
+    "\\",
+    "?",
+    "$1",
+    ":a",
+    "é💩",
+]
 ODD = "\0\ud800'; DROP TABLE sagas; --"
 
 
@@ -1117,7 +1248,9 @@ def test_questions(place: str) -> None:
             assert [one.key for one in listed] == ["g0", "g2", "g3", "g4"]
             (planned,) = await store.list(phase="recovered")
             assert (planned.key, planned.phase) == ("g1", "recovered")
-            assert [one.phase == "recovered" for one in await store.list()] == [False, True] + [False] * 4
+            assert [one.phase == "recovered" for one in await store.list()] == [False, True] + [
+                False
+            ] * 4
             page = await store.list(limit=2)
             assert [one.key for one in await store.list(limit=2, after=page[-1].id)] == ["g2", "g3"]
             wrong: list[Any] = [{"after": "g1"}, {"limit": "all"}, {"limit": 0}, {"phase": "over"}]
@@ -1135,7 +1268,11 @@ def test_questions(place: str) -> None:
             assert await store.stuck() == [] and resolved.note == "seen to"
             events = await store.log("g1")
             words = [event.event for event in events]
-            assert words[:2] == ["open", "start_run"] and words.count("undone") == 2 and "adopt" in words
+            assert (
+                words[:2] == ["open", "start_run"]
+                and words.count("undone") == 2
+                and "adopt" in words
+            )
             assert [event.value for event in events if event.event == "commit"] == ["A", "AB"]
             assert all(0 <= time.time() - event.at < 60 for event in events)
             assert list((await store.audit()).values())[0].startswith("yes sagas 6 ended 5 stuck 1")
@@ -1161,10 +1298,23 @@ def test_events_and_logging(place: str, caplog: pytest.LogCaptureFixture) -> Non
     with caplog.at_level(logging.INFO, "sagas"):
         run(main())
     names = Counter(event.name for event in told)
-    assert names["saga_started"] == names["saga_ended"] == names["plan_adopted"] == names["step_failed"] == 1
+    assert (
+        names["saga_started"]
+        == names["saga_ended"]
+        == names["plan_adopted"]
+        == names["step_failed"]
+        == 1
+    )
     assert names["step_started"] == 5 and names["step_succeeded"] == 4
-    assert all((event.seconds is not None) == (event.name in ("step_succeeded", "step_failed")) for event in told)
-    kept = [record for record in caplog.records if record.name == "sagas" and getattr(record, "sagas", {}).get("name") == "step_failed"]
+    assert all(
+        (event.seconds is not None) == (event.name in ("step_succeeded", "step_failed"))
+        for event in told
+    )
+    kept = [
+        record
+        for record in caplog.records
+        if record.name == "sagas" and getattr(record, "sagas", {}).get("name") == "step_failed"
+    ]
     assert kept and getattr(kept[0], "sagas")["key"] == "k"
 
 
@@ -1183,7 +1333,8 @@ def test_a_final_failure_is_told_once(place: str, how: str) -> None:
     else:
 
         @saga.approval(timeout=datetime.timedelta(seconds=0.01) if how == "late" else None)
-        def sign(task: Task) -> None: ...
+        def sign(task: Task) -> None:
+            ...
 
     def hook(event: sagas.Event) -> None:
         if event.name in ("step_retrying", "step_failed", "step_succeeded"):
@@ -1199,7 +1350,16 @@ def test_a_final_failure_is_told_once(place: str, how: str) -> None:
             assert (await run.wait()).states == {"sign": "failed"}
 
     run(main())
-    assert told == [("step_failed", {"refused": "too dear", "late": "nobody approved it in time", "for good": "sagas.Fail: too dear"}[how])]
+    assert told == [
+        (
+            "step_failed",
+            {
+                "refused": "too dear",
+                "late": "nobody approved it in time",
+                "for good": "sagas.Fail: too dear",
+            }[how],
+        )
+    ]
 
 
 def test_a_log_line_is_one_line(place: str, caplog: pytest.LogCaptureFixture) -> None:
@@ -1219,7 +1379,8 @@ def test_a_log_line_is_one_line(place: str, caplog: pytest.LogCaptureFixture) ->
         run(main())
     detail = r'"ValueError: a \"b\"\nc\u0085=ü"'
     assert [record.getMessage() for record in caplog.records if record.name == "sagas"] == [
-        f"step_failed key={key} saga=simple step=a attempt=1 detail={detail}" for key in ('"order/2026 ü"', "order-1")
+        f"step_failed key={key} saga=simple step=a attempt=1 detail={detail}"
+        for key in ('"order/2026 ü"', "order-1")
     ]
 
 
@@ -1230,13 +1391,18 @@ def test_without_async(place: str) -> None:
         assert store.start(saga, key="good").wait(30).ok and not store.start(saga, key="good").new
         assert store.start(saga, key="bad", input="fails").wait(30).states["a"] == "undone"
         ends: list[sagas.SagaResult] = []
-        threads = [threading.Thread(target=lambda: ends.append(store.start(saga, key="one").wait(30))) for _ in range(4)]
+        threads = [
+            threading.Thread(target=lambda: ends.append(store.start(saga, key="one").wait(30)))
+            for _ in range(4)
+        ]
         for thread in threads:
             thread.start()
         for thread in threads:
             thread.join()
         assert len(ends) == 4 and len({end.key for end in ends}) == 1
-        assert [one.key for one in store.list()] == ["good", "bad", "one"] and store.get("none") is None
+        assert [one.key for one in store.list()] == ["good", "bad", "one"] and store.get(
+            "none"
+        ) is None
         assert all(said.startswith("yes") for said in store.audit().values())
     with pytest.raises(sagas.Closed):
         store.start(saga, key="late")
@@ -1251,13 +1417,17 @@ def test_who_waits_too_long(place: str) -> None:
         gate.wait(60)
 
     @saga.approval(needs=[send])
-    def sign(task: Task) -> None: ...
+    def sign(task: Task) -> None:
+        ...
 
     with sagas.open_sync(place, [saga]) as store:
         run = store.start(saga, "k")
         hears(lambda: run.wait(0.01), "'k' is still open after 0.01 s: send runs")
         gate.set()
-        hears(lambda: store.wait("k", timeout=0.01), "'k' is still open after 0.01 s: sign waits for an approval")
+        hears(
+            lambda: store.wait("k", timeout=0.01),
+            "'k' is still open after 0.01 s: sign waits for an approval",
+        )
         with pytest.raises(TimeoutError, match="still open after 0.01 s"):
             store.wait_idle(0.01)
         run.complete(sign)
@@ -1282,7 +1452,12 @@ def test_another_loop(tmp_path: pathlib.Path) -> None:
 
     async def main() -> None:
         async with sagas.open(tmp_path / "store.db", [saga]) as store:
-            calls: list[Any] = [store.start(saga, "k"), store.wait("k"), store.abort("k"), store.complete("k", "a")]
+            calls: list[Any] = [
+                store.start(saga, "k"),
+                store.wait("k"),
+                store.abort("k"),
+                store.complete("k", "a"),
+            ]
             for call in calls:
                 with pytest.raises(RuntimeError, match="sagas.open_sync"):
                     await asyncio.to_thread(asyncio.run, call)
@@ -1293,7 +1468,9 @@ def test_another_loop(tmp_path: pathlib.Path) -> None:
 
 def test_a_step_calls_a_store_without_async(tmp_path: pathlib.Path) -> None:
     """A plain function may, since it runs in a thread; an async one would hold up the loop that it waits for, and hears so."""
-    saga, other = simple(lambda task: store.start(inner, "inner").wait(60).results["a"]), sagas.Saga("other")
+    saga, other = simple(
+        lambda task: store.start(inner, "inner").wait(60).results["a"]
+    ), sagas.Saga("other")
     inner = sagas.Saga("inner")
     inner.step(name="a")(lambda task: 1)
 
@@ -1303,8 +1480,9 @@ def test_a_step_calls_a_store_without_async(tmp_path: pathlib.Path) -> None:
 
     with sagas.open_sync(tmp_path / "store.db", [saga, inner, other]) as store:
         assert store.start(saga, "outer").wait(60).results == {"a": 1}
-        assert "Make the function a plain def" in (store.start(other, "k").wait(60).errors["a"] or "")
-
+        assert "Make the function a plain def" in (
+            store.start(other, "k").wait(60).errors["a"] or ""
+        )
 
 
 def held(place: str) -> list[tuple[Any, ...]]:

@@ -59,14 +59,16 @@ def late(approves: bool = True) -> sagas.Saga:
         return 7
 
     @order.compensation(on_exhausted="fail")
-    def cancel(task: sagas.Task[Any]) -> None: ...
+    def cancel(task: sagas.Task[Any]) -> None:
+        ...
 
     @late.wait(needs=[order], until=3 * DAY)
     def wait(task: sagas.Task[Any]) -> str:
         return "waited"
 
     @late.approval(needs=[wait], timeout=2 * DAY if approves else None, name="manager")
-    def ask(task: sagas.Task[Any]) -> None: ...
+    def ask(task: sagas.Task[Any]) -> None:
+        ...
 
     @late.step(needs=["manager"])
     def go(task: sagas.Task[Any]) -> Any:
@@ -79,8 +81,18 @@ def test_all_goes_well() -> None:
     """Each step is called once, with the results of what it needs."""
     trial = run(trip(), "LH400")
     assert trial.phase == "completed" and set(trial.states.values()) == {"committed"}
-    assert trial.results == {"flight": "flight LH400", "car": "car for flight LH400", "hotel": 1, "tour": "tour"}
-    assert (trial.cost, trial.blocking_steps, trial.aborted, trial.seconds) == (None, [], False, 0.0)
+    assert trial.results == {
+        "flight": "flight LH400",
+        "car": "car for flight LH400",
+        "hotel": 1,
+        "tour": "tour",
+    }
+    assert (trial.cost, trial.blocking_steps, trial.aborted, trial.seconds) == (
+        None,
+        [],
+        False,
+        0.0,
+    )
     assert len(trial.calls) == 4 and not trial.undone
 
 
@@ -90,8 +102,12 @@ def test_fails_by_number() -> None:
     trial = run(trip(), "LH400", fail={"hotel": 2})
     assert time.perf_counter() - began < 2
     assert trial.results["hotel"] == 3
-    assert [(call.attempt, call.outcome, call.at) for call in trial.calls if call.step == "hotel"] == [
-        (1, "failed", 0.0), (2, "failed", 60.0), (3, "succeeded", 150.0),
+    assert [
+        (call.attempt, call.outcome, call.at) for call in trial.calls if call.step == "hotel"
+    ] == [
+        (1, "failed", 0.0),
+        (2, "failed", 60.0),
+        (3, "succeeded", 150.0),
     ]
 
 
@@ -100,7 +116,12 @@ def test_fails_for_good() -> None:
     ways: tuple[sagas.testing.Attempts, ...] = (3, sagas.Fail("full"))
     for fail in ways:
         trial = run(trip(), "LH400", fail={"hotel": fail})
-        assert trial.states == {"flight": "committed", "car": "committed", "hotel": "failed", "tour": "waiting"}
+        assert trial.states == {
+            "flight": "committed",
+            "car": "committed",
+            "hotel": "failed",
+            "tour": "waiting",
+        }
         assert trial.cost == 38 and set(trial.results) == {"flight", "car"}
     assert len([call for call in trial.calls if call.step == "hotel"]) == 1
 
@@ -123,7 +144,10 @@ def test_unknown_for_ever_waits_for_a_person() -> None:
     """After three of them somebody has to say."""
     with pytest.raises(LookupError, match="car"):
         run(trip(), "LH400", unknown={"car": 99})
-    assert run(trip(), "LH400", unknown={"car": 99}, answers={"car": "it was hired"}).results["car"] == "it was hired"
+    assert (
+        run(trip(), "LH400", unknown={"car": 99}, answers={"car": "it was hired"}).results["car"]
+        == "it was hired"
+    )
 
 
 def test_abort_undoes_what_costs_less_undone() -> None:
@@ -150,14 +174,20 @@ def test_three_days_take_no_time() -> None:
 def test_nobody_approves_in_time() -> None:
     """After two more days it has failed, and what can be undone is."""
     trial = run(late())
-    assert trial.states["manager"] == "failed" and trial.states["order"] == "undone" and trial.seconds == 5 * 86400
+    assert (
+        trial.states["manager"] == "failed"
+        and trial.states["order"] == "undone"
+        and trial.seconds == 5 * 86400
+    )
 
 
 def test_somebody_has_to_be_asked() -> None:
     """Without a time an approval needs an answer, by a value, a function or an exception."""
     with pytest.raises(LookupError, match="manager"):
         run(late(approves=False))
-    assert run(late(), answers={"manager": lambda task: task.results["order"] + 1}).results["go"] == 8
+    assert (
+        run(late(), answers={"manager": lambda task: task.results["order"] + 1}).results["go"] == 8
+    )
     assert run(late(), answers={"manager": sagas.Fail("no")}).states["manager"] == "failed"
 
 
@@ -166,7 +196,8 @@ def test_stuck() -> None:
     must = sagas.Saga("must")
 
     @must.step(skip=sagas.NEVER)
-    def licence(task: sagas.Task[Any]) -> None: ...
+    def licence(task: sagas.Task[Any]) -> None:
+        ...
 
     trial = run(must, fail={licence: 1})
     assert trial.phase == "stuck" and trial.blocking_steps == ["licence"]
@@ -185,8 +216,12 @@ def test_a_trial_is_printed_as_an_end() -> None:
     """A line, and one for each step; `of` takes names, too."""
     trial = run(trip(), "LH400", key="order-1", fail={"hotel": sagas.Fail("full")})
     assert str(trial).splitlines() == [
-        "trip order-1: recovered, plan of cost 38", "  committed flight", "  committed car", "  failed    hotel: sagas.Fail: full", "  not run   tour",
-    ]  # fmt: skip
+        "trip order-1: recovered, plan of cost 38",
+        "  committed flight",
+        "  committed car",
+        "  failed    hotel: sagas.Fail: full",
+        "  not run   tour",
+    ]
     assert trial.result_of("car") == "car for flight LH400"
     with pytest.raises(KeyError, match="step 'hotel' is not committed: it is failed"):
         trial.result_of("hotel")
@@ -207,9 +242,17 @@ FORMS = r"must be a number of attempts \(1\), a list of attempts"
         ({"fail": {"hotel": True}}, TypeError, FORMS),
         ({"fail": {"hotel": [0]}}, ValueError, "numbered from 1"),
         ({"fail": {"hotel": -1}}, ValueError, "numbered from 1"),
-        ({"fail": ["hotel"]}, TypeError, rf"fail=\['hotel'\]: must be a dict of attempts by step: fail="),
+        (
+            {"fail": ["hotel"]},
+            TypeError,
+            rf"fail=\['hotel'\]: must be a dict of attempts by step: fail=",
+        ),
         ({"unknown": "hotel"}, TypeError, "unknown='hotel': must be a dict"),
-        ({"fail_undo": {"flight": 1}}, ValueError, "fail_undo: step 'flight' has no compensation, so it is never undone. Declare one with @flight.compensation"),
+        (
+            {"fail_undo": {"flight": 1}},
+            ValueError,
+            "fail_undo: step 'flight' has no compensation, so it is never undone. Declare one with @flight.compensation",
+        ),
         ({"answers": ["hotel"]}, TypeError, "must be a dict of answers by step"),
         ({"abort": "boat"}, KeyError, "no step 'boat'"),
     ],
@@ -227,7 +270,9 @@ def test_all_attempts_by_a_number() -> None:
 
 def test_what_fails_to_be_undone_by_doing_nothing() -> None:
     """Nothing cannot fail; and what is no saga is told as that."""
-    with pytest.raises(ValueError, match="unknown_undo: step 'wait' .* undoing it does nothing, which cannot fail"):
+    with pytest.raises(
+        ValueError, match="unknown_undo: step 'wait' .* undoing it does nothing, which cannot fail"
+    ):
         run(late(), unknown_undo={"wait": 1})
     with pytest.raises(sagas.DefinitionError, match="expected a sagas.Saga, got 'trip'"):
         run("trip")  # type: ignore[arg-type]
@@ -242,7 +287,10 @@ def one(function: Any, **words: Any) -> sagas.Saga:
 
 def test_a_result_that_is_no_json() -> None:
     """It raises, as an answer does: a store keeps the effect and loses the result. What a compensation returns counts for nothing."""
-    with pytest.raises(sagas.ResultNotSerializable, match="step 'a' returned a value that is not JSON: object is not JSON"):
+    with pytest.raises(
+        sagas.ResultNotSerializable,
+        match="step 'a' returned a value that is not JSON: object is not JSON",
+    ):
         run(one(lambda task: object()))
     with pytest.raises(sagas.NotSerializable, match=r"answers\['manager'\]: object is not JSON"):
         run(late(approves=False), answers={"manager": object()})
@@ -262,9 +310,11 @@ class Half:
 def test_an_input_that_does_not_fit() -> None:
     """As a store refuses it; what cannot be told of it is left to the step."""
 
-    def reads(task: sagas.Task[dict[int, datetime.date]]) -> None: ...
+    def reads(task: sagas.Task[dict[int, datetime.date]]) -> None:
+        ...
 
-    def half(task: sagas.Task[Half]) -> None: ...
+    def half(task: sagas.Task[Half]) -> None:
+        ...
 
     with pytest.raises(sagas.InvalidInput, match=r"saga 'one', step 'a': input\[.1.\]"):
         run(one(reads), {"1": "no day"})

@@ -37,7 +37,10 @@ def attempts(client: httpx.Client, key: str) -> list[dict[str, Any]]:
     found: list[dict[str, Any]] = client.get(f"/v1/sagas/{key}/timeline").json()["attempts"]
     for one in found:
         spans = one["spans"]
-        assert one["ready"] <= one["began"] and spans[0]["began"] in (one["ready"], one["began"]), one
+        assert one["ready"] <= one["began"] and spans[0]["began"] in (
+            one["ready"],
+            one["began"],
+        ), one
         assert all(first["ended"] == then["began"] for first, then in zip(spans, spans[1:])), one
         assert spans[-1]["ended"] == one["ended"], one
     return found
@@ -52,23 +55,46 @@ def test_workers_people_and_pauses(client: httpx.Client) -> None:
     """A worker's lease that ends, the next worker, a retry, an unknown outcome, and who reported it and why."""
     start(client, "trip", "t")
     words = {"steps": ["trip/flight"], "wait": 30, "limit": 1}
-    first = client.post("/v1/tasks/claim", json={**words, "lease": 600, "worker": "first"}).json()["tasks"][0]
+    first = client.post("/v1/tasks/claim", json={**words, "lease": 600, "worker": "first"}).json()[
+        "tasks"
+    ][0]
     (now,) = attempts(client, "t")
     assert now["outcome"] is None and told(now) == [("waiting", "worker"), ("running", "worker")]
     assert (now["spans"][-1]["worker"], now["spans"][-1]["ended"]) == ("local/first", None)
     beat = {"lease": first["lease"], "seconds": 1}
     assert client.post(f"/v1/tasks/{first['attempt_id']}/heartbeat", json=beat).status_code == 200
-    second = client.post("/v1/tasks/claim", json={**words, "lease": 60, "worker": "second"}).json()["tasks"][0]
+    second = client.post("/v1/tasks/claim", json={**words, "lease": 60, "worker": "second"}).json()[
+        "tasks"
+    ][0]
     assert second["attempt_id"] == first["attempt_id"]
     assert report(client, second, result=1).status_code == 200
     (flight, *_) = attempts(client, "t")
-    assert told(flight) == [("waiting", "worker"), ("running", "worker"), ("waiting", "worker"), ("running", "worker")]
+    assert told(flight) == [
+        ("waiting", "worker"),
+        ("running", "worker"),
+        ("waiting", "worker"),
+        ("running", "worker"),
+    ]
     had = [span for span in flight["spans"] if span["state"] == "running"]
-    assert [span["worker"] for span in had] == ["local/first", "local/second"] and had[0]["lease"] < had[1]["lease"]
-    assert (flight["outcome"], flight["unknown_outcomes"], flight["decision"]) == ("succeeded", 0, None)
+    assert [span["worker"] for span in had] == ["local/first", "local/second"] and had[0][
+        "lease"
+    ] < had[1]["lease"]
+    assert (flight["outcome"], flight["unknown_outcomes"], flight["decision"]) == (
+        "succeeded",
+        0,
+        None,
+    )
     assert report(client, take(client, "trip/car")[0]).status_code == 200
-    assert report(client, take(client, "trip/tour")[0], "fail", error="closed today").status_code == 200
-    assert report(client, take(client, "trip/tour")[0], "unknown", error="the line went dead").status_code == 200
+    assert (
+        report(client, take(client, "trip/tour")[0], "fail", error="closed today").status_code
+        == 200
+    )
+    assert (
+        report(
+            client, take(client, "trip/tour")[0], "unknown", error="the line went dead"
+        ).status_code
+        == 200
+    )
     deadline = time.monotonic() + LONG
     while not client.get("/v1/attention?search=t&kind=unknown").json()["entries"]:
         assert time.monotonic() < deadline
@@ -91,11 +117,19 @@ def test_an_approval_waits(client: httpx.Client) -> None:
     deadline = time.monotonic() + LONG
     while told(attempts(client, "o")[0])[-1:] != [("waiting", "approval")]:
         assert time.monotonic() < deadline
-    assert client.post("/v1/sagas/o/steps/review/complete", json={"result": None, "note": "fine"}).status_code == 200
+    assert (
+        client.post(
+            "/v1/sagas/o/steps/review/complete", json={"result": None, "note": "fine"}
+        ).status_code
+        == 200
+    )
     report(client, take(client, "order/send")[0])
     review, send = attempts(client, "o")
     assert (review["decision"]["note"], review["spans"][-1]["why"]) == ("fine", "approval")
-    assert send["ready"] == review["ended"] and review["ready"] >= client.get("/v1/sagas/o").json()["started"]
+    assert (
+        send["ready"] == review["ended"]
+        and review["ready"] >= client.get("/v1/sagas/o").json()["started"]
+    )
     assert client.get("/v1/sagas/none/timeline").status_code == 404
 
 
@@ -138,13 +172,21 @@ def test_functions(place: str) -> None:
 
     asyncio.run(first())
     found = {(one.step, one.attempt): one for one in asyncio.run(then())}
-    spans = {at: [(span.state, span.why) for span in one.spans if span.state != "queued"] for at, one in found.items()}
+    spans = {
+        at: [(span.state, span.why) for span in one.spans if span.state != "queued"]
+        for at, one in found.items()
+    }
     assert spans == {
-        ("plain", 1): [("running", None)], ("again", 1): [("running", None)], ("again", 2): [("backoff", None), ("running", None)],
+        ("plain", 1): [("running", None)],
+        ("again", 1): [("running", None)],
+        ("again", 2): [("backoff", None), ("running", None)],
         ("last", 1): [("running", None), ("running", None)],
-    }  # fmt: skip
+    }
     assert found["last", 1].spans[-1].detail == timeline.AGAIN
-    assert found["again", 1].error == "RuntimeError: not yet" and found["again", 2].seconds(0.0)["backoff"] > 0.03
+    assert (
+        found["again", 1].error == "RuntimeError: not yet"
+        and found["again", 2].seconds(0.0)["backoff"] > 0.03
+    )
 
 
 def test_a_call_behind_the_last_attempt(place: str) -> None:
@@ -175,6 +217,8 @@ def test_a_call_behind_the_last_attempt(place: str) -> None:
         reader.close()
         assert view
         found = timeline.of(view, store.now())
-        return [(span.state, span.why) for one in found for span in one.spans if span.state != "queued"]
+        return [
+            (span.state, span.why) for one in found for span in one.spans if span.state != "queued"
+        ]
 
     asyncio.run(main())

@@ -254,8 +254,13 @@ def test_each_attempt_has_a_span(place: str, api: Any) -> None:
         "sagas.attempt_id"
     )
     assert told == {
-        "sagas.saga": "trip", "sagas.key": "k", "sagas.step": "flight", "sagas.action": "run", "sagas.attempt": 1, "sagas.outcome": "succeeded",
-    }  # fmt: skip
+        "sagas.saga": "trip",
+        "sagas.key": "k",
+        "sagas.step": "flight",
+        "sagas.action": "run",
+        "sagas.attempt": 1,
+        "sagas.outcome": "succeeded",
+    }
     assert (flight.status.status_code, flight.errors, flight.links) == (
         api.StatusCode.UNSET,
         [],

@@ -79,7 +79,9 @@ def prepare(url: str) -> None:
 def booked(url: str) -> Counter[tuple[str, str]]:
     """The rows of it."""
     with psycopg.connect(url) as link:
-        return Counter((key, step) for key, step in link.execute("SELECT key, step FROM book").fetchall())
+        return Counter(
+            (key, step) for key, step in link.execute("SELECT key, step FROM book").fetchall()
+        )
 
 
 @pytest.mark.parametrize("in_thread", [False, True])
@@ -90,38 +92,69 @@ def test_effect_and_result_are_one(url: str, in_thread: bool) -> None:
 
     async def main() -> None:
         async with sagas.open(url, [kind]) as store:
-            assert (await ended(store, kind, "good")).results == {"book": "booked", "check": "booked"}
+            assert (await ended(store, kind, "good")).results == {
+                "book": "booked",
+                "check": "booked",
+            }
             assert (await ended(store, kind, "again", "once")).ok
-            assert (await ended(store, kind, "bad", "fails")).states == {"book": "undone", "check": "failed"}
+            assert (await ended(store, kind, "bad", "fails")).states == {
+                "book": "undone",
+                "check": "failed",
+            }
             assert all(said.startswith("yes") for said in (await store.audit()).values())
 
     run(main())
-    assert booked(url) == {("good", "book"): 1, ("again", "book"): 1, ("bad", "book"): 1, ("bad", "unbook"): 1}
-    assert {result.outcome for result in records.read(url).results.values()} == {"commit", "missed", "fail", "undone"}
+    assert booked(url) == {
+        ("good", "book"): 1,
+        ("again", "book"): 1,
+        ("bad", "book"): 1,
+        ("bad", "unbook"): 1,
+    }
+    assert {result.outcome for result in records.read(url).results.values()} == {
+        "commit",
+        "missed",
+        "fail",
+        "undone",
+    }
 
 
 @pytest.mark.parametrize("in_thread", [False, True])
-def test_exactly_once_while_connections_are_cut(postgresql: Server, url: str, in_thread: bool) -> None:
+def test_exactly_once_while_connections_are_cut(
+    postgresql: Server, url: str, in_thread: bool
+) -> None:
     """Statements are cut on their way, answers on their way back, commits' answers too: each effect is there once."""
     prepare(url)
     kind = bank(in_thread)
 
     async def main() -> None:
         with relaying(postgresql.port, 7) as relay:
-            async with sagas.open(postgresql.url(url.rpartition("/")[2], port=relay.port), [kind], lease=30) as store:
+            async with sagas.open(
+                postgresql.url(url.rpartition("/")[2], port=relay.port), [kind], lease=30
+            ) as store:
                 relay.before = relay.after = 0.02
-                ends = await asyncio.gather(*(surely_ended(store, kind, f"k{number}", "fails" if number % 3 == 0 else None) for number in range(40)))
+                ends = await asyncio.gather(
+                    *(
+                        surely_ended(
+                            store, kind, f"k{number}", "fails" if number % 3 == 0 else None
+                        )
+                        for number in range(40)
+                    )
+                )
                 relay.before = relay.after = 0.0
                 assert all(end.phase in ("completed", "recovered") for end in ends)
             assert relay.cuts["after"] > 0 and relay.cuts["before"] > 0
 
     run(main())
-    wanted = Counter({(f"k{number}", "book"): 1 for number in range(40)}) + Counter({(f"k{number}", "unbook"): 1 for number in range(0, 40, 3)})
+    wanted = Counter({(f"k{number}", "book"): 1 for number in range(40)}) + Counter(
+        {(f"k{number}", "unbook"): 1 for number in range(0, 40, 3)}
+    )
     assert booked(url) == wanted
 
 
 @pytest.mark.parametrize("way", ["alone", "among others", "in a thread"])
-def test_texts_of_steps_inside_are_no_statements(url: str, caplog: pytest.LogCaptureFixture, way: str) -> None:
+def test_texts_of_steps_inside_are_no_statements(
+    url: str, caplog: pytest.LogCaptureFixture, way: str
+) -> None:
     """Keys, inputs, results, what is raised and the node's name, with whatever a database could take for something else: all come back whole."""
     caplog.set_level(logging.CRITICAL, "sagas")  # the tests' runner takes no halves of pairs
     prepare(url)
@@ -149,8 +182,12 @@ def test_texts_of_steps_inside_are_no_statements(url: str, caplog: pytest.LogCap
 
             async def each(text: str) -> None:
                 assert (await ended(store, good, text, text)).results == {"a": text}
-                assert (await ended(store, good, f"odd {text}", {text: ODD})).results == {"a": {text: ODD}}
-                assert (await ended(store, bad, f"bad {text}", ODD + text)).errors == {"a": f"sagas.Fail: {ODD}{text}"}
+                assert (await ended(store, good, f"odd {text}", {text: ODD})).results == {
+                    "a": {text: ODD}
+                }
+                assert (await ended(store, bad, f"bad {text}", ODD + text)).errors == {
+                    "a": f"sagas.Fail: {ODD}{text}"
+                }
 
             if way == "among others":
                 await asyncio.gather(*map(each, TEXTS))
@@ -174,7 +211,9 @@ def test_a_step_of_a_lost_log_is_rolled_back(url: str) -> None:
 
         @kind.step(transaction=True)
         async def book(task: Task) -> int:
-            await task.connection.execute("INSERT INTO book(key, step, token) VALUES(%s, 'book', %s)", (task.key, str(number)))
+            await task.connection.execute(
+                "INSERT INTO book(key, step, token) VALUES(%s, 'book', %s)", (task.key, str(number))
+            )
             inside.append(number)
             await gates[number].wait()
             return number
@@ -186,13 +225,19 @@ def test_a_step_of_a_lost_log_is_rolled_back(url: str) -> None:
         async with sagas.open(url, [kinds[0]], node="same", lease=600) as first:
             await first.start(kinds[0], "k")
             await until(lambda: inside == [0])
-            async with sagas.open(url, [kinds[1]], node="same", lease=600, shutdown_timeout=0.0) as second:
+            async with sagas.open(
+                url, [kinds[1]], node="same", lease=600, shutdown_timeout=0.0
+            ) as second:
                 await until(lambda: inside == [0, 1])
                 gates[0].set()
                 await until(lambda: first._inside and not first._inside.shards.runners)
                 assert booked(url) == {} and not records.read(url).results
                 gates[1].set()
-                assert (await first.wait("k")).results == {"book": 1} == (await second.wait("k")).results
+                assert (
+                    (await first.wait("k")).results
+                    == {"book": 1}
+                    == (await second.wait("k")).results
+                )
                 assert all(said.startswith("yes") for said in (await second.audit()).values())
 
     run(main())
@@ -219,8 +264,15 @@ def test_nobody_takes_a_log_while_a_step_of_it_is_committed(url: str, in_thread:
                 eye.execute("INSERT INTO orders VALUES ('k')")
                 stranger.execute("SELECT 1 FROM orders FOR UPDATE")
                 going = await store.start(kind, "k")
-                await until(lambda: eye.execute("SELECT 1 FROM pg_stat_activity WHERE datname = current_database() AND wait_event_type = 'Lock'").fetchall())
-                assert eye.execute("SELECT 1 FROM sagas.shards FOR UPDATE SKIP LOCKED").fetchall() == []
+                await until(
+                    lambda: eye.execute(
+                        "SELECT 1 FROM pg_stat_activity WHERE datname = current_database() AND wait_event_type = 'Lock'"
+                    ).fetchall()
+                )
+                assert (
+                    eye.execute("SELECT 1 FROM sagas.shards FOR UPDATE SKIP LOCKED").fetchall()
+                    == []
+                )
             assert (await going.wait()).ok
 
     run(main())
@@ -233,7 +285,9 @@ def test_a_forgotten_await_in_a_transaction(url: str, in_thread: bool) -> None:
     kind = sagas.Saga("one")
 
     async def book(task: Task) -> str:
-        await task.connection.execute("INSERT INTO book(key, step, token) VALUES(%s, 'book', '')", (task.key,))
+        await task.connection.execute(
+            "INSERT INTO book(key, step, token) VALUES(%s, 'book', '')", (task.key,)
+        )
         return "booked"
 
     async def charge(task: Task) -> Any:
@@ -247,7 +301,11 @@ def test_a_forgotten_await_in_a_transaction(url: str, in_thread: bool) -> None:
 
     end = run(main())
     if in_thread:
-        assert end.states == {"charge": "failed"} and "Declare it with async def" in end.errors["charge"] and booked(url) == {}
+        assert (
+            end.states == {"charge": "failed"}
+            and "Declare it with async def" in end.errors["charge"]
+            and booked(url) == {}
+        )
     else:
         assert end.results == {"charge": "booked"} and booked(url) == {("k", "book"): 1}
 
@@ -273,9 +331,16 @@ def test_a_kill_between_the_transaction_and_its_report(url: str, tmp_path: pathl
     prepare(url)
     script = tmp_path / "killed.py"
     script.write_text(textwrap.dedent(KILLED.format(url=url)))
-    environment = os.environ | {"PYTHONPATH": str(pathlib.Path(__file__).resolve().parents[1] / "src"), "SAGAS_PROGRAM": program()}
-    assert subprocess.run([sys.executable, str(script)], env=environment, check=False).returncode == 9
-    assert [row.outcome for row in records.read(url).results.values()] == ["ok"] and booked(url) == {("k", "book"): 1}
+    environment = os.environ | {
+        "PYTHONPATH": str(pathlib.Path(__file__).resolve().parents[1] / "src"),
+        "SAGAS_PROGRAM": program(),
+    }
+    assert (
+        subprocess.run([sys.executable, str(script)], env=environment, check=False).returncode == 9
+    )
+    assert [row.outcome for row in records.read(url).results.values()] == ["ok"] and booked(
+        url
+    ) == {("k", "book"): 1}
     calls: list[str] = []
     kind = sagas.Saga("one")
 
@@ -332,6 +397,7 @@ def test_what_the_server_refuses_is_a_miss(url: str, in_thread: bool) -> None:
             if task.attempt == 3:
                 with contextlib.suppress(psycopg.Error):
                     task.connection.execute("SELECT 1 / 0")
+
     else:
 
         @shop.step(name="item", transaction=True, tries=4, backoff=QUICK)
@@ -345,12 +411,21 @@ def test_what_the_server_refuses_is_a_miss(url: str, in_thread: bool) -> None:
 
     async def main() -> None:
         said: list[str] = []
-        async with sagas.open(url, [shop], on_event=lambda event: said.append(event.detail or "") if event.name == "step_retrying" else None) as store:
+        async with sagas.open(
+            url,
+            [shop],
+            on_event=lambda event: said.append(event.detail or "")
+            if event.name == "step_retrying"
+            else None,
+        ) as store:
             with psycopg.connect(url) as link:
                 link.execute("INSERT INTO orders VALUES ('k')")
             run = await store.start(shop, "k", "k")
             assert (await asyncio.wait_for(run.wait(), 60)).ok
-        assert [next(word for word in ("ForeignKey", "commit()", "InFailedSql") if word in one) for one in said] == ["ForeignKey", "commit()", "InFailedSql"]
+        assert [
+            next(word for word in ("ForeignKey", "commit()", "InFailedSql") if word in one)
+            for one in said
+        ] == ["ForeignKey", "commit()", "InFailedSql"]
 
     run(main())
     with psycopg.connect(url) as link:
@@ -374,6 +449,7 @@ def test_the_function_cannot_end_its_transaction(url: str, in_thread: bool) -> N
                 task.connection.execute(text, (task.key,))
             if task.attempt == 1:
                 raise ValueError("behind its block")
+
     else:
 
         @kind.step(name="book", transaction=True, tries=3, backoff=QUICK)
@@ -391,7 +467,10 @@ def test_the_function_cannot_end_its_transaction(url: str, in_thread: bool) -> N
 
     run(main())
     assert booked(url) == {("k", "book"): 1}
-    assert Counter(result.outcome for result in records.read(url).results.values()) == {"missed": 2, "commit": 1}
+    assert Counter(result.outcome for result in records.read(url).results.values()) == {
+        "missed": 2,
+        "commit": 1,
+    }
 
 
 @pytest.mark.parametrize("in_thread", [False, True])
@@ -399,7 +478,10 @@ def test_a_transaction_that_is_over_before_its_step(url: str, in_thread: bool) -
     """By a statement of the function's, by the connection's end, or by the server's: nothing is kept of it, that is counted, and other sagas go on."""
     prepare(url)
     kind, other, calls = sagas.Saga("one"), simple(lambda task: 1), Counter[int]()
-    text, rests = "INSERT INTO book(key, step, token) VALUES(%s, 'book', '')", "SET LOCAL idle_in_transaction_session_timeout = 50"
+    text, rests = (
+        "INSERT INTO book(key, step, token) VALUES(%s, 'book', '')",
+        "SET LOCAL idle_in_transaction_session_timeout = 50",
+    )
 
     if in_thread:
 
@@ -417,6 +499,7 @@ def test_a_transaction_that_is_over_before_its_step(url: str, in_thread: bool) -
                 time.sleep(0.5)
             if calls[3] == 2:
                 link.pgconn.finish()
+
     else:
 
         @kind.step(name="book", transaction=True, tries=3, backoff=QUICK)
@@ -437,7 +520,9 @@ def test_a_transaction_that_is_over_before_its_step(url: str, in_thread: bool) -
     said: list[tuple[str, str]] = []
 
     async def main() -> None:
-        async with sagas.open(url, [kind, other], on_event=lambda event: said.append((event.name, event.detail or ""))) as store:
+        async with sagas.open(
+            url, [kind, other], on_event=lambda event: said.append((event.name, event.detail or ""))
+        ) as store:
             going = await store.start(kind, "k")
             for number in range(5):
                 assert (await ended(store, other, f"k{number}")).ok
@@ -445,10 +530,30 @@ def test_a_transaction_that_is_over_before_its_step(url: str, in_thread: bool) -
 
     run(main())
     assert calls == {1: 1, 2: 1, 3: 3} and booked(url) == {("k", "book"): 1}
-    told = [detail for name, detail in said if name in ("step_retrying", "step_unknown", "commit_failed")]
-    assert [next(word for word in ("no statement of the function", "close()", "server closed", "it is closed", "?") if word in f"{one}?") for one in told] == [
-        "no statement of the function", "close()", "server closed", "it is closed",
-    ]  # fmt: skip
+    told = [
+        detail
+        for name, detail in said
+        if name in ("step_retrying", "step_unknown", "commit_failed")
+    ]
+    assert [
+        next(
+            word
+            for word in (
+                "no statement of the function",
+                "close()",
+                "server closed",
+                "it is closed",
+                "?",
+            )
+            if word in f"{one}?"
+        )
+        for one in told
+    ] == [
+        "no statement of the function",
+        "close()",
+        "server closed",
+        "it is closed",
+    ]
 
 
 def test_what_does_nothing_over_its_connection_is_as_another_step(url: str) -> None:
@@ -465,7 +570,10 @@ def test_what_does_nothing_over_its_connection_is_as_another_step(url: str) -> N
 
     async def main() -> None:
         async with sagas.open(url, [kind]) as store:
-            assert (await ended(store, kind, "k")).results == {"in_loop": "IDLE", "in_thread": "IDLE"}
+            assert (await ended(store, kind, "k")).results == {
+                "in_loop": "IDLE",
+                "in_thread": "IDLE",
+            }
 
     run(main())
 
@@ -494,14 +602,21 @@ def test_a_first_statement_that_fails(url: str, in_thread: bool) -> None:
                 with pytest.raises(psycopg.errors.InFailedSqlTransaction):
                     link.execute(text, (task.key, "second"))
             if task.attempt == 3:
-                with pytest.raises(psycopg.errors.QueryCanceled):  # an operational error, and the connection is there
-                    link.execute("SELECT set_config('statement_timeout', '20', true), %s::int", (1,))
+                with pytest.raises(
+                    psycopg.errors.QueryCanceled
+                ):  # an operational error, and the connection is there
+                    link.execute(
+                        "SELECT set_config('statement_timeout', '20', true), %s::int", (1,)
+                    )
                     link.execute("SELECT pg_sleep(%s)", (60,))
                 said.append(link.info.transaction_status.name)
                 raise ValueError("again")
             if task.attempt == 4:
-                said.append(str(link.execute("SELECT %(a)s::int + %(b)s", {"a": 1, "b": 2}).fetchall()))
+                said.append(
+                    str(link.execute("SELECT %(a)s::int + %(b)s", {"a": 1, "b": 2}).fetchall())
+                )
                 link.execute(text, (task.key, "fourth"))
+
     else:
 
         @kind.step(name="book", transaction=True, tries=4, backoff=QUICK)
@@ -520,12 +635,20 @@ def test_a_first_statement_that_fails(url: str, in_thread: bool) -> None:
                     await link.execute(text, (task.key, "second"))
             if task.attempt == 3:
                 with pytest.raises(psycopg.errors.QueryCanceled):
-                    await link.execute("SELECT set_config('statement_timeout', '20', true), %s::int", (1,))
+                    await link.execute(
+                        "SELECT set_config('statement_timeout', '20', true), %s::int", (1,)
+                    )
                     await link.execute("SELECT pg_sleep(%s)", (60,))
                 said.append(link.info.transaction_status.name)
                 raise ValueError("again")
             if task.attempt == 4:
-                said.append(str(await (await link.execute("SELECT %(a)s::int + %(b)s", {"a": 1, "b": 2})).fetchall()))
+                said.append(
+                    str(
+                        await (
+                            await link.execute("SELECT %(a)s::int + %(b)s", {"a": 1, "b": 2})
+                        ).fetchall()
+                    )
+                )
                 await link.execute(text, (task.key, "fourth"))
 
     async def main() -> None:
@@ -549,7 +672,9 @@ def test_a_first_statement_that_nobody_waits_for(url: str) -> None:
             with contextlib.suppress(TimeoutError):
                 async with asyncio.timeout(0.05):
                     await task.connection.execute("SELECT pg_sleep(%s)", (60,))
-        await task.connection.execute("INSERT INTO book(key, step, token) VALUES(%s, 'book', '')", (task.key,))
+        await task.connection.execute(
+            "INSERT INTO book(key, step, token) VALUES(%s, 'book', '')", (task.key,)
+        )
 
     async def main() -> None:
         async with sagas.open(url, [kind]) as store:
@@ -577,7 +702,9 @@ def test_connections_are_handed_out(postgresql: Server, url: str) -> None:
         await second.execute("SELECT 1")
         await second.rollback()
         with psycopg.connect(url, autocommit=True) as link:
-            link.execute("SELECT pg_terminate_backend(pid) FROM pg_stat_activity WHERE datname = current_database() AND pid <> pg_backend_pid()")
+            link.execute(
+                "SELECT pg_terminate_backend(pid) FROM pg_stat_activity WHERE datname = current_database() AND pid <> pg_backend_pid()"
+            )
         await until(lambda: not first.is_there() and not second.is_there())
         assert pool.try_acquire() is None
         fourth = await pool.acquire()
@@ -625,7 +752,9 @@ def test_connections_are_reserved(url: str) -> None:
         pool.release(first)
         await pool.reserve()
         with psycopg.connect(url, autocommit=True) as link:
-            link.execute("SELECT pg_terminate_backend(pid) FROM pg_stat_activity WHERE datname = current_database() AND pid <> pg_backend_pid()")
+            link.execute(
+                "SELECT pg_terminate_backend(pid) FROM pg_stat_activity WHERE datname = current_database() AND pid <> pg_backend_pid()"
+            )
         await until(lambda: first.closed)
         with pytest.raises(psycopg.OperationalError, match="broke"):
             pool.acquire_reserved()
@@ -697,11 +826,16 @@ def test_a_function_that_asks_late(url: str) -> None:
             left.append(asyncio.create_task(behind()))
             return
         await asyncio.sleep(0.05)
-        await task.connection.execute("INSERT INTO book(key, step, token) VALUES(%s, 'book', '')", (task.key,))
+        await task.connection.execute(
+            "INSERT INTO book(key, step, token) VALUES(%s, 'book', '')", (task.key,)
+        )
 
     async def main() -> None:
         async with sagas.open(url, [kind], concurrency=2) as store:
-            ends = await asyncio.gather(*(ended(store, kind, f"k{number}") for number in range(5)), ended(store, kind, "left", "leaves"))
+            ends = await asyncio.gather(
+                *(ended(store, kind, f"k{number}") for number in range(5)),
+                ended(store, kind, "left", "leaves"),
+            )
             assert all(end.ok for end in ends)
             await left[0]
 
@@ -717,7 +851,9 @@ def test_what_ends_at_once_leaves_its_connection(url: str) -> None:
     @kind.step(transaction=True, skip=0)
     async def book(task: Task) -> Any:
         async def row() -> str:
-            await task.connection.execute("INSERT INTO book(key, step, token) VALUES(%s, 'book', '')", (task.key,))
+            await task.connection.execute(
+                "INSERT INTO book(key, step, token) VALUES(%s, 'book', '')", (task.key,)
+            )
             return "late"
 
         if task.input == "asks":
@@ -733,7 +869,9 @@ def test_what_ends_at_once_leaves_its_connection(url: str) -> None:
     async def main() -> None:
         async with sagas.open(url, [kind], concurrency=2) as store:
             for way in ("asks", "raises", "asks and raises", "nothing", "gives"):
-                ends = await asyncio.gather(*(ended(store, kind, f"{way} {number}", way) for number in range(20)))
+                ends = await asyncio.gather(
+                    *(ended(store, kind, f"{way} {number}", way) for number in range(20))
+                )
                 states = {end.states["book"] for end in ends}
                 assert states == ({"failed"} if "raises" in way else {"committed"}), way
                 assert way != "gives" or {end.result_of(book) for end in ends} == {"late"}
@@ -808,7 +946,8 @@ def test_how_many_connections_a_node_has(url: str) -> None:
             await gate.wait()
 
         @held.approval(needs=[waits])
-        def approved(task: Task) -> None: ...
+        def approved(task: Task) -> None:
+            ...
 
         return [mixed, held]
 

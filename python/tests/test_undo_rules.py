@@ -78,16 +78,35 @@ def test_what_undoes_a_child_is_not_aborted(place: str, capsys: pytest.CaptureFi
         async with sagas.open(place, world.all) as store:
             found = await store.start(world.top, "t", labels={"customer": "7"})
             await until(lambda: world.done == ["c", "b"])
-            with pytest.raises(sagas.NotAbortable, match="'t/:kid:undo' undoes a child, so it is not aborted"):
+            with pytest.raises(
+                sagas.NotAbortable, match="'t/:kid:undo' undoes a child, so it is not aborted"
+            ):
                 await store.abort("t/:kid:undo", by="ann")
-            assert world.child.name in [one.saga for one in await store.list(labels={"customer": "7"})]
+            assert world.child.name in [
+                one.saga for one in await store.list(labels={"customer": "7"})
+            ]
             words = ("abort", "--all", "--label", "customer=7")
-            assert await asyncio.to_thread(shell, *words) == "1 saga: --yes aborts it\n1 saga left out, because it undoes a child\n"
+            assert (
+                await asyncio.to_thread(shell, *words)
+                == "1 saga: --yes aborts it\n1 saga left out, because it undoes a child\n"
+            )
             assert await asyncio.to_thread(shell.json, *words) == {"count": 1, "undoing": 1}
             result = await store.abort_all(labels={"customer": "7"}, by="ann")
-            assert (result.done, result.refused, result.waiting, result.undoing) == (["t"], {}, [], ["t/:kid:undo"])
-            assert await asyncio.to_thread(shell, *words, "--yes") == "t/:kid:undo: left out, because it undoes a child\n"
-            asked = {"key": "t/:kid:undo", "asked": "abort", "answer": "left out, because it undoes a child"}
+            assert (result.done, result.refused, result.waiting, result.undoing) == (
+                ["t"],
+                {},
+                [],
+                ["t/:kid:undo"],
+            )
+            assert (
+                await asyncio.to_thread(shell, *words, "--yes")
+                == "t/:kid:undo: left out, because it undoes a child\n"
+            )
+            asked = {
+                "key": "t/:kid:undo",
+                "asked": "abort",
+                "answer": "left out, because it undoes a child",
+            }
             assert await asyncio.to_thread(shell.json, *words, "--yes") == [asked]
             assert await asyncio.to_thread(shell, "abort", "t/:kid:undo", status=1) == ""
             world.gate.set()
@@ -133,7 +152,9 @@ def test_an_undo_that_failed_waits_for_a_person(place: str, way: str) -> None:
             await store.start(world.top, "t")
             found = await world.exhausted(store)
             assert (found.why, found.step, found.undo) == ("exhausted", "kid", True)
-            assert "'t/:kid:undo' has not completed: recovered. b: sagas.Fail: cannot" in str(found.detail)
+            assert "'t/:kid:undo' has not completed: recovered. b: sagas.Fail: cannot" in str(
+                found.detail
+            )
         async with sagas.open(place, world.all) as store:
             run_again = await store.get("t")
             assert run_again is not None
@@ -169,7 +190,9 @@ def test_nobody_is_asked_if_so_declared(place: str) -> None:
             assert end.states["kid"] == "undo_failed"
 
     run(main())
-    with pytest.raises(sagas.DefinitionError, match="undo_on_exhausted='retry': must be fail or ask"):
+    with pytest.raises(
+        sagas.DefinitionError, match="undo_on_exhausted='retry': must be fail or ask"
+    ):
         sagas.Saga("x").child(world.child, input=lambda task: 1, undo_on_exhausted="retry")  # type: ignore[call-overload]
 
 
@@ -245,11 +268,16 @@ def test_what_others_undid_is_not_asked_again(place: str) -> None:
             await until(lambda: store.get("t/:kid:undo"))
             await until(lambda: store.active_attempts("t/:kid:undo"))
             await store.complete("t/:kid:undo", "b")
-            await until(lambda: [one for one in store.active_attempts("t") if one.waits == "exhausted"])
+            await until(
+                lambda: [one for one in store.active_attempts("t") if one.waits == "exhausted"]
+            )
             broken.clear()
             await store.retry("t", "kid", undo=True)
             assert (await found.wait(60)).states["kid"] == "undone"
-            assert (await store.wait("t/:kid:undo/2", 60)).states == {"b": "committed", "a": "committed"}
+            assert (await store.wait("t/:kid:undo/2", 60)).states == {
+                "b": "committed",
+                "a": "committed",
+            }
 
     run(main())
     assert calls == ["a", "a"]
@@ -270,7 +298,9 @@ class Hand:
         for step in (gone, first):
             step.compensation(lambda task: self.undone.append(f"{task.step} {task.key}"))
         self.child.step(self._second, name="second", needs=[gone, first], keep=9, undo=0)
-        self.kid = self.top.child(self.child, name="kid", input=lambda task: task.input, on_exhausted="ask", keep=9)
+        self.kid = self.top.child(
+            self.child, name="kid", input=lambda task: task.input, on_exhausted="ask", keep=9
+        )
         self.top.approval(name="sign", needs=[self.kid])(lambda task: None)
         self.all = [self.top, self.child]
 
@@ -294,15 +324,23 @@ WRONG: list[tuple[Any, str]] = [
     ({"key": "t/:kid"}, "this is not the result of a child"),
     (result("t/:kid", phase="open"), "the phase of a child's result is 'completed'"),
     (result("t/:kid", results=[1]), "the results of a child are an object by step"),
-    (result("t/:kid", results={"third": 1}), "the results name a step that the child does not have"),
+    (
+        result("t/:kid", results={"third": 1}),
+        "the results name a step that the child does not have",
+    ),
     (result(7), "the key of a child is a text"),
-    (result("good/:kid"), "the key is not that of a child of this step.*: KEY is that of its child [(]it started 't/:kid'[)]"),
+    (
+        result("good/:kid"),
+        "the key is not that of a child of this step.*: KEY is that of its child [(]it started 't/:kid'[)]",
+    ),
     (result("t"), "the key is not that of a child of this step"),
     (result("nonsense"), "the key is not that of a child of this step"),
 ]
 
 
-def test_a_child_step_is_completed_with_a_childs_result(place: str, capsys: pytest.CaptureFixture[str]) -> None:
+def test_a_child_step_is_completed_with_a_childs_result(
+    place: str, capsys: pytest.CaptureFixture[str]
+) -> None:
     """Anything else is refused, with nothing changed, by the store and by the command. Without a child there is nothing to undo."""
     world, shell = Hand(), Shell(place, capsys)
 
@@ -311,7 +349,9 @@ def test_a_child_step_is_completed_with_a_childs_result(place: str, capsys: pyte
             good = await store.start(world.top, "good", "works")
             found = await world.asked(store)
             for wrong, why in WRONG:
-                with pytest.raises(sagas.InvalidResult, match=f"saga 't', step 'kid': {why}.*Nothing was stored"):
+                with pytest.raises(
+                    sagas.InvalidResult, match=f"saga 't', step 'kid': {why}.*Nothing was stored"
+                ):
                     await store.complete("t", world.kid, wrong, by="ann")
             with pytest.raises(sagas.InvalidResult):
                 await store.complete_all(result("good/:kid"))
@@ -343,7 +383,9 @@ def test_what_is_left_of_its_own_child_is_undone(place: str) -> None:
             await world.asked(store)
             await store.retry("t", "kid")
             await until(lambda: store.get("t/:kid/2"))
-            await until(lambda: [one for one in store.active_attempts("t") if one.waits == "exhausted"])
+            await until(
+                lambda: [one for one in store.active_attempts("t") if one.waits == "exhausted"]
+            )
             await store.complete("t", "kid", result("t/:kid"))
         async with sagas.open(place, world.all) as store:
             await store.abort("t")
@@ -354,7 +396,9 @@ def test_what_is_left_of_its_own_child_is_undone(place: str) -> None:
     assert world.undone == ["gone t/:kid", "gone t/:kid/2", "first t/:kid"]
 
 
-def test_a_wrong_result_of_before_waits_for_a_person(place: str, monkeypatch: pytest.MonkeyPatch) -> None:
+def test_a_wrong_result_of_before_waits_for_a_person(
+    place: str, monkeypatch: pytest.MonkeyPatch
+) -> None:
     """Nobody else's child is undone by it, and nothing hangs."""
     world = Hand()
     monkeypatch.setattr(child_results, "check", lambda *words: None)
@@ -369,7 +413,11 @@ def test_a_wrong_result_of_before_waits_for_a_person(place: str, monkeypatch: py
                 return await store.attention()
 
             (one,) = await until(asked)
-            assert (one.key, one.step, one.undo) == ("t", "kid", True) and "no key of a child" in str(one.detail)
+            assert (one.key, one.step, one.undo) == (
+                "t",
+                "kid",
+                True,
+            ) and "no key of a child" in str(one.detail)
             await store.complete("t", "kid", undo=True)
             assert (await found.wait(60)).states["kid"] == "undone"
 
@@ -379,8 +427,18 @@ def test_a_wrong_result_of_before_waits_for_a_person(place: str, monkeypatch: py
 
 def test_open_and_completed_children() -> None:
     """An open one is neither left nor taken; one that has completed is not forgotten."""
-    rows = [("t/:kid", "recovered"), ("t/:kid/2", "open"), ("t/:kid:undo", "open"), ("t/:kid/x", "open"), ("t/:kid-2", "open")]
-    for key, why in ((None, "its child 't/:kid/2' is open"), ("t/:kid/2", "is open"), ("t/:kid:undo", "is not that of a child of this step")):
+    rows = [
+        ("t/:kid", "recovered"),
+        ("t/:kid/2", "open"),
+        ("t/:kid:undo", "open"),
+        ("t/:kid/x", "open"),
+        ("t/:kid-2", "open"),
+    ]
+    for key, why in (
+        (None, "its child 't/:kid/2' is open"),
+        ("t/:kid/2", "is open"),
+        ("t/:kid:undo", "is not that of a child of this step"),
+    ):
         with pytest.raises(sagas.InvalidResult, match=why):
             child_results.check("t", "kid", result(key), rows, ["first"])
     child_results.check("t", "kid", result("t/:kid"), rows, None)
@@ -403,7 +461,9 @@ def test_what_an_undo_has_of_its_child(place: str) -> None:
     def room(task: sagas.Task[Account]) -> None:
         ...
 
-    step = child.step(room, name="room", keep=9, concurrency=1, concurrency_by=lambda account: account.number)
+    step = child.step(
+        room, name="room", keep=9, concurrency=1, concurrency_by=lambda account: account.number
+    )
 
     @step.compensation
     async def cancel(task: sagas.Task[Account]) -> None:
@@ -419,13 +479,22 @@ def test_what_an_undo_has_of_its_child(place: str) -> None:
 
     async def main() -> None:
         async with sagas.open(place, [top, child]) as store:
-            found = [await store.start(top, key, number, labels={"of": number}) for key, number in (("s", "7"), ("t", "7"), ("u", "8"))]
+            found = [
+                await store.start(top, key, number, labels={"of": number})
+                for key, number in (("s", "7"), ("t", "7"), ("u", "8"))
+            ]
             await until(lambda: len(calls) == 2)
             held = "t" if "s/:kid" in calls else "s"
-            await until(lambda: [one for one in store.active_attempts(f"{held}/:kid:undo") if one.waits])
+            await until(
+                lambda: [one for one in store.active_attempts(f"{held}/:kid:undo") if one.waits]
+            )
             (waits,) = await store.waits_for(f"{held}/:kid:undo")
             assert waits == "room waits for a slot of its concurrency"
-            tenants = {key: one.tenant for key, one in store._inside.sagas.by_key.items() if children.undoes_child(key)}
+            tenants = {
+                key: one.tenant
+                for key, one in store._inside.sagas.by_key.items()
+                if children.undoes_child(key)
+            }
             assert tenants == {"s/:kid:undo": '"7"', "t/:kid:undo": '"7"', "u/:kid:undo": '"8"'}
             assert await store.count(saga="child-undo", labels={"of": "7"}) == 2
             gate.set()
@@ -441,9 +510,18 @@ def test_nobody_starts_what_undoes_a_child(url: str) -> None:
 
     async def main() -> None:
         async with sagas.open(url, world.all, node="one") as store, sagas.Client(url) as client:
-            forged = {"key": "x", "token": "0-0", "input": None, "results": {"a": 1, "b": 1, "c": 1}}
-            (undoing,) = [saga for saga in store._shelf.sagas.values() if saga.undoes is world.child]
-            with pytest.raises(sagas.DefinitionError, match="only parents of such children start it"):
+            forged = {
+                "key": "x",
+                "token": "0-0",
+                "input": None,
+                "results": {"a": 1, "b": 1, "c": 1},
+            }
+            (undoing,) = [
+                saga for saga in store._shelf.sagas.values() if saga.undoes is world.child
+            ]
+            with pytest.raises(
+                sagas.DefinitionError, match="only parents of such children start it"
+            ):
                 await store.start(undoing, "forged", forged)
             started = await client.start(sagas.Saga("child-undo"), "forged", forged)
             with pytest.raises(sagas.SagasError, match="'child-undo' undoes 'child' as a child"):
@@ -459,12 +537,22 @@ def test_nobody_starts_what_undoes_a_child(url: str) -> None:
 def test_scopes() -> None:
     """What undoes a child goes with the child; a saga that only has its name does not."""
     scope = Scope(frozenset({"leaf"}))
-    for key, sees in (("t/:kid:undo", True), ("t/:kid:undo/2", True), ("t/:kid:undo/:kid", True), ("t:undo", False), ("t:undo/:kid", False)):
+    for key, sees in (
+        ("t/:kid:undo", True),
+        ("t/:kid:undo/2", True),
+        ("t/:kid:undo/:kid", True),
+        ("t:undo", False),
+        ("t:undo/:kid", False),
+    ):
         assert scope.has_saga("leaf-undo", key) == children.undoes_child(key) == sees
         assert scope.has_saga("leaf", key) and not scope.has_saga("other-undo", key)
     assert not Scope(frozenset({"leaf"}), frozenset({"s"})).has_saga("leaf-undo", "t/:kid:undo")
     assert Scope().has_saga("any", None) and not scope.has_saga("leaf-undo", None)
-    assert scope.may_have("leaf-undo") and not scope.has_definition("leaf-undo") and not scope.may_have("other-undo")
+    assert (
+        scope.may_have("leaf-undo")
+        and not scope.has_definition("leaf-undo")
+        and not scope.may_have("other-undo")
+    )
 
 
 APP = """
@@ -489,56 +577,124 @@ def test_over_http(tmp_path: pathlib.Path) -> None:
     """A token of the child sees what undoes it, and aborts none of it; one of another definition sees nothing. A webhook of the child hears of it."""
     (tmp_path / "app.py").write_text(APP)
     receiver, undo = Receiver(), "t/:kid:undo"
-    hooks = written(tmp_path, table(receiver.url, 'definitions = ["leaf"]\ntypes = ["saga.attention"]'))
+    hooks = written(
+        tmp_path, table(receiver.url, 'definitions = ["leaf"]\ntypes = ["saga.attention"]')
+    )
     every = token(tmp_path, "every", "operator")
     leafy = token(tmp_path, "leafy", "operator", "--definition", "leaf")
     other = token(tmp_path, "other", "operator", "--definition", "plain")
-    words = ("--app", "app:store", "--token-file", str(tmp_path / "tokens.toml"), "--webhooks", hooks, "--local-webhooks")
+    words = (
+        "--app",
+        "app:store",
+        "--token-file",
+        str(tmp_path / "tokens.toml"),
+        "--webhooks",
+        hooks,
+        "--local-webhooks",
+    )
     path = f"/v1/sagas/{quote(undo, safe='')}"
     with served(tmp_path, {"one.toml": ONE}, *words) as service, service.client(every) as client:
-        assert start(client, "top", "t").status_code == start(client, "hand", "h").status_code == 201
+        assert (
+            start(client, "top", "t").status_code == start(client, "hand", "h").status_code == 201
+        )
         (told,) = receiver.wait(1)
-        assert told["data"] == {"key": undo, "definition": "leaf-undo", "kind": "exhausted", "step": "room", "undo": False}
+        assert told["data"] == {
+            "key": undo,
+            "definition": "leaf-undo",
+            "kind": "exhausted",
+            "step": "room",
+            "undo": False,
+        }
         receiver.server.shutdown()
-        for definition, key, problem in (("leaf-undo", "x", "NoSuchDefinition"), ("leaf", "X/:kid", "InvalidKey"), ("leaf", "X/:kid:undo", "InvalidKey")):
+        for definition, key, problem in (
+            ("leaf-undo", "x", "NoSuchDefinition"),
+            ("leaf", "X/:kid", "InvalidKey"),
+            ("leaf", "X/:kid:undo", "InvalidKey"),
+        ):
             assert error_of(start(client, definition, key)) == problem
         bulk: Json = {"filter": {"definition": "leaf-undo"}, "dry_run": True}
         with service.client(leafy) as owner, service.client(other) as stranger:
-            assert owner.get(path).json()["definition"] == "leaf-undo" and stranger.get(path).status_code == 404
+            assert (
+                owner.get(path).json()["definition"] == "leaf-undo"
+                and stranger.get(path).status_code == 404
+            )
             assert owner.get("/v1/sagas/t%2F:kid").status_code == 200
             assert client.get("/v1/sagas/t").json()["children"][1]["key"] == undo
-            for query, keys in (("", {"t/:kid", undo}), ("?definition=leaf-undo", {undo}), ("?definition=leaf", {"t/:kid"})):
-                assert {one["key"] for one in owner.get(f"/v1/sagas{query}").json()["sagas"]} == keys
-            assert [one["key"] for one in owner.get("/v1/attention?kind=exhausted").json()["entries"]] == [undo]
+            for query, keys in (
+                ("", {"t/:kid", undo}),
+                ("?definition=leaf-undo", {undo}),
+                ("?definition=leaf", {"t/:kid"}),
+            ):
+                assert {
+                    one["key"] for one in owner.get(f"/v1/sagas{query}").json()["sagas"]
+                } == keys
+            assert [
+                one["key"] for one in owner.get("/v1/attention?kind=exhausted").json()["entries"]
+            ] == [undo]
             assert error_of(stranger.get("/v1/sagas?definition=leaf-undo")) == "Forbidden"
             assert stranger.get("/v1/attention?kind=exhausted").json()["entries"] == []
-            assert error_of(start(owner, "leaf-undo", "x")) == error_of(start(owner, "top", "x")) == "Forbidden"
+            assert (
+                error_of(start(owner, "leaf-undo", "x"))
+                == error_of(start(owner, "top", "x"))
+                == "Forbidden"
+            )
             for word, body in (("abort", {}), ("what-if", {"abort": True})):
                 assert error_of(owner.post(f"{path}/{word}", json=body)) == "NotAbortable"
                 assert error_of(stranger.post(f"{path}/{word}", json=body)) == "NoSuchSaga"
-            assert owner.post(f"{path}/abort", json={}).json()["detail"].startswith(f"saga '{undo}' undoes a child")
+            assert (
+                owner.post(f"{path}/abort", json={})
+                .json()["detail"]
+                .startswith(f"saga '{undo}' undoes a child")
+            )
             told = owner.post("/v1/bulk/abort", json=bulk).json()
             assert (told["count"], told["keys"], told["undoing"]) == (0, [], 1)
             told = client.post("/v1/bulk/abort", json={"filter": {}}).json()
             assert (told["count"], told["keys"], told["undoing"]) == (2, ["t", "h"], 1)
             assert error_of(stranger.post("/v1/bulk/abort", json=bulk)) == "Forbidden"
             with service.client() as page:
-                assert page.post("/ui/login", data={"token": every, "next": "/ui"}).status_code == 303
-                assert "Abort…" not in page.get(f"/ui{path.removeprefix('/v1')}").text and "Abort…" in page.get("/ui/sagas/t").text
+                assert (
+                    page.post("/ui/login", data={"token": every, "next": "/ui"}).status_code == 303
+                )
+                assert (
+                    "Abort…" not in page.get(f"/ui{path.removeprefix('/v1')}").text
+                    and "Abort…" in page.get("/ui/sagas/t").text
+                )
                 form = page.get("/ui/sagas/h/steps/kid/done").text
                 assert "enter null as the key" in form and "&#34;key&#34;: &#34;h/:kid&#34;" in form
-                assert "enter null as the key" not in page.get("/ui/sagas/t/steps/kid/done?undo=true").text
-            complete, filter = "/v1/sagas/h/steps/kid/complete", {"kind": "exhausted", "definition": "hand", "step": "kid"}
-            assert error_of(stranger.post(complete, json={"result": result(None, results={})})) == "NoSuchSaga"
+                assert (
+                    "enter null as the key"
+                    not in page.get("/ui/sagas/t/steps/kid/done?undo=true").text
+                )
+            complete, filter = "/v1/sagas/h/steps/kid/complete", {
+                "kind": "exhausted",
+                "definition": "hand",
+                "step": "kid",
+            }
+            assert (
+                error_of(stranger.post(complete, json={"result": result(None, results={})}))
+                == "NoSuchSaga"
+            )
             for wrong in (None, result("t/:kid", results={}), result("nonsense", results={})):
                 answer = client.post(complete, json={"result": wrong})
-                assert error_of(answer) == "InvalidResult" and "'h/:kid'" in answer.text and "nonsense" not in answer.text
-            told = client.post("/v1/bulk/complete", json={"filter": filter, "dry_run": False, "count": 1, "result": None}).json()
+                assert (
+                    error_of(answer) == "InvalidResult"
+                    and "'h/:kid'" in answer.text
+                    and "nonsense" not in answer.text
+                )
+            told = client.post(
+                "/v1/bulk/complete",
+                json={"filter": filter, "dry_run": False, "count": 1, "result": None},
+            ).json()
             assert told.get("done") == 0, told
             assert told["refused"][0]["problem"]["status"] == 422
-            assert client.post(complete, json={"result": result("h/:kid", results={})}).status_code == 200
+            assert (
+                client.post(complete, json={"result": result("h/:kid", results={})}).status_code
+                == 200
+            )
             assert client.get("/v1/sagas/h/wait").json()["phase"] == "completed"
-            assert owner.post(f"{path}/steps/room/complete", json={"result": None}).status_code == 200  # as any compensation
+            assert (
+                owner.post(f"{path}/steps/room/complete", json={"result": None}).status_code == 200
+            )  # as any compensation
             assert client.get("/v1/sagas/t/wait").json()["phase"] == "recovered"
 
 
@@ -555,10 +711,22 @@ def test_archives_hold_parents_and_deadlines(place: str, tmp_path: pathlib.Path)
     with admin.writing(place) as link:
         shards = [shard for shard, in link.ask("SELECT shard FROM shards")]
         folders = [archive.write(link, shard, tmp_path / "archive") for shard in shards]
-    lines = [line for folder in folders if folder for line in (folder / "sagas.jsonl").read_text().splitlines()]
+    lines = [
+        line
+        for folder in folders
+        if folder
+        for line in (folder / "sagas.jsonl").read_text().splitlines()
+    ]
     told = {row["key"]: row for row in map(json.loads, lines)}
-    assert {key: row["parent"] for key, row in told.items()} == {"t": None, "t/:kid": "t", "t/:kid:undo": "t"}
-    assert told["t"]["deadline"] == told["t/:kid"]["deadline"] > told["t"]["started"] and told["t/:kid:undo"]["deadline"] is None
+    assert {key: row["parent"] for key, row in told.items()} == {
+        "t": None,
+        "t/:kid": "t",
+        "t/:kid:undo": "t",
+    }
+    assert (
+        told["t"]["deadline"] == told["t/:kid"]["deadline"] > told["t"]["started"]
+        and told["t/:kid:undo"]["deadline"] is None
+    )
 
 
 def test_in_a_simulation() -> None:
@@ -569,10 +737,14 @@ def test_in_a_simulation() -> None:
     kid = top.child(child, name="kid", input=lambda task: 1, on_exhausted="ask", keep=9)
     last = top.step(lambda task: None, name="fin", needs=[kid])
     for answers, state in (({}, "undo_failed"), ({kid: None}, "undone")):
-        found = sagas.testing.run(top, fail={last: sagas.Fail("no")}, fail_undo={step: 1}, answers=answers)
+        found = sagas.testing.run(
+            top, fail={last: sagas.Fail("no")}, fail_undo={step: 1}, answers=answers
+        )
         assert found.states["kid"] == state
     found = sagas.testing.run(top, fail={kid: 1, last: 1}, answers={kid: result(None)})
     assert found.states["kid"] == "undone" and not found.children
     world = Hand()
-    found = sagas.testing.run(world.top, "fails", answers={world.kid: result("test/:kid"), "sign": sagas.Fail("no")})
+    found = sagas.testing.run(
+        world.top, "fails", answers={world.kid: result("test/:kid"), "sign": sagas.Fail("no")}
+    )
     assert found.states["kid"] == "undone" and world.undone == ["gone test/:kid", "first test/:kid"]

@@ -53,9 +53,11 @@ def test_the_groups_of_a_definition() -> None:
     groups = Groups.read(shaped.trip.toml(GIVEN))
     titles = {name: group.title for name, group in groups.found.items()}
     assert titles == {
-        "p": "p: 7 steps", "p/hotel": "p/hotel: 5 steps", "p/car": "p/car ×2",
+        "p": "p: 7 steps",
+        "p/hotel": "p/hotel: 5 steps",
+        "p/car": "p/car ×2",
         "p/hotel/room": "p/hotel/room ×2",
-    }  # fmt: skip
+    }
 
     def shown(*unfold: str) -> list[Any]:
         blocks = groups.blocks(len(groups.spots), unfold)
@@ -107,9 +109,11 @@ def test_the_boxes_of_items() -> None:
     tolds = [FAILED if name in ("ship-7", "ship-49") else DONE for name in names]
     folded = boxes_of(groups.blocks(len(names), ()), names, tolds)
     assert [(box.title, box.told.state, box.told.why) for box in folded] == [
-        ("reserve", "done", ""), ("ship ×50", "2 failed", "48 done"), ("label ×50", "50 done", ""),
+        ("reserve", "done", ""),
+        ("ship ×50", "2 failed", "48 done"),
+        ("label ×50", "50 done", ""),
         ("mail", "done", ""),
-    ]  # fmt: skip
+    ]
     items = boxes_of(groups.blocks(len(names), {"ship"}), names, tolds)
     titles = [box.title for box in items]
     assert {"ship-7", "ship-49", "ship: 38 more", "label ×50"} <= {*titles}
@@ -157,9 +161,7 @@ def test_declared_steps() -> None:
     assert costs["mail"]["skip"] == "input" and costs["reserve"]["keep"] == 0
 
 
-def test_a_definition_is_read_once(
-    tmp_path: pathlib.Path, monkeypatch: pytest.MonkeyPatch
-) -> None:  # fmt: skip
+def test_a_definition_is_read_once(tmp_path: pathlib.Path, monkeypatch: pytest.MonkeyPatch) -> None:
     """For the steps, the attempts, the plan and the picture of a page, however many ask for it."""
     loads, texts = tomllib.loads, list[str]()
 
@@ -235,9 +237,7 @@ def page(client: httpx.Client, path: str) -> str:
         (500, [("ship ×500", "500 done")]),
     ],
 )
-def test_a_fan_out_is_one_node(
-    service: Served, count: int, wanted: list[tuple[str, str]]
-) -> None:  # fmt: skip
+def test_a_fan_out_is_one_node(service: Served, count: int, wanted: list[tuple[str, str]]) -> None:
     """In the picture, and in the tables of steps, attempts and events; one item alone is itself."""
     with service.client() as client:
         text = page(client, f"/ui/sagas/of-{count}")
@@ -305,10 +305,16 @@ def test_included_sagas_are_groups(service: Served) -> None:
         assert [name for name, _ in folded] == ["flight", "stay ×2", "tour"]
         text = page(client, "/ui/sagas/trip?unfold=stay,stay/room")
         assert [name for name, _ in rows(text)] == [
-            "flight", "stay ×2", "stay/book ×2", "stay/room ×3",
-            *(f"stay-{stay}-room-{room} stay index {stay}; index {room}" for stay, room in ((0, 0), (0, 1), (1, 0))),
+            "flight",
+            "stay ×2",
+            "stay/book ×2",
+            "stay/room ×3",
+            *(
+                f"stay-{stay}-room-{room} stay index {stay}; index {room}"
+                for stay, room in ((0, 0), (0, 1), (1, 0))
+            ),
             "tour",
-        ]  # fmt: skip
+        ]
         assert "?unfold=stay#steps" in text  # folds the rooms alone
         whole = page(client, "/ui/definitions/trip")
         assert "stay: 2 steps" in whole and "?unfold=stay#steps" in whole

@@ -19,7 +19,9 @@ from sagas.storage.folder_blobs import FolderBlobStore
 RESULT = {"euros": 40}
 
 
-def order(calls: list[Any], gate: asyncio.Event | None = None, faults: int = 0, **words: Any) -> sagas.Saga:
+def order(
+    calls: list[Any], gate: asyncio.Event | None = None, faults: int = 0, **words: Any
+) -> sagas.Saga:
     """A payment that is reported while the step that it needs runs."""
     saga, left = sagas.Saga("order"), [faults]
 
@@ -37,7 +39,17 @@ def order(calls: list[Any], gate: asyncio.Event | None = None, faults: int = 0, 
         if left[0]:
             left[0] -= 1
             raise ValueError("not now")
-        calls.append(("refund", task.key, task.step, task.result, task.input, task.is_compensation, task.original_idempotency_key))
+        calls.append(
+            (
+                "refund",
+                task.key,
+                task.step,
+                task.result,
+                task.input,
+                task.is_compensation,
+                task.original_idempotency_key,
+            )
+        )
 
     saga.step(name="other", external=True, needs=[reserve], undo=0)
     saga.approval(name="sign", needs=[reserve])(lambda task: None)
@@ -63,7 +75,8 @@ async def aborted(store: Any, saga: sagas.Saga, gate: asyncio.Event, key: str = 
 
 def test_an_operator_has_it_compensated(place: str, capsys: pytest.CaptureFixture[str]) -> None:
     """It is in attention, with its result and who reported it; its compensation is called with it, once, though the call is repeated. The
-    same report again is one report still, and another one conflicts. A failure or an approval that was not used needs nobody."""
+    same report again is one report still, and another one conflicts. A failure or an approval that was not used needs nobody.
+    """
     calls, gate, shell, events = list[Any](), asyncio.Event(), Shell(place, capsys), list[str]()
     saga = order(calls, gate, faults=2)
 
@@ -72,29 +85,48 @@ def test_an_operator_has_it_compensated(place: str, capsys: pytest.CaptureFixtur
         async with sagas.open(place, [saga], on_event=heard) as store:
             await aborted(store, saga, gate)
             (one,) = await store.attention()
-            assert (one.key, one.why, one.step, one.undo, one.by) == ("k", AttentionReason.UNUSED_REPORT, "pay", False, "ada")
-            assert json.loads(one.detail or "") == RESULT and events.count("saga_unused_report") == 1
+            assert (one.key, one.why, one.step, one.undo, one.by) == (
+                "k",
+                AttentionReason.UNUSED_REPORT,
+                "pay",
+                False,
+                "ada",
+            )
+            assert (
+                json.loads(one.detail or "") == RESULT and events.count("saga_unused_report") == 1
+            )
             told = await asyncio.to_thread(shell, "attention")
             assert "unused report" in told and '{"euros":40} by ada' in told
             assert (await asyncio.to_thread(shell.json, "stats"))["unused_report"] == 1
             assert "unused   report of pay" in await asyncio.to_thread(shell, "show", "k")
-            for step, why in (("other", "no unused"), ("reserve", "no unused"), ("sign", "no unused"), ("payy", "did you mean 'pay'")):
+            for step, why in (
+                ("other", "no unused"),
+                ("reserve", "no unused"),
+                ("sign", "no unused"),
+                ("payy", "did you mean 'pay'"),
+            ):
                 with pytest.raises(sagas.StepNotWaiting, match=why):
                     await store.compensate("k", step)
-            await asyncio.gather(*(store.compensate("k", "pay", by="bob", note="so") for _ in range(3)))
+            await asyncio.gather(
+                *(store.compensate("k", "pay", by="bob", note="so") for _ in range(3))
+            )
             assert (await store.wait("k/:pay:undo", 60)).ok
             await store.compensate("k", sagas_step := saga.steps[1])
             assert sagas_step.name == "pay" and await store.attention() == []
             assert calls[0] == "release" and len(calls) == 2
             key = calls[1][-1]
-            assert calls[1] == ("refund", "k", "pay", RESULT, {"n": 1}, True, key) and key.endswith("-pay-run")
+            assert calls[1] == ("refund", "k", "pay", RESULT, {"n": 1}, True, key) and key.endswith(
+                "-pay-run"
+            )
             await store.complete("k", "pay", RESULT)
             with pytest.raises(sagas.ConflictingReport):
                 await store.complete("k", "pay", {"euros": 41})
             with pytest.raises(sagas.StepNotWaiting, match="need to be resolved"):
                 await store.resolve("k", "by hand")
             assert all(said.startswith("yes") for said in (await store.audit()).values())
-        notes = [one for one in await asyncio.to_thread(shell.json, "log", "k") if one["event"] == "note"]
+        notes = [
+            one for one in await asyncio.to_thread(shell.json, "log", "k") if one["event"] == "note"
+        ]
         assert any("compensate" in str(one) and "bob" in str(one) for one in notes)
 
     run(main())
@@ -221,10 +253,18 @@ def test_with_items_a_codec_and_blobs(place: str, tmp_path: Any) -> None:
 
     first.compensation(lambda task: None)
     pay = saga.step(name="pay", for_each="items", external=True, needs=[first], keep=9)
-    pay.compensation(lambda task: calls.append((task.step, task.item, task.index, task.result, task.result_of(first))))
+    pay.compensation(
+        lambda task: calls.append(
+            (task.step, task.item, task.index, task.result, task.result_of(first))
+        )
+    )
 
     async def main() -> None:
-        words: dict[str, Any] = {"codec": Codec(), "blobs": FolderBlobStore(tmp_path / "blobs"), "blob_threshold": 1024}
+        words: dict[str, Any] = {
+            "codec": Codec(),
+            "blobs": FolderBlobStore(tmp_path / "blobs"),
+            "blob_threshold": 1024,
+        }
         async with sagas.open(place, [saga], **words) as store:
             begun = await store.start(saga, "k", {"items": ["a", large]})
             await until(lambda: store.active_attempts("k"))
@@ -234,7 +274,9 @@ def test_with_items_a_codec_and_blobs(place: str, tmp_path: Any) -> None:
             await begun.wait(60)
             (one,) = await store.attention()
             assert (one.step, one.by, json.loads(one.detail or "")) == ("pay-1", None, large)
-            ((stored,),) = await store._access.inside.store.read("SELECT detail FROM suspensions WHERE number = 0")
+            ((stored,),) = await store._access.inside.store.read(
+                "SELECT detail FROM suspensions WHERE number = 0"
+            )
             assert large not in stored
             await store.compensate("k", "pay-1")
             assert (await store.wait("k/:pay-1:undo", 60)).ok
@@ -258,14 +300,22 @@ def test_a_worker_compensates_an_item_of_an_included_saga(place: str) -> None:
         store.leased = True
         async with store:
             begun = await store.start(outer, "k", {"items": {"a": 1, "b": 2}})
-            await until(lambda: [one for one in store.active_attempts("k") if one.waits == "approval"])
+            await until(
+                lambda: [one for one in store.active_attempts("k") if one.waits == "approval"]
+            )
             await store.complete("k", "part-pay-1", RESULT)
             await store.abort("k")
             await begun.wait(60)
             await store.compensate("k", "part-pay-1")
             (leased,) = await store.workers.claim([("outer", "part/pay", "undo")], wait=60)
             task = leased.task
-            assert (task.key, task.step, task.item, task.index, task.result) == ("k", "part-pay-1", 2, "b", RESULT)
+            assert (task.key, task.step, task.item, task.index, task.result) == (
+                "k",
+                "part-pay-1",
+                2,
+                "b",
+                RESULT,
+            )
             assert (task.input, json.loads(leased.given)) == ({"items": {"a": 1, "b": 2}}, "done")
             told = task.plain
             assert (told["item"], told["item_key"], told["shape"]["saga"]) == (2, "b", "inner")
@@ -300,11 +350,18 @@ def test_what_a_compensation_that_fails_comes_to(place: str) -> None:
             with pytest.raises(sagas.StepNotWaiting, match="no compensation. Undo it by hand"):
                 await store.compensate("k", "ship")
             await store.compensate("k", "pay")
-            await until(lambda: [one for one in store.active_attempts("k/:pay:undo") if one.waits == "exhausted"])
+            await until(
+                lambda: [
+                    one for one in store.active_attempts("k/:pay:undo") if one.waits == "exhausted"
+                ]
+            )
 
             async def asks() -> bool:
                 found = {(one.key, one.step, one.why.value) for one in await store.attention()}
-                return found == {("k", "ship", "unused_report"), ("k/:pay:undo", "pay", "exhausted")}
+                return found == {
+                    ("k", "ship", "unused_report"),
+                    ("k/:pay:undo", "pay", "exhausted"),
+                }
 
             await until(asks)
             await store.complete("k/:pay:undo", "pay")
@@ -350,7 +407,10 @@ def test_of_a_node_without_the_definition(url: str) -> None:
             for key in ("k", "l"):
                 await aborted(store, saga, gate, key)
         async with sagas.open(url, [other], node="two") as store, sagas.Client(url) as client:
-            asked = [asyncio.ensure_future(of.compensate(key, "pay", by="cleo")) for of, key in ((store, "k"), (client, "l"))]
+            asked = [
+                asyncio.ensure_future(of.compensate(key, "pay", by="cleo"))
+                for of, key in ((store, "k"), (client, "l"))
+            ]
             await until(lambda: requests(store, 2))
             async with sagas.open(url, [saga], node="three") as third:
                 await asyncio.gather(*asked)
@@ -360,7 +420,9 @@ def test_of_a_node_without_the_definition(url: str) -> None:
         assert sorted(call[1] for call in calls if call != "release") == ["k", "l"]
 
     async def requests(store: Any, count: int) -> bool:
-        ((found,),) = await store._access.inside.store.read("SELECT count(*) FROM operator_commands WHERE answer IS NULL AND command = 'compensate'")
+        ((found,),) = await store._access.inside.store.read(
+            "SELECT count(*) FROM operator_commands WHERE answer IS NULL AND command = 'compensate'"
+        )
         return bool(found == count)
 
     run(main())

@@ -24,7 +24,11 @@ from sagas.definition import decoders, serialization, type_checks
 from sagas.definition.mismatches import Misfit
 
 JSON = st.recursive(
-    st.none() | st.booleans() | st.integers() | st.floats(allow_nan=False, allow_infinity=False) | st.text(),
+    st.none()
+    | st.booleans()
+    | st.integers()
+    | st.floats(allow_nan=False, allow_infinity=False)
+    | st.text(),
     lambda inner: st.lists(inner, max_size=4) | st.dictionaries(st.text(), inner, max_size=4),
     max_leaves=12,
 )
@@ -142,12 +146,17 @@ def there_and_back(value: Any, hint: Any) -> Any:
 
 @given(JSON)
 def test_json_is_written_as_the_standard_library_does(value: Any) -> None:
-    assert serialization.write(value) == json.dumps(value, sort_keys=True, separators=(",", ":"), allow_nan=False)
+    assert serialization.write(value) == json.dumps(
+        value, sort_keys=True, separators=(",", ":"), allow_nan=False
+    )
     assert serialization.read(serialization.write(value)) == value
 
 
 def test_canonical() -> None:
-    assert serialization.write({"b": 1, "a": [True, None, "é\ud800"]}) == '{"a":[true,null,"\\u00e9\\ud800"],"b":1}'
+    assert (
+        serialization.write({"b": 1, "a": [True, None, "é\ud800"]})
+        == '{"a":[true,null,"\\u00e9\\ud800"],"b":1}'
+    )
 
 
 class Broken:
@@ -157,7 +166,22 @@ class Broken:
         return {"mode": mode}["none"]
 
 
-@pytest.mark.parametrize("value", [math.nan, math.inf, object(), {1, object()}, {math.nan}, {"a": object()}, {(1, 2): 3}, b"bytes", Broken(), [Broken()], [object.__new__(Seat)]])
+@pytest.mark.parametrize(
+    "value",
+    [
+        math.nan,
+        math.inf,
+        object(),
+        {1, object()},
+        {math.nan},
+        {"a": object()},
+        {(1, 2): 3},
+        b"bytes",
+        Broken(),
+        [Broken()],
+        [object.__new__(Seat)],
+    ],
+)
 def test_what_is_not_json(value: Any) -> None:
     with pytest.raises(sagas.NotSerializable):
         serialization.write(value)
@@ -173,7 +197,9 @@ def test_what_holds_itself() -> None:
 def test_dataclasses() -> None:
     seat = Seat(1, Colour.RED)
     time = datetime.datetime(2026, 1, 2, 3, 4, tzinfo=datetime.timezone.utc)
-    flight = Flight(uuid.UUID(int=7), time, [seat], {"a": seat}, Flight(uuid.UUID(int=8), time, [], {}), (1, 2))
+    flight = Flight(
+        uuid.UUID(int=7), time, [seat], {"a": seat}, Flight(uuid.UUID(int=8), time, [], {}), (1, 2)
+    )
     assert there_and_back(flight, Flight) == flight
 
 
@@ -236,7 +262,9 @@ def test_a_decimal_is_the_number_that_is_written() -> None:
     """Of a number of JSON, too; what is no number is refused, and a union keeps its own floats."""
     decoder = decoders.decoder(decimal.Decimal)
     assert decoder
-    assert [decoder(one) for one in ("19.90", 19.99, 7)] == [decimal.Decimal(text) for text in ("19.90", "19.99", "7")]
+    assert [decoder(one) for one in ("19.90", 19.99, 7)] == [
+        decimal.Decimal(text) for text in ("19.90", "19.99", "7")
+    ]
     for wrong in (True, [0, [1], 0], "x", None):
         with pytest.raises(Misfit, match=": cannot be read as Decimal"):
             decoder(wrong)
@@ -273,7 +301,9 @@ def test_another_input_of_a_union_is_another_start(place: str) -> None:
 
     async def main() -> None:
         async with sagas.open(place, [kind]) as store:
-            assert (await (await store.start(kind, "k", Voucher("7", 10))).wait(60)).results == {"a": 10}
+            assert (await (await store.start(kind, "k", Voucher("7", 10))).wait(60)).results == {
+                "a": 10
+            }
             with pytest.raises(sagas.KeyConflict):
                 await store.start(kind, "k", Voucher("7", 99))
 
@@ -283,14 +313,20 @@ def test_another_input_of_a_union_is_another_start(place: str) -> None:
 def test_a_key_that_is_not_of_its_hint() -> None:
     """It stays the text that it is: what is kept may be older than the hint."""
     decoder = decoders.decoder(dict[int, datetime.date])
-    assert decoder and decoder({"7": "2026-01-02", "seven": "2026-01-03"}) == {7: datetime.date(2026, 1, 2), "seven": datetime.date(2026, 1, 3)}
+    assert decoder and decoder({"7": "2026-01-02", "seven": "2026-01-03"}) == {
+        7: datetime.date(2026, 1, 2),
+        "seven": datetime.date(2026, 1, 3),
+    }
 
 
 def test_models() -> None:
     assert serialization.write(Model("a")) == '{"mode":"json","word":"a"}'
     assert there_and_back(Model("a"), Model).word == "a"
     assert there_and_back([Model("a")], list[Model])[0].word == "a"
-    assert serialization.write(OldModel("a")) == '{"word":"a"}' and there_and_back([OldModel("a")], list[OldModel])[0].word == "a"
+    assert (
+        serialization.write(OldModel("a")) == '{"word":"a"}'
+        and there_and_back([OldModel("a")], list[OldModel])[0].word == "a"
+    )
 
 
 def test_what_is_told_of_a_wrong_value() -> None:
@@ -303,15 +339,25 @@ def test_what_is_told_of_a_wrong_value() -> None:
 
 def test_sets_are_written_in_one_order() -> None:
     """As lists: numbers and texts as they are compared, all others by their JSON; the text is the same each time."""
-    assert serialization.write({10, 9, 1.5}) == "[1.5,9,10]" and serialization.write(frozenset({"b", "a"})) == '["a","b"]' and serialization.write(set()) == "[]"
-    assert serialization.write({2, "a", None}) == '["a",2,null]' and serialization.write({(2, 1), (1, 2)}) == "[[1,2],[2,1]]"
+    assert (
+        serialization.write({10, 9, 1.5}) == "[1.5,9,10]"
+        and serialization.write(frozenset({"b", "a"})) == '["a","b"]'
+        and serialization.write(set()) == "[]"
+    )
+    assert (
+        serialization.write({2, "a", None}) == '["a",2,null]'
+        and serialization.write({(2, 1), (1, 2)}) == "[[1,2],[2,1]]"
+    )
 
 
 @pytest.mark.parametrize(
     "value, text",
     [
         ({"a": {1, 2, object()}}, r'input\["a"\]: object is not JSON'),
-        ([1, {"b": Seat(1, math.nan)}], r'input\[1\]\["b"\]\.colour: NaN and infinity are not JSON'),
+        (
+            [1, {"b": Seat(1, math.nan)}],
+            r'input\[1\]\["b"\]\.colour: NaN and infinity are not JSON',
+        ),
         ({3: b""}, r"input\[3\]: bytes is not JSON"),
         (object(), "input: object is not JSON"),
     ],
@@ -323,28 +369,50 @@ def test_where_it_is_no_json(value: Any, text: str) -> None:
 
 
 def test_hints_of_functions() -> None:
-    def function(task: sagas.Task[Seat]) -> Colour: ...  # type: ignore[empty-body]
+    def function(task: sagas.Task[Seat]) -> Colour:
+        ...  # type: ignore[empty-body]
 
-    async def plain(task): ...  # type: ignore[no-untyped-def]
+    async def plain(task):
+        ...  # type: ignore[no-untyped-def]
 
-    def nowhere(task: NoSuchName) -> int: ...  # type: ignore[name-defined,empty-body]
+    def nowhere(task: NoSuchName) -> int:
+        ...  # type: ignore[name-defined,empty-body]
 
     given, returned = decoders.hints(function)
-    assert given and returned and given({"row": 1, "colour": "red"}) == Seat(1, Colour.RED) and returned("red") is Colour.RED
+    assert (
+        given
+        and returned
+        and given({"row": 1, "colour": "red"}) == Seat(1, Colour.RED)
+        and returned("red") is Colour.RED
+    )
     assert decoders.hints(plain) == (None, None) == decoders.hints(nowhere)
 
 
 def test_hints_of_what_is_no_plain_function() -> None:
     """Of a partial function with values before and behind its task, and of an object."""
 
-    def function(row: list[int], task: sagas.Task[Seat], *, size: Size) -> Colour: ...  # type: ignore[empty-body]
+    def function(row: list[int], task: sagas.Task[Seat], *, size: Size) -> Colour:
+        ...  # type: ignore[empty-body]
 
     class Charge:
-        def __call__(self, task: sagas.Task[Seat]) -> Colour: ...  # type: ignore[empty-body]
+        def __call__(self, task: sagas.Task[Seat]) -> Colour:
+            ...  # type: ignore[empty-body]
 
-        def method(self, task: sagas.Task[Seat]) -> Colour: ...  # type: ignore[empty-body]
+        def method(self, task: sagas.Task[Seat]) -> Colour:
+            ...  # type: ignore[empty-body]
 
     part = functools.partial(function, [1], size=Size.LARGE)
-    for one in (part, functools.partial(part), Charge(), Charge().method, functools.partial(Charge())):
+    for one in (
+        part,
+        functools.partial(part),
+        Charge(),
+        Charge().method,
+        functools.partial(Charge()),
+    ):
         given, returned = decoders.hints(one)
-        assert given and returned and given({"row": 1, "colour": "red"}) == SEAT and returned("red") is Colour.RED
+        assert (
+            given
+            and returned
+            and given({"row": 1, "colour": "red"}) == SEAT
+            and returned("red") is Colour.RED
+        )

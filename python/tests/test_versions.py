@@ -22,7 +22,10 @@ import sagas
 from sagas.cli import store_command
 from sagas.storage.postgresql import connections
 
-def test_a_program_that_is_older_than_the_tables(place: str, capsys: pytest.CaptureFixture[str]) -> None:
+
+def test_a_program_that_is_older_than_the_tables(
+    place: str, capsys: pytest.CaptureFixture[str]
+) -> None:
     """It refuses by name and changes nothing; so does the command."""
     saga = simple(lambda task: 7)
 
@@ -44,7 +47,10 @@ def test_a_program_that_is_older_than_the_tables(place: str, capsys: pytest.Capt
                 pass
 
     run(main())
-    assert store_command.main([place, "list"]) == 4 and "tables of version 99" in capsys.readouterr().err
+    assert (
+        store_command.main([place, "list"]) == 4
+        and "tables of version 99" in capsys.readouterr().err
+    )
     assert store_command.main([place, "migrate"]) == 4
 
 
@@ -65,7 +71,10 @@ def test_two_programs_migrate_at_once(url: str) -> None:
 def asked(url: str) -> bool:
     """Whether an approval is waited for."""
     with psycopg.connect(url) as link:
-        return link.execute("SELECT 1 FROM sagas.suspensions WHERE reason = 'approval'").fetchone() is not None
+        return (
+            link.execute("SELECT 1 FROM sagas.suspensions WHERE reason = 'approval'").fetchone()
+            is not None
+        )
 
 
 def test_least_rights(postgresql: Server, url: str, capsys: pytest.CaptureFixture[str]) -> None:
@@ -79,7 +88,8 @@ def test_least_rights(postgresql: Server, url: str, capsys: pytest.CaptureFixtur
         return 1
 
     @inside.approval(needs=[a])
-    async def b(task: Task) -> None: ...
+    async def b(task: Task) -> None:
+        ...
 
     role = f"app_{url[-8:]}"
     with psycopg.connect(url, autocommit=True) as link:
@@ -103,30 +113,57 @@ def test_least_rights(postgresql: Server, url: str, capsys: pytest.CaptureFixtur
             assert all(said.startswith("yes") for said in (await store.audit()).values())
 
     run(refused())
-    with pytest.raises(sagas.InvalidStore, match="no tables yet.*sagas store URL init"), sagas.SyncClient(theirs):
+    with pytest.raises(
+        sagas.InvalidStore, match="no tables yet.*sagas store URL init"
+    ), sagas.SyncClient(theirs):
         pass
     assert store_command.main([url, "init"]) == 0
-    with pytest.raises(sagas.StoreUnavailable, match="sagas store URL init --role NAME"), sagas.SyncClient(theirs):
+    with pytest.raises(
+        sagas.StoreUnavailable, match="sagas store URL init --role NAME"
+    ), sagas.SyncClient(theirs):
         pass
-    assert store_command.main([theirs, "list"]) == 4 and "init --role NAME" in capsys.readouterr().err
+    assert (
+        store_command.main([theirs, "list"]) == 4 and "init --role NAME" in capsys.readouterr().err
+    )
     assert store_command.main([url, "init", "--role", role]) == 0
     assert role in capsys.readouterr().out
     run(main())
-    assert store_command.main([theirs, "list"]) == 0 and store_command.main([theirs, "nodes"]) == 0 and store_command.main([theirs, "stats"]) == 0
-    assert store_command.main([theirs, "prune", "--older-than", "1d"]) == 0 and store_command.main([theirs, "audit"]) == 0
+    assert (
+        store_command.main([theirs, "list"]) == 0
+        and store_command.main([theirs, "nodes"]) == 0
+        and store_command.main([theirs, "stats"]) == 0
+    )
+    assert (
+        store_command.main([theirs, "prune", "--older-than", "1d"]) == 0
+        and store_command.main([theirs, "audit"]) == 0
+    )
     with psycopg.connect(theirs) as link, pytest.raises(psycopg.errors.InsufficientPrivilege):
         link.execute("DROP TABLE sagas.event_log")
     with psycopg.connect(url, autocommit=True) as link:
         link.execute(f"CREATE ROLE {role}_2")
-    assert store_command.main([theirs, "init", "--role", f"{role}_2"]) == 4 and "cannot grant" in capsys.readouterr().err
+    assert (
+        store_command.main([theirs, "init", "--role", f"{role}_2"]) == 4
+        and "cannot grant" in capsys.readouterr().err
+    )
 
 
-@pytest.mark.parametrize("name, why", [
-    ("postgres:/a:geheim@b/c", "two slashes"), ("postgresql://a:ge%heim@b/c", "two hex digits"), ("postgresql://a:geheim@b/c?x=1", '"x"'),
-    ("psql://a:geheim@b/c", "psql://"), ("postgresql+psycopg://a:geheim@b/c", "postgresql\\+psycopg://"), ("host=b user=a password=geheim dbname=c", "words"),
-    ("postgresql://a:x@geheim@b/c", "@ or /"), ("postgresql://a:x/geheim@b/c", "@ or /"), ("postgresql://a:x@y/geheim@b/c", "@ or /"),
-    ("postgresql://a:1/geheim@b/c", "@ or /"), ("postgresql://a:x/y?geheim=1@b/c", "quote"), ("postgresql://a:geheim/c", "not a number"),
-])  # fmt: skip
+@pytest.mark.parametrize(
+    "name, why",
+    [
+        ("postgres:/a:geheim@b/c", "two slashes"),
+        ("postgresql://a:ge%heim@b/c", "two hex digits"),
+        ("postgresql://a:geheim@b/c?x=1", '"x"'),
+        ("psql://a:geheim@b/c", "psql://"),
+        ("postgresql+psycopg://a:geheim@b/c", "postgresql\\+psycopg://"),
+        ("host=b user=a password=geheim dbname=c", "words"),
+        ("postgresql://a:x@geheim@b/c", "@ or /"),
+        ("postgresql://a:x/geheim@b/c", "@ or /"),
+        ("postgresql://a:x@y/geheim@b/c", "@ or /"),
+        ("postgresql://a:1/geheim@b/c", "@ or /"),
+        ("postgresql://a:x/y?geheim=1@b/c", "quote"),
+        ("postgresql://a:geheim/c", "not a number"),
+    ],
+)
 def test_what_is_no_store(name: str, why: str, capsys: pytest.CaptureFixture[str]) -> None:
     """A URL that is none is refused by node, client and command, with what is wrong, and without its password."""
 
@@ -143,20 +180,27 @@ def test_what_is_no_store(name: str, why: str, capsys: pytest.CaptureFixture[str
         assert "postgresql://user@host/database" in said and "geheim" not in said
 
 
-@pytest.mark.parametrize("password", ["ge?heim", "ge#heim", "ge:heim", "ge[heim]", 'ge"he im', "ge%40heim", "ge%2Fheim"])
+@pytest.mark.parametrize(
+    "password", ["ge?heim", "ge#heim", "ge:heim", "ge[heim]", 'ge"he im', "ge%40heim", "ge%2Fheim"]
+)
 def test_a_password_that_can_be_read_is_in_no_name(password: str) -> None:
     """Some characters may stand there as they are; an @ behind a question mark is a parameter's."""
     for more in ("", "?application_name=a@b"):
         url = f"postgresql://a:{password}@b:5432,c/d{more}"
-        assert connections.named(url) == "postgresql://a@b:5432,c/d" and connections.read(url)["password"] == urllib.parse.unquote(password)
+        assert connections.named(url) == "postgresql://a@b:5432,c/d" and connections.read(url)[
+            "password"
+        ] == urllib.parse.unquote(password)
 
 
-def test_a_password_is_in_nothing_that_the_command_prints(url: str, capsys: pytest.CaptureFixture[str]) -> None:
+def test_a_password_is_in_nothing_that_the_command_prints(
+    url: str, capsys: pytest.CaptureFixture[str]
+) -> None:
     """Also where it says what to run next, and where it cannot write."""
     saga = sagas.Saga("fails")
 
     @saga.step
-    def a(task: Task) -> None: ...
+    def a(task: Task) -> None:
+        ...
 
     @a.compensation(on_exhausted="fail")
     def undo(task: Task) -> None:
@@ -230,17 +274,21 @@ def test_a_client_that_is_never_let_in(postgresql: Server, url: str) -> None:
         link.execute("CREATE ROLE keyed LOGIN PASSWORD 'right'")
         link.execute("CREATE ROLE idle")
     asked = [
-        (url.replace("owner", "keyed:wrong"), "password authentication failed"), (url.replace("owner", "keyed"), "no password supplied"),
-        (f"{url}_none", 'database ".*" does not exist'), (url.replace("owner", "nobody"), 'role "nobody" does not exist'),
+        (url.replace("owner", "keyed:wrong"), "password authentication failed"),
+        (url.replace("owner", "keyed"), "no password supplied"),
+        (f"{url}_none", 'database ".*" does not exist'),
+        (url.replace("owner", "nobody"), 'role "nobody" does not exist'),
         (url.replace("owner", "idle"), "not permitted to log in"),
-    ]  # fmt: skip
+    ]
     with lets_in(postgresql, "host all keyed 127.0.0.1/32 scram-sha-256"):
         for name, text in asked:
             begun = time.monotonic()
             with pytest.raises(sagas.StoreUnavailable, match=text) as told, sagas.SyncClient(name):
                 pass
             assert time.monotonic() - begun < connections.CONNECT and "wrong" not in str(told.value)
-        with pytest.raises(sagas.InvalidStore, match="no tables yet"), sagas.SyncClient(url.replace("owner", "keyed:right")):
+        with pytest.raises(sagas.InvalidStore, match="no tables yet"), sagas.SyncClient(
+            url.replace("owner", "keyed:right")
+        ):
             pass
 
 
@@ -266,7 +314,10 @@ def test_commits_wait_for_the_disk(url: str, setting: str) -> None:
     async def said() -> list[str]:
         async with connections.pool(url, 1) as some, some.connection() as pooled:
             own = await connections.connect(url)
-            told = [await (await link.execute("SHOW synchronous_commit")).fetchone() for link in (pooled, own)]
+            told = [
+                await (await link.execute("SHOW synchronous_commit")).fetchone()
+                for link in (pooled, own)
+            ]
             await own.close()
         with connections.connect_now(url) as now:
             told.append(now.execute("SHOW synchronous_commit").fetchone())
@@ -275,7 +326,9 @@ def test_commits_wait_for_the_disk(url: str, setting: str) -> None:
     assert run(said()) == ["on"] * 3
 
 
-def test_nodes_are_shown(url: str, tmp_path: pathlib.Path, capsys: pytest.CaptureFixture[str]) -> None:
+def test_nodes_are_shown(
+    url: str, tmp_path: pathlib.Path, capsys: pytest.CaptureFixture[str]
+) -> None:
     """Each with its lease, logs and open sagas; and the logs that none drives, by the names of their sagas."""
     gate = asyncio.Event()
 
@@ -291,7 +344,12 @@ def test_nodes_are_shown(url: str, tmp_path: pathlib.Path, capsys: pytest.Captur
             assert await asyncio.to_thread(store_command.main, [url, "nodes", "--json"]) == 0
             told = json.loads(capsys.readouterr().out)
             (shown,) = told["nodes"]
-            assert (shown["name"], shown["shards"], shown["open"], shown["definitions"]) == ("first", 1, 1, store._shelf.shelf)
+            assert (shown["name"], shown["shards"], shown["open"], shown["definitions"]) == (
+                "first",
+                1,
+                1,
+                store._shelf.shelf,
+            )
             assert 0 < shown["lease"] <= 10 and told["shards_without_node"] == []
         async with sagas.open(url, [new], node="second"):
             assert await asyncio.to_thread(store_command.main, [url, "nodes"]) == 0
@@ -302,7 +360,9 @@ def test_nodes_are_shown(url: str, tmp_path: pathlib.Path, capsys: pytest.Captur
             assert (await store.wait("k")).ok
         async with sagas.open(url, [new], node="second"):
             assert await asyncio.to_thread(store_command.main, [url, "nodes"]) == 0
-            assert "No node executes:" not in capsys.readouterr().out  # that log has no open saga any more
+            assert (
+                "No node executes:" not in capsys.readouterr().out
+            )  # that log has no open saga any more
 
     run(main())
     assert store_command.main([str(tmp_path / "x.db"), "nodes"]) == 2

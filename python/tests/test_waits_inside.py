@@ -180,13 +180,17 @@ def test_parents_that_take_all_places(place: str, plain: bool) -> None:
     parent = chain(q if plain else p)
 
     async def main() -> None:
-        async with sagas.open(place, [parent, child], concurrency=2, idle=0.1, shutdown_timeout=1) as store:
+        async with sagas.open(
+            place, [parent, child], concurrency=2, idle=0.1, shutdown_timeout=1
+        ) as store:
             stores.append(store)
             runs = [await store.start(parent, f"p{number}") for number in range(4)]
             assert all([(await one.wait(timeout=60)).ok for one in runs])
 
     def plainly() -> None:
-        with sagas.open_sync(place, [parent, child], concurrency=2, idle=0.1, shutdown_timeout=1) as store:
+        with sagas.open_sync(
+            place, [parent, child], concurrency=2, idle=0.1, shutdown_timeout=1
+        ) as store:
             stores.append(store)
             runs = [store.start(parent, f"p{number}") for number in range(4)]
             assert all(one.wait(timeout=60).ok for one in runs)
@@ -213,7 +217,9 @@ def test_parents_of_children_that_need_no_place(place: str) -> None:
     parent = chain(p)
 
     async def main() -> None:
-        async with sagas.open(place, [parent, child], concurrency=2, idle=0.1, shutdown_timeout=1) as store:
+        async with sagas.open(
+            place, [parent, child], concurrency=2, idle=0.1, shutdown_timeout=1
+        ) as store:
             stores.append(store)
             await store.start(child, "p0-child")
             await until(lambda: store.active_attempts("p0-child"))
@@ -265,7 +271,9 @@ def test_an_approval_that_says_so_itself(place: str, function: Callable[[Task], 
             refused = await (await store.start(saga, "dear", "dear")).wait(timeout=60)
             assert refused.states == {"ok": "failed"} and refused.errors == {"ok": "too dear"}
             asked = await store.start(saga, "asked")
-            await until(lambda: [one for one in store.active_attempts("asked") if one.waits == "approval"])
+            await until(
+                lambda: [one for one in store.active_attempts("asked") if one.waits == "approval"]
+            )
             await asked.complete("ok", "yes")
             assert (await asked.wait(timeout=60)).results == {"ok": "yes"}
 

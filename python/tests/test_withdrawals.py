@@ -24,7 +24,9 @@ from sagas.storage.postgresql import commit_statement
 from sagas.storage.postgresql.commit_statement import Commit
 
 PAY, HOLD = [("trip", "pay", "run")], [("trip", "hold", "run")]
-ROWS = "SELECT attempt, outcome, lease FROM sagas.external_attempts WHERE attempt LIKE '%-pay-run-1'"
+ROWS = (
+    "SELECT attempt, outcome, lease FROM sagas.external_attempts WHERE attempt LIKE '%-pay-run-1'"
+)
 
 
 def trip(**pay: Any) -> sagas.Saga:
@@ -35,10 +37,18 @@ def trip(**pay: Any) -> sagas.Saga:
     return saga
 
 
-def opened(place: str, saga: sagas.Saga, node: str | None = None, events: list[Event] | None = None, **more: Any) -> sagas.Store:
+def opened(
+    place: str,
+    saga: sagas.Saga,
+    node: str | None = None,
+    events: list[Event] | None = None,
+    **more: Any,
+) -> sagas.Store:
     """A store that serves workers."""
     names = {"node": node} if node else {}
-    store = sagas.open(place, [saga], on_event=None if events is None else events.append, **names, **more)
+    store = sagas.open(
+        place, [saga], on_event=None if events is None else events.append, **names, **more
+    )
     store.leased = True
     return store
 
@@ -51,11 +61,15 @@ def asked(url: str, text: str) -> list[tuple[Any, ...]]:
 
 
 @contextlib.asynccontextmanager
-async def two(postgresql: Server, url: str, saga: sagas.Saga, relay: Relay, lease: float) -> AsyncIterator[tuple[sagas.Store, sagas.Store, list[Event]]]:
+async def two(
+    postgresql: Server, url: str, saga: sagas.Saga, relay: Relay, lease: float
+) -> AsyncIterator[tuple[sagas.Store, sagas.Store, list[Event]]]:
     """A node that reaches its server through a relay, another one, and what happens at the first."""
     events: list[Event] = []
     far = postgresql.url(url.rpartition("/")[2], port=relay.port)
-    async with opened(url, saga, "other", lease=lease) as other, opened(far, saga, "slow", events, lease=lease) as slow:
+    async with opened(url, saga, "other", lease=lease) as other, opened(
+        far, saga, "slow", events, lease=lease
+    ) as slow:
         yield slow, other, events
 
 
@@ -76,7 +90,10 @@ def test_a_node_that_lost_its_shard_takes_nothing_back(postgresql: Server, url: 
             relay.unanswered = b'"event":"abort"'
             aborting = asyncio.create_task(running.abort())
             await until(relay.owes.is_set)
-            await until(lambda: b'abort' in asked(url, "SELECT string_agg(text, '') FROM sagas.event_log")[0][0].encode())
+            await until(
+                lambda: b"abort"
+                in asked(url, "SELECT string_agg(text, '') FROM sagas.event_log")[0][0].encode()
+            )
             relay.hold()
             await until(lambda: has_offered(other))
             relay.answer()
@@ -94,7 +111,9 @@ def test_a_node_that_lost_its_shard_takes_nothing_back(postgresql: Server, url: 
         run(main(relay))
 
 
-def test_an_answer_to_a_withdrawal_counts_under_its_epoch_alone(postgresql: Server, url: str) -> None:
+def test_an_answer_to_a_withdrawal_counts_under_its_epoch_alone(
+    postgresql: Server, url: str
+) -> None:
     """It comes late, when the shard was loaded again, because its engine died, and the attempt was offered again. A worker that got it is not denied."""
     saga = sagas.Saga("trip")
     saga.step(name="pay", external=True, undo=sagas.NEVER)
@@ -116,7 +135,9 @@ def test_an_answer_to_a_withdrawal_counts_under_its_epoch_alone(postgresql: Serv
                 if runner.engine:
                     runner.engine.process.kill()
             await until(lambda: [event for event in events if event.name == "engine_died"])
-            await asyncio.wait([claiming], timeout=2)  # time for a node that goes on without the answer
+            await asyncio.wait(
+                [claiming], timeout=2
+            )  # time for a node that goes on without the answer
             relay.answer()
             relay.go_on()
             ending = asyncio.create_task(slow.wait("k", 60))
@@ -126,7 +147,9 @@ def test_an_answer_to_a_withdrawal_counts_under_its_epoch_alone(postgresql: Serv
                 (task,) = claiming.result()
                 assert await other.workers.report(task.attempt_id, task.lease, 5)
             claiming.cancel()
-            assert (await ending).states["pay"] == ("committed" if claiming.done() and not claiming.cancelled() else "failed")
+            assert (await ending).states["pay"] == (
+                "committed" if claiming.done() and not claiming.cancelled() else "failed"
+            )
 
     with relaying(postgresql.port) as relay:
         run(main(relay))
@@ -142,13 +165,17 @@ def test_what_is_unknown_is_not_given_up(url: str, cause: str, waits: str) -> No
         async with opened(url, saga, "one") as one, opened(url, saga, "other") as other:
             running = await one.start(saga, "k")
             (task,) = await other.workers.claim(PAY, wait=60, lease=600)
-            assert await other.workers.report(task.attempt_id, task.lease, unknown="the line was cut")
+            assert await other.workers.report(
+                task.attempt_id, task.lease, unknown="the line was cut"
+            )
             await until(lambda: _is_unknown(one))
             if cause == "abort":
                 assert await running.abort()
             else:
                 (hold,) = await other.workers.claim(HOLD, wait=60, lease=600)
-                assert await other.workers.report(hold.attempt_id, hold.lease, error="full", final=True)
+                assert await other.workers.report(
+                    hold.attempt_id, hold.lease, error="full", final=True
+                )
             if waits == "backoff":
                 (again,) = await other.workers.claim(PAY, wait=60, lease=600)
                 assert again.attempt_id == task.attempt_id
@@ -195,10 +222,14 @@ def test_a_row_has_one_last_word_in_a_commit(words: tuple[str, ...], last: str) 
 
 
 @pytest.mark.parametrize("reverse", [False, True])
-def test_the_order_of_a_commit_s_parts_is_nothing(url: str, reverse: bool, monkeypatch: pytest.MonkeyPatch) -> None:
+def test_the_order_of_a_commit_s_parts_is_nothing(
+    url: str, reverse: bool, monkeypatch: pytest.MonkeyPatch
+) -> None:
     """A person says that a step failed: its row is settled, and the others are told of the end, whichever part the server does first."""
     saga = trip()
-    monkeypatch.setattr(commit_statement, "sorted", lambda parts: sorted(parts, reverse=reverse), raising=False)
+    monkeypatch.setattr(
+        commit_statement, "sorted", lambda parts: sorted(parts, reverse=reverse), raising=False
+    )
     commit_statement.statement.cache_clear()
 
     async def main() -> None:
@@ -209,7 +240,9 @@ def test_the_order_of_a_commit_s_parts_is_nothing(url: str, reverse: bool, monke
             await store.fail("k", "pay", "the bank is closed")
             text = "SELECT outcome, cancelled FROM sagas.external_attempts ORDER BY step"
             assert asked(url, text) == [("settled", None), (None, "failed")]
-            assert (await store.workers.heartbeat(task.attempt_id, task.lease)).cancelled == "failed"
+            assert (
+                await store.workers.heartbeat(task.attempt_id, task.lease)
+            ).cancelled == "failed"
             assert await store.workers.report(task.attempt_id, task.lease, 5)
             assert (await running.wait(60)).states == {"pay": "failed", "hold": "committed"}
 
@@ -217,7 +250,9 @@ def test_the_order_of_a_commit_s_parts_is_nothing(url: str, reverse: bool, monke
 
 
 @pytest.mark.parametrize("change", ["DELETE FROM {}", "UPDATE {} SET outcome = 'withdrawn'"])
-def test_what_no_worker_could_get_is_offered_again(place: str, change: str, caplog: pytest.LogCaptureFixture, monkeypatch: pytest.MonkeyPatch) -> None:
+def test_what_no_worker_could_get_is_offered_again(
+    place: str, change: str, caplog: pytest.LogCaptureFixture, monkeypatch: pytest.MonkeyPatch
+) -> None:
     """Its row was damaged: that is found, and told as a warning."""
     saga, events = trip(), list[Event]()
     monkeypatch.setattr(offer_check, "PAUSE", 0.2)
@@ -267,7 +302,10 @@ def test_nothing_of_a_drain_is_done_before_its_commit(postgresql: Server, url: s
         far = postgresql.url(url.rpartition("/")[2], port=relay.port)
         async with sagas.open(far, [saga], node="one", lease=60) as store:
             running = await store.start(saga, "k")
-            await until(lambda: tasks and {one.waits for one in store.active_attempts("k")} == {"", "worker", "approval"})
+            await until(
+                lambda: tasks
+                and {one.waits for one in store.active_attempts("k")} == {"", "worker", "approval"}
+            )
             relay.unanswered = b"the bank is closed"
             failing = asyncio.create_task(store.fail("k", "pay", "the bank is closed"))
             await until(relay.owes.is_set)

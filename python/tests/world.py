@@ -103,21 +103,35 @@ class Eye:
     def begins(self, name: str, saga: int, step: int, kind: str) -> int:
         """How often the lines of a log begin a step's action or compensation."""
         line = f'{{"event":"start_{kind}","saga":{saga},"step":{step}}}\n'
-        rows = self._ask("SELECT text FROM event_log JOIN shards USING (shard) WHERE name = ?", name)
+        rows = self._ask(
+            "SELECT text FROM event_log JOIN shards USING (shard) WHERE name = ?", name
+        )
         return sum(text.count(line) for (text,) in rows)
 
     def asked(self) -> list[str]:
         """The keys of the sagas whose approval is waited for."""
-        return [key for (key,) in self._ask("SELECT key FROM suspensions JOIN sagas USING (id) WHERE reason = 'approval'")]
+        return [
+            key
+            for (key,) in self._ask(
+                "SELECT key FROM suspensions JOIN sagas USING (id) WHERE reason = 'approval'"
+            )
+        ]
 
     def finished(self, key: str, value: Any) -> bool:
         """Whether a result is there."""
-        words = "SELECT value FROM attempts JOIN sagas USING (id) WHERE key = ? AND event = 'commit'"
-        return json.dumps(value, separators=(",", ":"), sort_keys=True) in {text for (text,) in self._ask(words, key)}
+        words = (
+            "SELECT value FROM attempts JOIN sagas USING (id) WHERE key = ? AND event = 'commit'"
+        )
+        return json.dumps(value, separators=(",", ":"), sort_keys=True) in {
+            text for (text,) in self._ask(words, key)
+        }
 
     def aborts(self, key: str) -> bool:
         """Whether the lines abort the saga of a key."""
-        rows = self._ask("SELECT id % 1000, text FROM sagas JOIN event_log ON shard = id / 1000 WHERE key = ?", key)
+        rows = self._ask(
+            "SELECT id % 1000, text FROM sagas JOIN event_log ON shard = id / 1000 WHERE key = ?",
+            key,
+        )
         return any(f'{{"event":"abort","saga":{number}}}\n' in text for number, text in rows)
 
 
@@ -126,7 +140,14 @@ class World:
 
     def __init__(self, witness: Witness, eye: Eye, inside: bool = False) -> None:
         self.witness, self.eye = witness, eye
-        self.sagas = [self.chain(), self.trip(), self.must(), self.late(), self.order(), *([self.desk(), self.far()] if inside else [])]
+        self.sagas = [
+            self.chain(),
+            self.trip(),
+            self.must(),
+            self.late(),
+            self.order(),
+            *([self.desk(), self.far()] if inside else []),
+        ]
 
     def act(self, task: Any, failing: float, unknown: float = 0.0) -> Any:
         """A call: begins, fails or has its effect, and perhaps does not hear of it."""
@@ -154,20 +175,38 @@ class World:
         fails = chance(self.named(task)) < failing
         if fails and chance(f"{self.named(task)}/where") < 0.5:
             self.fail(task, failing)
-        return task.attempt_id, json.dumps({"what": "effect", **said, **self.handed(task)}), "bad" if fails else "good"
+        return (
+            task.attempt_id,
+            json.dumps({"what": "effect", **said, **self.handed(task)}),
+            "bad" if fails else "good",
+        )
 
     def begins(self, task: Any) -> dict[str, Any]:
         """It is called."""
         kind = "undo" if task.is_compensation else "run"
-        said = {"key": task.key, "step": task.step, "kind": kind, "attempt": task.attempt, "token": task.attempt_id}
+        said = {
+            "key": task.key,
+            "step": task.step,
+            "kind": kind,
+            "attempt": task.attempt,
+            "token": task.attempt_id,
+        }
         name, number, _ = task.attempt_id.split("-", 2)
         begins = self.eye.begins(name, int(number), self.steps(task).index(task.step), kind)
-        self.witness.note(what="begin", input=task.input, begun=begins, idempotency_key=task.idempotency_key, **said)
+        self.witness.note(
+            what="begin",
+            input=task.input,
+            begun=begins,
+            idempotency_key=task.idempotency_key,
+            **said,
+        )
         return said
 
     def steps(self, task: Any) -> list[str]:
         """The names of the saga's steps, in order: of one whose steps come from its input, as that gives them."""
-        at, names = (task.saga, task.input["i"]), self.__dict__.setdefault("names", {})  # also where no world was made
+        at, names = (task.saga, task.input["i"]), self.__dict__.setdefault(
+            "names", {}
+        )  # also where no world was made
         if at not in names:
             saga = next(saga for saga in self.sagas if saga.name == task.saga)
             names[at] = re.findall(r'^name = "(.*)"$', saga.toml(task.input), re.M)[1:]
@@ -180,12 +219,21 @@ class World:
 
     def fail(self, task: Any, failing: float) -> None:
         """It fails, some for good."""
-        raise sagas.Fail("for good") if chance(self.named(task)) < failing / 4 else ValueError("fails")
+        raise sagas.Fail("for good") if chance(self.named(task)) < failing / 4 else ValueError(
+            "fails"
+        )
 
     def handed(self, task: Any) -> dict[str, Any]:
         """What it was given."""
-        prefix = task.step.removesuffix(task.declared_step.rpartition("/")[2])  # of an included saga's
-        more: dict[str, Any] = {"results": {(prefix if "/" in task.declared_step else "") + name: value for name, value in task.results.items()}}
+        prefix = task.step.removesuffix(
+            task.declared_step.rpartition("/")[2]
+        )  # of an included saga's
+        more: dict[str, Any] = {
+            "results": {
+                (prefix if "/" in task.declared_step else "") + name: value
+                for name, value in task.results.items()
+            }
+        }
         if task.is_compensation:
             more |= {"of": task.original_idempotency_key, "result": task.result}
         return more
@@ -291,7 +339,6 @@ class World:
 
         return late
 
-
     def order(self) -> sagas.Saga:
         """Its steps and costs come from its input: most sagas have a definition of their own. Two sagas are included, one of them for each item."""
         order, box = sagas.Saga("order"), self.box()
@@ -304,10 +351,20 @@ class World:
         async def put_back(task: Any) -> None:
             self.act(task, 0.2)
 
-        @order.step(for_each=lambda input: {f"p {n}/": {"worth": n} for n in range(input["i"] % 4)}, needs=[collect], tries=2,
-                    backoff=QUICK, undo=3, keep=lambda item: item["worth"] * 2, skip=lambda item: item["worth"])  # fmt: skip
+        @order.step(
+            for_each=lambda input: {f"p {n}/": {"worth": n} for n in range(input["i"] % 4)},
+            needs=[collect],
+            tries=2,
+            backoff=QUICK,
+            undo=3,
+            keep=lambda item: item["worth"] * 2,
+            skip=lambda item: item["worth"],
+        )
         def send(task: Any) -> Any:
-            assert task.index == f"p {task.item['worth']}/" and task.step == f"send-{task.item['worth']}"
+            assert (
+                task.index == f"p {task.item['worth']}/"
+                and task.step == f"send-{task.item['worth']}"
+            )
             return self.act(task, 0.15, unknown=0.1)
 
         @send.compensation(backoff=QUICK, on_exhausted="fail")
@@ -340,7 +397,9 @@ class World:
         async def fold(task: Any) -> Any:
             return self.act(task, 0.05)
 
-        box.include(lid, for_each=lambda input: [{"i": input["i"]}] * (input["i"] % 3), needs=[fold])
+        box.include(
+            lid, for_each=lambda input: [{"i": input["i"]}] * (input["i"] % 3), needs=[fold]
+        )
         return box
 
     def desk(self) -> sagas.Saga:
@@ -369,7 +428,6 @@ class World:
 
         return desk
 
-
     def far(self) -> sagas.Saga:
         """Two steps side by side that workers do, and one behind them. An unknown outcome waits for a while, in which the saga may be aborted."""
         far = sagas.Saga("far")
@@ -381,7 +439,12 @@ class World:
         return far
 
 
-FAR = {("pay", "run"): (0.1, 0.4), ("pay", "undo"): (0.1, 0.0), ("hold", "run"): (0.3, 0.0), ("send", "run"): (0.2, 0.0)}
+FAR = {
+    ("pay", "run"): (0.1, 0.4),
+    ("pay", "undo"): (0.1, 0.0),
+    ("hold", "run"): (0.3, 0.0),
+    ("send", "run"): (0.2, 0.0),
+}
 """How often a worker's call fails, and how often it does not hear of it."""
 LEASE = 1.0
 
@@ -390,7 +453,9 @@ async def work(world: World, store: sagas.Store) -> None:
     """A worker that asks this node for tasks, whichever node drives their sagas."""
     words = [("far", step, kind) for step, kind in FAR]
     while True:
-        with contextlib.suppress(sagas.SagasError):  # the store is away, or the lease is lost: another one does it again
+        with contextlib.suppress(
+            sagas.SagasError
+        ):  # the store is away, or the lease is lost: another one does it again
             for leased in await store.workers.claim(words, limit=2, wait=0.2, lease=LEASE):
                 report = await asyncio.to_thread(done, world, leased.task)
                 await store.workers.report(leased.attempt_id, leased.lease, **report)
@@ -400,7 +465,9 @@ async def work(world: World, store: sagas.Store) -> None:
 def done(world: World, task: Any) -> dict[str, Any]:
     """What a worker says of a task."""
     try:
-        return {"result": world.act(task, *FAR[task.step, "undo" if task.is_compensation else "run"])}
+        return {
+            "result": world.act(task, *FAR[task.step, "undo" if task.is_compensation else "run"])
+        }
     except ConnectionError as error:
         return {"unknown": str(error)}
     except (ValueError, sagas.Fail) as error:
@@ -448,13 +515,23 @@ async def one(world: World, store: sagas.Store, number: int) -> None:
         with contextlib.suppress(sagas.StoreUnavailable):
             if await run.abort():
                 note(what="aborted", key=key, there=eye.aborts(key))
-    aborting = asyncio.create_task(abort_unknown(world, store, run)) if number % 2 and number % len(world.sagas) == 6 else None
+    aborting = (
+        asyncio.create_task(abort_unknown(world, store, run))
+        if number % 2 and number % len(world.sagas) == 6
+        else None
+    )
     try:
         end = await run.wait()
     finally:
         if aborting:
             aborting.cancel()
-    told = {"phase": end.phase, "states": end.states, "results": end.results, "cost": end.cost, "aborted": end.aborted}
+    told = {
+        "phase": end.phase,
+        "states": end.states,
+        "results": end.results,
+        "cost": end.cost,
+        "aborted": end.aborted,
+    }
     note(what="over", key=key, there=eye.phase(key)[1], **told)
 
 
@@ -484,7 +561,9 @@ async def opened(stack: contextlib.AsyncExitStack, make: Callable[[], sagas.Stor
 
 async def main(words: argparse.Namespace) -> None:
     """Starts what is not there, waits for all, and closes; SIGTERM closes it earlier."""
-    world = World(Witness(words.socket), Eye(words.eye or words.store), inside=words.node is not None)
+    world = World(
+        Witness(words.socket), Eye(words.eye or words.store), inside=words.node is not None
+    )
     if words.wrong:
         package = "wrong_stores" if words.node else "wrong"
         importlib.import_module(f"{package}.{words.wrong}").apply()
@@ -492,15 +571,24 @@ async def main(words: argparse.Namespace) -> None:
         setattr(sagas.definition.shelf, "SHARD_CAPACITY", 10)
     children = 2 if words.small else 16
     async with contextlib.AsyncExitStack() as stack:
+
         def make() -> sagas.Store:
             store = sagas.open(
-                words.store, world.sagas, concurrency=words.concurrency, engine_processes=children, node=words.node, lease=words.lease
+                words.store,
+                world.sagas,
+                concurrency=words.concurrency,
+                engine_processes=children,
+                node=words.node,
+                lease=words.lease,
             )
             store.leased = words.node is not None
             return store
 
         store = await opened(stack, make)
-        others = [asyncio.create_task(approve_all(world, store)), *([asyncio.create_task(work(world, store))] if words.node else [])]
+        others = [
+            asyncio.create_task(approve_all(world, store)),
+            *([asyncio.create_task(work(world, store))] if words.node else []),
+        ]
         starting = asyncio.create_task(every(world, store, words.count))
         asyncio.get_running_loop().add_signal_handler(signal.SIGTERM, starting.cancel)
         print("open", flush=True)
@@ -511,7 +599,9 @@ async def main(words: argparse.Namespace) -> None:
             print("closing", flush=True)
         for other in others:
             other.cancel()
-    asyncio.get_running_loop().remove_signal_handler(signal.SIGTERM)  # a loop that closes would complain of one that comes now
+    asyncio.get_running_loop().remove_signal_handler(
+        signal.SIGTERM
+    )  # a loop that closes would complain of one that comes now
 
 
 def is_unexpected(record: logging.LogRecord) -> bool:

@@ -42,21 +42,53 @@ class Service:
         (folder / "definitions" / "one.toml").write_text(DEFINITION)
         sagas = [sys.executable, "-m", "sagas"]
         self.tokens = {}
-        for name, role in (("evil", "caller"), ("caller", "caller"), ("worker", "worker"), ("operator", "operator")):
-            done = subprocess.run([*sagas, "token", "tokens.toml", name, role], cwd=folder, stdout=subprocess.PIPE, check=True)
+        for name, role in (
+            ("evil", "caller"),
+            ("caller", "caller"),
+            ("worker", "worker"),
+            ("operator", "operator"),
+        ):
+            done = subprocess.run(
+                [*sagas, "token", "tokens.toml", name, role],
+                cwd=folder,
+                stdout=subprocess.PIPE,
+                check=True,
+            )
             self.tokens[name] = done.stdout.decode().strip()
-        words = ["serve", "s.db", "--definitions", "definitions", "--token-file", "tokens.toml", "--listen", "127.0.0.1:0"]
-        self.process = subprocess.Popen([*sagas, *words, "--log-level", "error"], cwd=folder, stderr=subprocess.DEVNULL, stdout=subprocess.PIPE)
+        words = [
+            "serve",
+            "s.db",
+            "--definitions",
+            "definitions",
+            "--token-file",
+            "tokens.toml",
+            "--listen",
+            "127.0.0.1:0",
+        ]
+        self.process = subprocess.Popen(
+            [*sagas, *words, "--log-level", "error"],
+            cwd=folder,
+            stderr=subprocess.DEVNULL,
+            stdout=subprocess.PIPE,
+        )
         assert self.process.stdout
-        host, _, port = self.process.stdout.readline().decode().split("//")[1].strip().strip("/").partition(":")
+        host, _, port = (
+            self.process.stdout.readline().decode().split("//")[1].strip().strip("/").partition(":")
+        )
         self.address = host, int(port)
 
-    def ask(self, who: str | None, method: str, path: str, body: Any = None, timeout: float = 60) -> tuple[int, Any]:
+    def ask(
+        self, who: str | None, method: str, path: str, body: Any = None, timeout: float = 60
+    ) -> tuple[int, Any]:
         """The status of an answer, and the answer."""
         link = http.client.HTTPConnection(*self.address, timeout=timeout)
         headers = {"Authorization": f"Bearer {self.tokens[who]}"} if who else {}
-        data = body if isinstance(body, bytes) else None if body is None else json.dumps(body).encode()
-        link.request(method, path, data, headers | ({"Content-Type": "application/json"} if data else {}))
+        data = (
+            body if isinstance(body, bytes) else None if body is None else json.dumps(body).encode()
+        )
+        link.request(
+            method, path, data, headers | ({"Content-Type": "application/json"} if data else {})
+        )
         answer = link.getresponse()
         told = answer.read()
         link.close()
@@ -88,7 +120,11 @@ class Service:
 
     def others(self) -> None:
         """What health, another caller and an operator get."""
-        for who, path in ((None, "/health/live"), ("caller", "/v1/sagas?limit=1"), ("operator", "/v1/attention")):
+        for who, path in (
+            (None, "/health/live"),
+            ("caller", "/v1/sagas?limit=1"),
+            ("operator", "/v1/attention"),
+        ):
             print(f"  {who or 'health'}: {self.tried(who, path)}", flush=True)
 
 
@@ -145,7 +181,12 @@ def stop(service: Service) -> None:
 def deep(service: Service) -> None:
     levels = b"[" * 968 + b"]" * 968
     found = Counter(
-        service.ask("evil", "POST", "/v1/sagas", b'{"definition":"one","key":"p%d","input":%b}' % (number, levels))[0]
+        service.ask(
+            "evil",
+            "POST",
+            "/v1/sagas",
+            b'{"definition":"one","key":"p%d","input":%b}' % (number, levels),
+        )[0]
         for number in range(20)
     )
     for number in range(50):
@@ -153,15 +194,24 @@ def deep(service: Service) -> None:
     claims: Counter[int] = Counter()
     done, end = 0, time.monotonic() + 30
     while done < 50 and time.monotonic() < end:
-        status, told = service.ask("worker", "POST", "/v1/tasks/claim", {"steps": ["one/a"], "limit": 10, "wait": 1})
+        status, told = service.ask(
+            "worker", "POST", "/v1/tasks/claim", {"steps": ["one/a"], "limit": 10, "wait": 1}
+        )
         claims[status] += 1
         for task in told.get("tasks", ()):
             path = f"/v1/tasks/{task['attempt_id']}/complete"
-            done += service.ask("worker", "POST", path, {"lease": task["lease"], "result": 1})[0] == 200
+            done += (
+                service.ask("worker", "POST", path, {"lease": task["lease"], "result": 1})[0] == 200
+            )
     print(f"  starts {dict(found)}; claims {dict(claims)}; {done} of 50 tasks were done")
 
 
-KINDS: dict[str, Callable[[Service], None]] = {"waits": waits, "unread": unread, "stop": stop, "deep": deep}
+KINDS: dict[str, Callable[[Service], None]] = {
+    "waits": waits,
+    "unread": unread,
+    "stop": stop,
+    "deep": deep,
+}
 
 
 def main(names: list[str]) -> int:

@@ -63,7 +63,9 @@ async def node(url: str, socket: str, name: str) -> None:
             await again(lambda: store.start(saga, key))
             witness.note(what="started", key=key, at=time.time())
             end = await again(lambda: store.wait(key, timeout=60))
-            witness.note(what="told", key=key, phase=end.phase, result=end.results["b"], at=time.time())
+            witness.note(
+                what="told", key=key, phase=end.phase, result=end.results["b"], at=time.time()
+            )
             await asyncio.sleep(0.02)
 
     asyncio.get_running_loop().add_signal_handler(signal.SIGTERM, over.set)
@@ -96,24 +98,51 @@ class Cluster:
     def patroni(self, number: int) -> Json:
         """The settings of a member. JSON is YAML, too."""
         rest, port = f"127.0.0.1:{self.rests[number]}", f"127.0.0.1:{self.ports[number]}"
-        dcs = {"ttl": TTL, "loop_wait": 2, "retry_timeout": 5, "synchronous_mode": True, "synchronous_mode_strict": True}
-        dcs |= {"postgresql": {"use_pg_rewind": True, "parameters": {"max_connections": 100, "wal_log_hints": "on"}}}
+        dcs = {
+            "ttl": TTL,
+            "loop_wait": 2,
+            "retry_timeout": 5,
+            "synchronous_mode": True,
+            "synchronous_mode_strict": True,
+        }
+        dcs |= {
+            "postgresql": {
+                "use_pg_rewind": True,
+                "parameters": {"max_connections": 100, "wal_log_hints": "on"},
+            }
+        }
         access = [f"host {what} all 127.0.0.1/32 trust" for what in ("all", "replication")]
         return {
-            "scope": "sagas", "name": f"m{number}", "etcd3": {"host": f"127.0.0.1:{self.etcd}"},
+            "scope": "sagas",
+            "name": f"m{number}",
+            "etcd3": {"host": f"127.0.0.1:{self.etcd}"},
             "restapi": {"listen": rest, "connect_address": rest},
-            "bootstrap": {"dcs": dcs, "initdb": [{"encoding": "UTF8"}, {"auth": "trust"}, "no-locale"], "pg_hba": access},
+            "bootstrap": {
+                "dcs": dcs,
+                "initdb": [{"encoding": "UTF8"}, {"auth": "trust"}, "no-locale"],
+                "pg_hba": access,
+            },
             "postgresql": {
-                "listen": port, "connect_address": port, "data_dir": str(self.folder / f"data{number}"), "bin_dir": str(folder_of_programs()),
-                "pgpass": str(self.folder / f"pgpass{number}"), "pg_hba": access,
-                "authentication": {"superuser": {"username": "owner"}, "replication": {"username": "replicator"}},
+                "listen": port,
+                "connect_address": port,
+                "data_dir": str(self.folder / f"data{number}"),
+                "bin_dir": str(folder_of_programs()),
+                "pgpass": str(self.folder / f"pgpass{number}"),
+                "pg_hba": access,
+                "authentication": {
+                    "superuser": {"username": "owner"},
+                    "replication": {"username": "replicator"},
+                },
                 "parameters": {"unix_socket_directories": str(self.folder)},
             },
             "watchdog": {"mode": "off"},
-        }  # fmt: skip
+        }
 
     def haproxy(self) -> str:
-        servers = "".join(f"  server m{at} 127.0.0.1:{port} check port {rest}\n" for at, (port, rest) in enumerate(zip(self.ports, self.rests)))
+        servers = "".join(
+            f"  server m{at} 127.0.0.1:{port} check port {rest}\n"
+            for at, (port, rest) in enumerate(zip(self.ports, self.rests))
+        )
         return (
             "defaults\n  mode tcp\n  timeout connect 2s\n  timeout client 1h\n  timeout server 1h\n  timeout check 2s\n"
             f"listen primary\n  bind 127.0.0.1:{self.proxy}\n  option httpchk OPTIONS /primary\n  http-check expect status 200\n"
@@ -123,15 +152,33 @@ class Cluster:
     def start(self, name: str) -> None:
         """Start one of its programs: `etcd`, `haproxy`, or the Patroni of a member."""
         command = {
-            "etcd": ["etcd", "--data-dir", str(self.folder / "etcd"), "--listen-client-urls", f"http://127.0.0.1:{self.etcd}", "--advertise-client-urls",
-                     f"http://127.0.0.1:{self.etcd}", "--listen-peer-urls", f"http://127.0.0.1:{self.peer}", "--initial-advertise-peer-urls",
-                     f"http://127.0.0.1:{self.peer}", "--initial-cluster", f"default=http://127.0.0.1:{self.peer}"],
+            "etcd": [
+                "etcd",
+                "--data-dir",
+                str(self.folder / "etcd"),
+                "--listen-client-urls",
+                f"http://127.0.0.1:{self.etcd}",
+                "--advertise-client-urls",
+                f"http://127.0.0.1:{self.etcd}",
+                "--listen-peer-urls",
+                f"http://127.0.0.1:{self.peer}",
+                "--initial-advertise-peer-urls",
+                f"http://127.0.0.1:{self.peer}",
+                "--initial-cluster",
+                f"default=http://127.0.0.1:{self.peer}",
+            ],
             "haproxy": ["haproxy", "-db", "-f", str(self.folder / "haproxy.cfg")],
-        }.get(name) or ["patroni", str(self.folder / f"{name}.json")]  # fmt: skip
-        first = ["setpriv", f"--reuid={OTHER}", f"--regid={OTHER}", "--clear-groups"] if os.geteuid() == 0 else []
+        }.get(name) or ["patroni", str(self.folder / f"{name}.json")]
+        first = (
+            ["setpriv", f"--reuid={OTHER}", f"--regid={OTHER}", "--clear-groups"]
+            if os.geteuid() == 0
+            else []
+        )
         with open(self.folder / f"{name}.log", "ab") as log:
             environment = os.environ | {"HOME": str(self.folder)}
-            self.processes[name] = subprocess.Popen([*first, *command], stdout=log, stderr=log, cwd=self.folder, env=environment)
+            self.processes[name] = subprocess.Popen(
+                [*first, *command], stdout=log, stderr=log, cwd=self.folder, env=environment
+            )
 
     def kill(self, name: str, how: int = signal.SIGKILL) -> None:
         """End one of its programs."""
@@ -147,7 +194,9 @@ class Cluster:
     def asks(self, number: int, path: str) -> bool:
         """Whether a member's Patroni says yes."""
         try:
-            with urllib.request.urlopen(f"http://127.0.0.1:{self.rests[number]}/{path}", timeout=2) as answer:
+            with urllib.request.urlopen(
+                f"http://127.0.0.1:{self.rests[number]}/{path}", timeout=2
+            ) as answer:
                 return bool(answer.status == 200)
         except OSError:
             return False
@@ -158,7 +207,11 @@ class Cluster:
     def is_whole(self) -> bool:
         """Whether there are a primary, its synchronous standby and all others."""
         others = sum(self.asks(number, "replica") for number in range(MEMBERS))
-        return self.primary() is not None and others == MEMBERS - 1 and any(self.asks(number, "synchronous") for number in range(MEMBERS))
+        return (
+            self.primary() is not None
+            and others == MEMBERS - 1
+            and any(self.asks(number, "synchronous") for number in range(MEMBERS))
+        )
 
     def open(self) -> None:
         self.start("etcd")
@@ -196,7 +249,16 @@ def until(condition: Callable[[], Any], seconds: float = LONG) -> None:
 
 def switchover(cluster: Cluster) -> None:
     leader = cluster.primary()
-    command = ["patronictl", "-c", str(cluster.folder / "m0.json"), "switchover", "sagas", "--master", f"m{leader}", "--force"]
+    command = [
+        "patronictl",
+        "-c",
+        str(cluster.folder / "m0.json"),
+        "switchover",
+        "sagas",
+        "--master",
+        f"m{leader}",
+        "--force",
+    ]
     subprocess.run(command, check=True, stdout=subprocess.DEVNULL)
     until(lambda: cluster.primary() not in (None, leader))
 
@@ -233,7 +295,11 @@ def frozen(cluster: Cluster) -> None:
     process = cluster.processes[f"m{leader}"]
     process.send_signal(signal.SIGSTOP)
     try:
-        until(lambda: any(cluster.asks(number, "primary") for number in range(MEMBERS) if number != leader))
+        until(
+            lambda: any(
+                cluster.asks(number, "primary") for number in range(MEMBERS) if number != leader
+            )
+        )
         time.sleep(5)
     finally:
         process.send_signal(signal.SIGCONT)
@@ -244,7 +310,13 @@ def frozen(cluster: Cluster) -> None:
 
 def longest_pause(notes: list[Json], begin: float, end: float) -> float:
     """Seconds in which no caller was told anything."""
-    times = [begin, *sorted(note["at"] for note in notes if note["what"] == "told" and begin < note["at"] < end), end]
+    times = [
+        begin,
+        *sorted(
+            note["at"] for note in notes if note["what"] == "told" and begin < note["at"] < end
+        ),
+        end,
+    ]
     return max(later - sooner for sooner, later in zip(times, times[1:]))
 
 
@@ -255,7 +327,11 @@ def faults_of(url: str, notes: list[Json], files: list[pathlib.Path]) -> list[st
         row = rows.get(note["key"])
         if note["what"] in ("started", "told") and row is None:
             faults.append(f"{note['key']}: {note['what']}, and gone")
-        elif note["what"] == "told" and row and (row.phase != "ended" or note["result"] != note["key"]):
+        elif (
+            note["what"] == "told"
+            and row
+            and (row.phase != "ended" or note["result"] != note["key"])
+        ):
             faults.append(f"{note['key']}: told to have ended, and is {row.phase}")
     return faults + [str(fault) for fault in fleet.judged(url, files, sync=True)[1]]
 
@@ -263,34 +339,58 @@ def faults_of(url: str, notes: list[Json], files: list[pathlib.Path]) -> list[st
 def main(events: list[str]) -> int:
     folder = pathlib.Path(tempfile.mkdtemp(prefix="sagas-patroni-"))
     cluster, spans = Cluster(folder), dict[str, tuple[float, float]]()
-    nodes, files = list[subprocess.Popen[bytes]](), [folder / f"{name}.record" for name in ("one", "two")]
+    nodes, files = list[subprocess.Popen[bytes]](), [
+        folder / f"{name}.record" for name in ("one", "two")
+    ]
     try:
         cluster.open()
         print(f"the cluster is there: {folder}", flush=True)
         with witness_at(folder / "socket", folder / "notes"):
             for file in files:
-                command = [sys.executable, __file__, "--node", cluster.url, str(folder / "socket"), file.stem]
+                command = [
+                    sys.executable,
+                    __file__,
+                    "--node",
+                    cluster.url,
+                    str(folder / "socket"),
+                    file.stem,
+                ]
                 with open(folder / f"{file.stem}.log", "wb") as log:
                     environment = os.environ | {"SAGAS_RECORD": str(file)}
-                    nodes.append(subprocess.Popen(command, stdout=subprocess.PIPE, stderr=log, env=environment))
+                    nodes.append(
+                        subprocess.Popen(
+                            command, stdout=subprocess.PIPE, stderr=log, env=environment
+                        )
+                    )
                 output = nodes[-1].stdout
-                assert output and output.readline() == b"open\n", (folder / f"{file.stem}.log").read_text()
+                assert output and output.readline() == b"open\n", (
+                    folder / f"{file.stem}.log"
+                ).read_text()
             time.sleep(3)
             for name in events:
                 begin = time.time()
                 globals()[name](cluster)
                 until(cluster.is_whole)
-                until(lambda: any(note["at"] > time.time() - 1 for note in read(folder / "notes")[-50:]))
+                until(
+                    lambda: any(
+                        note["at"] > time.time() - 1 for note in read(folder / "notes")[-50:]
+                    )
+                )
                 time.sleep(3)
                 spans[name] = begin, time.time()
-                print(f"{name}: no caller was told anything for {longest_pause(read(folder / 'notes'), *spans[name]):.1f} s at most", flush=True)
+                print(
+                    f"{name}: no caller was told anything for {longest_pause(read(folder / 'notes'), *spans[name]):.1f} s at most",
+                    flush=True,
+                )
             for process in nodes:
                 process.terminate()
             until(lambda: all(process.poll() is not None for process in nodes))
         notes = read(folder / "notes")
         faults = faults_of(cluster.url, notes, files)
         ends = sum(note["what"] == "told" for note in notes)
-        print(f"{ends} sagas were told to have ended, {len(faults)} faults", *faults[:10], sep="\n  ")
+        print(
+            f"{ends} sagas were told to have ended, {len(faults)} faults", *faults[:10], sep="\n  "
+        )
     finally:
         for process in nodes:
             if process.poll() is None:

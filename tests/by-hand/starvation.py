@@ -79,14 +79,18 @@ def median(address: tuple[str, int], token: str, seconds: float) -> float:
 def measured(address: tuple[str, int], tokens: dict[str, str], seconds: float) -> bool:
     """Whether each median is within its limit."""
     link, is_good = http.client.HTTPConnection(*address, timeout=60), True
-    items = [{"undo": random.randrange(10**9), "keep": random.randrange(10**9)} for _ in range(1020)]
+    items = [
+        {"undo": random.randrange(10**9), "keep": random.randrange(10**9)} for _ in range(1020)
+    ]
     for name, key, value in (("many", "large", {"items": items}), ("small", "small", None)):
         body = json.dumps({"definition": name, "key": key, "input": value}).encode()
         assert ask(link, tokens["evil"], "POST", "/v1/sagas", body) == 201
     for name, (count, request, limit) in KINDS.items():
         alone = median(address, tokens["other"], seconds)
         some = [
-            multiprocessing.Process(target=attack, args=(address, tokens["evil"], request), daemon=True)
+            multiprocessing.Process(
+                target=attack, args=(address, tokens["evil"], request), daemon=True
+            )
             for _ in range(count)
         ]
         for one in some:
@@ -97,7 +101,9 @@ def measured(address: tuple[str, int], tokens: dict[str, str], seconds: float) -
             one.terminate()
             one.join()
         is_good &= beside <= limit * alone
-        print(f"{name}: {alone:.1f} ms alone, {beside:.1f} ms beside them: {beside / alone:.1f} times")
+        print(
+            f"{name}: {alone:.1f} ms alone, {beside:.1f} ms beside them: {beside / alone:.1f} times"
+        )
     return is_good
 
 
@@ -114,13 +120,20 @@ def main(seconds: float) -> int:
         tokens = {
             name: subprocess.run(
                 [*sagas, "token", "tokens.toml", name, "caller"],
-                cwd=folder, env=words, stdout=subprocess.PIPE, check=True,
-            ).stdout.decode().strip()
+                cwd=folder,
+                env=words,
+                stdout=subprocess.PIPE,
+                check=True,
+            )
+            .stdout.decode()
+            .strip()
             for name in ("evil", "other")
-        }  # fmt: skip
+        }
         serve = ["serve", "s.db", "--app", "starving:all", "--token-file", "tokens.toml"]
         serve += ["--listen", "127.0.0.1:0", "--log-level", "error"]
-        with subprocess.Popen([*sagas, *serve], cwd=folder, env=words, stdout=subprocess.PIPE) as service:
+        with subprocess.Popen(
+            [*sagas, *serve], cwd=folder, env=words, stdout=subprocess.PIPE
+        ) as service:
             try:
                 assert service.stdout
                 line = service.stdout.readline().decode()

@@ -25,17 +25,31 @@ import rows  # noqa: E402
 SIZES = (0, 1, 64, 200, 1 << 16)
 PAIR = b'format = 2\nname = "pair"\nstep = [{ name = "a", undo = 1 }, { name = "b", needs = ["a"], undo = 2, tries = 2 }]\n'
 REQUESTS = (
-    '{"def":0,"do":"open"}', '{"do":"next"}', '{"do":"next","most":3}', '{"do":"busy"}', '{"do":"status"}', '{"do":"list"}', '{"do":"ready"}',
-    '{"do":"report","outcome":"done","saga":SAGA,"step":STEP}', '{"do":"report","outcome":"fail","saga":SAGA,"step":STEP}',
-    '{"do":"report","outcome":"unknown","saga":SAGA,"step":STEP}', '{"do":"take","saga":SAGA,"step":STEP}', '{"do":"take","saga":SAGA}',
-    '{"do":"show","saga":SAGA}', '{"do":"abort","saga":SAGA}', "{", '{"do":"fly"}',
-)  # fmt: skip
+    '{"def":0,"do":"open"}',
+    '{"do":"next"}',
+    '{"do":"next","most":3}',
+    '{"do":"busy"}',
+    '{"do":"status"}',
+    '{"do":"list"}',
+    '{"do":"ready"}',
+    '{"do":"report","outcome":"done","saga":SAGA,"step":STEP}',
+    '{"do":"report","outcome":"fail","saga":SAGA,"step":STEP}',
+    '{"do":"report","outcome":"unknown","saga":SAGA,"step":STEP}',
+    '{"do":"take","saga":SAGA,"step":STEP}',
+    '{"do":"take","saga":SAGA}',
+    '{"do":"show","saga":SAGA}',
+    '{"do":"abort","saga":SAGA}',
+    "{",
+    '{"do":"fly"}',
+)
 
 Talk = tuple[str, list[bytes], bytes, bytes]
 Done = subprocess.CompletedProcess[bytes]
 
 MOST_WITHOUT_LINES = 64
-DEFINE = '{"definition":"format = 1\\nname = \\"more\\"\\nstep = [{ name = \\"x\\" }]\\n","do":"define"}'
+DEFINE = (
+    '{"definition":"format = 1\\nname = \\"more\\"\\nstep = [{ name = \\"x\\" }]\\n","do":"define"}'
+)
 FIXED = b'{"refused":"fixed-shelf"}\n'
 
 
@@ -44,9 +58,15 @@ def of_rows() -> Iterator[Talk]:
     for path in sorted((rows.ROWS / "drive").glob("*.toml")):
         for row in rows.rows_of(path):
             said = row.keys.get("def")
-            if said is None or not isinstance(row.keys.get("stdin", ""), str) or row.keys.get("stdin", "").startswith(("/dev", "terminal", "closed")):
+            if (
+                said is None
+                or not isinstance(row.keys.get("stdin", ""), str)
+                or row.keys.get("stdin", "").startswith(("/dev", "terminal", "closed"))
+            ):
                 continue
-            definitions = [row.text(text) for text in (said if isinstance(said, list) else [said])] * row.keys.get("times", 1)
+            definitions = [
+                row.text(text) for text in (said if isinstance(said, list) else [said])
+            ] * row.keys.get("times", 1)
             log = row.keys.get("log", "")
             if definitions and not isinstance(log, list):
                 yield row.place, definitions, row.text(log), row.text(row.keys.get("stdin", ""))
@@ -56,10 +76,17 @@ def at_random(count: int, chance: random.Random) -> Iterator[Talk]:
     """Random conversations; each second one goes on from a log that another one wrote, cut anywhere."""
     log = b""
     # (where memory lacks for the second of several tasks, the first is told alone)
-    requests_of = [request for request in REQUESTS if not (os.environ.get("REFUSE") and "most" in request)]
+    requests_of = [
+        request for request in REQUESTS if not (os.environ.get("REFUSE") and "most" in request)
+    ]
     for number in range(count):
         known = [*requests_of, DEFINE, '{"def":1,"do":"open"}'] if number % 3 == 0 else requests_of
-        asked = [chance.choice(known).replace("SAGA", str(chance.randrange(3))).replace("STEP", str(chance.randrange(2))) for _ in range(40)]
+        asked = [
+            chance.choice(known)
+            .replace("SAGA", str(chance.randrange(3)))
+            .replace("STEP", str(chance.randrange(2)))
+            for _ in range(40)
+        ]
         requests = "\n".join(asked).encode() + b"\n"
         yield f"random {number}", [PAIR], log, requests
         lines = ran([rows.program(), "drive", "--lines"], [PAIR], b"", requests).stdout
@@ -67,7 +94,9 @@ def at_random(count: int, chance: random.Random) -> Iterator[Talk]:
         log = whole[: chance.randrange(len(whole) + 1)] if number % 2 == 0 else b""
 
 
-def ran(words: list[str], definitions: list[bytes], log: bytes, requests: bytes, **more: str) -> Done:
+def ran(
+    words: list[str], definitions: list[bytes], log: bytes, requests: bytes, **more: str
+) -> Done:
     """Runs either program: its words, then the log where there is one, and the definitions."""
     with tempfile.TemporaryDirectory() as folder:
         paths = [Path(folder, str(place)) for place in range(len(definitions))]
@@ -76,21 +105,37 @@ def ran(words: list[str], definitions: list[bytes], log: bytes, requests: bytes,
         (Path(folder) / "log").write_bytes(log)
         given = ["--from", f"{folder}/log"] if words[1:] == ["drive", "--lines"] and log else []
         given = given if words[1] == "drive" else [f"{folder}/log" if log else "-"]
-        return subprocess.run([*words, *given, *map(str, paths)], input=requests, capture_output=True, env={**os.environ, **more}, check=False)
+        return subprocess.run(
+            [*words, *given, *map(str, paths)],
+            input=requests,
+            capture_output=True,
+            env={**os.environ, **more},
+            check=False,
+        )
 
 
 def wanted_of(definitions: list[bytes], log: bytes, requests: bytes) -> Done:
     """What a coordinator has to print: what the program does with --lines, over a fixed shelf. Without --lines the program has one: so it says itself
-    which requests are refused for it. They change nothing, so the others are answered as they are without them."""
+    which requests are refused for it. They change nothing, so the others are answered as they are without them.
+    """
     fixed, shown = [rows.program(), "drive"], [rows.program(), "drive", "--lines"]
     if b"define" not in requests:
         return ran(shown, definitions, log, requests)
-    is_refused = [reply == FIXED for reply in ran(fixed, definitions[:MOST_WITHOUT_LINES], b"", requests).stdout.splitlines(True)]
-    others = b"".join(line + b"\n" for line, refused in zip(requests.split(b"\n"), is_refused) if not refused)
+    is_refused = [
+        reply == FIXED
+        for reply in ran(fixed, definitions[:MOST_WITHOUT_LINES], b"", requests).stdout.splitlines(
+            True
+        )
+    ]
+    others = b"".join(
+        line + b"\n" for line, refused in zip(requests.split(b"\n"), is_refused) if not refused
+    )
     begun, done = ran(shown, definitions, log, b""), ran(shown, definitions, log, others)
     if done.returncode == 0:
         replies = iter(with_lines(done.stdout[len(begun.stdout) :]))
-        done.stdout = begun.stdout + b"".join(FIXED if refused else next(replies) for refused in is_refused)
+        done.stdout = begun.stdout + b"".join(
+            FIXED if refused else next(replies) for refused in is_refused
+        )
     return done
 
 
@@ -119,7 +164,9 @@ def main() -> int:
     chance = random.Random(int(seed))
     wrong: list[str] = []
     known = list(of_rows())
-    talks = (chance.sample(known, 12) if os.environ.get("REFUSE") else known) + list(at_random(int(count), chance))
+    talks = (chance.sample(known, 12) if os.environ.get("REFUSE") else known) + list(
+        at_random(int(count), chance)
+    )
     looked = fixed = 0
     for talk in talks:
         name, definitions, log, requests = talk
@@ -133,11 +180,19 @@ def main() -> int:
             continue
         looked += 1
         fixed += FIXED in wanted.stdout
-        if (found.returncode, found.stdout, found.stderr) != (wanted.returncode, wanted.stdout, wanted.stderr):
-            wrong.append(f"{name}, {size}: {found.returncode} {found.stderr[-200:]!r}, wanted {wanted.returncode} {wanted.stderr[-200:]!r}")
+        if (found.returncode, found.stdout, found.stderr) != (
+            wanted.returncode,
+            wanted.stdout,
+            wanted.stderr,
+        ):
+            wrong.append(
+                f"{name}, {size}: {found.returncode} {found.stderr[-200:]!r}, wanted {wanted.returncode} {wanted.stderr[-200:]!r}"
+            )
     for line in wrong[:20]:
         print(f"wrong: {line}")
-    print(f"coordinated: {looked} conversations, {fixed} of them over a fixed shelf, {len(wrong)} wrong")
+    print(
+        f"coordinated: {looked} conversations, {fixed} of them over a fixed shelf, {len(wrong)} wrong"
+    )
     return 1 if wrong or not looked else 0
 
 

@@ -36,17 +36,32 @@ STATES = ["waiting", "committed", "failed", "undone", "fixed"]
 STACK = 256 * 1024
 
 # The words of the program for a call: its command; its texts follow.
-COMMANDS = {"plan": "plan", "check": "check", "draw": "draw", "draw_case": "draw", "draw_answer": "draw", "audit_all": "audit"}
+COMMANDS = {
+    "plan": "plan",
+    "check": "check",
+    "draw": "draw",
+    "draw_case": "draw",
+    "draw_answer": "draw",
+    "audit_all": "audit",
+}
 
 
 def by_program(question: Question) -> Reply:
     """What the program answers: its status, and what it prints, or with status 3 its line on standard error."""
     call, texts = question
-    with tempfile.TemporaryDirectory(dir="/dev/shm" if os.path.isdir("/dev/shm") else None) as folder:
+    with tempfile.TemporaryDirectory(
+        dir="/dev/shm" if os.path.isdir("/dev/shm") else None
+    ) as folder:
         paths = [Path(folder, str(place)) for place in range(len(texts))]
         for path, text in zip(paths, texts):
             path.write_bytes(text)
-        done = subprocess.run([PROGRAM, COMMANDS[call], *map(str, paths)], stdin=subprocess.DEVNULL, capture_output=True, timeout=120, check=False)
+        done = subprocess.run(
+            [PROGRAM, COMMANDS[call], *map(str, paths)],
+            stdin=subprocess.DEVNULL,
+            capture_output=True,
+            timeout=120,
+            check=False,
+        )
     return done.returncode, done.stderr if done.returncode == 3 else done.stdout
 
 
@@ -56,10 +71,19 @@ def by_library(loaded: ctypes.CDLL, question: Question) -> Reply:
     if call != "audit_all":
         return library.call(loaded, f"sagas_{call}", texts)
     starts = [sum(map(len, texts[1 : place + 1])) for place in range(len(texts))]
-    replies = [library.call(loaded, "sagas_audit_all", [texts[0], b"".join(texts[1:])], list(zip(starts, starts[1:])))]
+    replies = [
+        library.call(
+            loaded,
+            "sagas_audit_all",
+            [texts[0], b"".join(texts[1:])],
+            list(zip(starts, starts[1:])),
+        )
+    ]
     if len(texts) == 2:
         replies.append(library.call(loaded, "sagas_audit", texts))
-    return replies[-1] if len(set(replies)) == 1 else (-1, b"sagas_audit and sagas_audit_all differ")
+    return (
+        replies[-1] if len(set(replies)) == 1 else (-1, b"sagas_audit and sagas_audit_all differ")
+    )
 
 
 def of_rows() -> Iterator[Question]:
@@ -91,7 +115,9 @@ def definition(chance: random.Random) -> tuple[str, int]:
             lines.append(f"needs = [{', '.join(json.dumps(f's{need}') for need in needs)}]")
         for key in ("run", "undo", "skip", "keep"):
             if chance.random() < 0.5:
-                lines.append(f"{key} = {chance.choice([chance.randrange(100), chance.randrange(1_000_000_001), json.dumps('never')])}")
+                lines.append(
+                    f"{key} = {chance.choice([chance.randrange(100), chance.randrange(1_000_000_001), json.dumps('never')])}"
+                )
     return "\n".join(lines) + "\n", count
 
 
@@ -105,23 +131,49 @@ def log(chance: random.Random, count: int) -> str:
     """A log: events of a saga, most of them in an order that is allowed."""
     lines: list[dict[str, object]] = [{"def": 0, "event": "open", "saga": 0}]
     for step in range(count):
-        lines += [{"event": "start_run", "saga": 0, "step": step}, {"event": chance.choice(["commit", "commit", "commit", "fail"]), "saga": 0, "step": step}]
+        lines += [
+            {"event": "start_run", "saga": 0, "step": step},
+            {
+                "event": chance.choice(["commit", "commit", "commit", "fail"]),
+                "saga": 0,
+                "step": step,
+            },
+        ]
     if chance.random() < 0.3:
         chance.shuffle(lines)
-    return "".join(json.dumps(line, separators=(",", ":")) + "\n" for line in lines[: chance.randrange(1, len(lines) + 1)])
+    return "".join(
+        json.dumps(line, separators=(",", ":")) + "\n"
+        for line in lines[: chance.randrange(1, len(lines) + 1)]
+    )
 
 
 def changed(chance: random.Random, text: bytes) -> bytes:
     """The text with a byte changed, added or taken away, or cut, or with a piece twice."""
     at = chance.randrange(len(text) + 1)
     byte = bytes([chance.choice([0, 10, 34, 44, 48, 93, 125, 195, 255, chance.randrange(256)])])
-    return chance.choice([text[:at] + byte + text[at + 1 :], text[:at] + byte + text[at:], text[:at] + text[at + 1 :], text[:at], text[:at] + text[at // 2 :]])
+    return chance.choice(
+        [
+            text[:at] + byte + text[at + 1 :],
+            text[:at] + byte + text[at:],
+            text[:at] + text[at + 1 :],
+            text[:at],
+            text[:at] + text[at // 2 :],
+        ]
+    )
 
 
 def deep() -> Iterator[Question]:
     """Texts that are nested as deep as they can be."""
     case, chain = making.states(1024, "committed", "failed").encode(), making.chain(1024).encode()
-    for said in (b"a=" + b"[" * 100000, b"a=" + b"{a=" * 100000, b".".join([b"a"] * 100000) + b"=1", b"[[a]]\n" * 50000, chain, making.backward(1024).encode(), making.named("s0", 8192).encode()):
+    for said in (
+        b"a=" + b"[" * 100000,
+        b"a=" + b"{a=" * 100000,
+        b".".join([b"a"] * 100000) + b"=1",
+        b"[[a]]\n" * 50000,
+        chain,
+        making.backward(1024).encode(),
+        making.named("s0", 8192).encode(),
+    ):
         yield "plan", [said, case]
     yield "plan", [chain, b"[" * 1000000]
     yield "check", [chain, case, b'{"a":' * 200000]
@@ -141,7 +193,10 @@ def at_random(chance: random.Random, loaded: ctypes.CDLL) -> Iterator[Question]:
     yield "plan", texts[:2]
     yield "check", texts
     yield chance.choice([("draw", texts[:1]), ("draw_case", texts[:2]), ("draw_answer", texts)])
-    yield "audit_all", [changed(chance, told) if chance.random() < 0.3 else told, *texts[:1] * chance.choice([1, 1, 2])]
+    yield "audit_all", [
+        changed(chance, told) if chance.random() < 0.3 else told,
+        *texts[:1] * chance.choice([1, 1, 2]),
+    ]
 
 
 def main() -> int:
@@ -161,11 +216,15 @@ def main() -> int:
     threading.stack_size(STACK)
     with ThreadPoolExecutor() as pool:
         found = list(pool.map(lambda question: by_library(proved, question), questions))
-    kinds = Counter((status, said.split(b" ")[0][:8] if status < 3 else said) for status, said in wanted)
+    kinds = Counter(
+        (status, said.split(b" ")[0][:8] if status < 3 else said) for status, said in wanted
+    )
     wrong = [number for number in range(len(questions)) if found[number] != wanted[number]]
     for number in wrong[:5]:
         print(f"wrong: {questions[number]}: found {found[number]}, wanted {wanted[number]}")
-    print(f"same: {known} questions of rows and deep texts, {len(questions) - known} at random from the seed {seed}, {len(kinds)} kinds of reply; {len(wrong)} wrong")
+    print(
+        f"same: {known} questions of rows and deep texts, {len(questions) - known} at random from the seed {seed}, {len(kinds)} kinds of reply; {len(wrong)} wrong"
+    )
     return 1 if wrong else 0
 
 

@@ -78,11 +78,39 @@ def page(browser: Chromium) -> Iterator[Chromium]:
 
 
 EXAMPLES: list[tuple[str, int, str, str, int, list[str]]] = [
-    ("plan", 0, "good", "Plan of minimum cost 38: keep flight, car", 2, ["keep", "keep", "skip", "skip"]),
-    ("plan", 1, "good", "Plan of minimum cost 8: keep nothing; undo reserve, charge, pack", 0, ["undo", "undo", "undo", "skip"]),
-    ("plan", 2, "good", "Plan of minimum cost 20: keep machine, disk", 2, ["keep", "keep", "skip", "skip"]),
+    (
+        "plan",
+        0,
+        "good",
+        "Plan of minimum cost 38: keep flight, car",
+        2,
+        ["keep", "keep", "skip", "skip"],
+    ),
+    (
+        "plan",
+        1,
+        "good",
+        "Plan of minimum cost 8: keep nothing; undo reserve, charge, pack",
+        0,
+        ["undo", "undo", "undo", "skip"],
+    ),
+    (
+        "plan",
+        2,
+        "good",
+        "Plan of minimum cost 20: keep machine, disk",
+        2,
+        ["keep", "keep", "skip", "skip"],
+    ),
     ("plan", 3, "no", "No plan is feasible", 2, ["", ""]),
-    ("judge", 0, "good", "Valid: a plan of minimum cost 38: keep flight, car", 2, ["keep", "keep", "skip", "skip"]),
+    (
+        "judge",
+        0,
+        "good",
+        "Valid: a plan of minimum cost 38: keep flight, car",
+        2,
+        ["keep", "keep", "skip", "skip"],
+    ),
     ("judge", 3, "no", "Valid: no plan is feasible", 2, ["", ""]),
     ("judge", 4, "no", "This certificate is not valid", 0, ["", "", "", ""]),
     ("audit", 0, "good", "Valid: every event was allowed", 0, []),
@@ -108,16 +136,26 @@ def test_the_certificate_is_the_programs(page: Chromium) -> None:
     assert judged["verdict"].startswith("Valid: a plan of minimum cost 38")
     page.show("plan", 0)
     page.run("document.getElementById('copy').click()")
-    assert page.until("return document.getElementById('copied').textContent").startswith("The certificate is")
+    assert page.until("return document.getElementById('copied').textContent").startswith(
+        "The certificate is"
+    )
 
 
 FAULTS = [
     ({"definition": "name"}, "definition", "sagas: definition: not-toml"),
     ({"definition": "", "case": ""}, "definition", "sagas: definition: bad-format"),
-    ({"definition": TRIP + '[[step]]\nname = "x"\nneeds = ["x"]\n'}, "definition", "sagas: definition: cycle"),
+    (
+        {"definition": TRIP + '[[step]]\nname = "x"\nneeds = ["x"]\n'},
+        "definition",
+        "sagas: definition: cycle",
+    ),
     ({"definition": TRIP.replace("car", "c\u00e4r")}, "definition", "sagas: definition: bad-name"),
     ({"definition": TRIP.replace("trip", HOSTILE)}, "definition", "sagas: definition: not-toml"),
-    ({"definition": f"format = 1\nname = 't'\nstep = [{{ name = {json.dumps(HOSTILE)} }}]"}, "definition", "sagas: definition: bad-name"),
+    (
+        {"definition": f"format = 1\nname = 't'\nstep = [{{ name = {json.dumps(HOSTILE)} }}]"},
+        "definition",
+        "sagas: definition: bad-name",
+    ),
     ({"case": "{"}, "case", "sagas: case: not-json"),
     ({"case": HOSTILE}, "case", "sagas: case: not-json"),
     ({"case": '{"states":["failed"]}'}, "case", "sagas: case: wrong-length"),
@@ -125,8 +163,14 @@ FAULTS = [
 ]
 
 
-@pytest.mark.parametrize(("texts", "field", "line"), FAULTS, ids=[f"{field} {number}" for number, (_, field, _) in enumerate(FAULTS)])
-def test_faults_are_told_where_they_stand(page: Chromium, texts: dict[str, str], field: str, line: str) -> None:
+@pytest.mark.parametrize(
+    ("texts", "field", "line"),
+    FAULTS,
+    ids=[f"{field} {number}" for number, (_, field, _) in enumerate(FAULTS)],
+)
+def test_faults_are_told_where_they_stand(
+    page: Chromium, texts: dict[str, str], field: str, line: str
+) -> None:
     page.show("plan", 0)
     found = page.put(texts)
     assert (found["kind"], found["faults"], found["checked"]) == ("bad", [field], line)
@@ -142,28 +186,51 @@ def test_a_line_that_is_no_toml_is_named(page: Chromium) -> None:
     """The first one, also behind a list over several lines, in the second of two definitions, and twice a key; whoever types keeps the place."""
     page.show("plan", 0)
     several = TRIP.replace('needs = ["flight"]', 'needs = [\n  "flight",\n]')
-    for text, wrong in ((TRIP, "undo = five"), (several, "undo = five"), (several, "keep = 3\nkeep = 4"), (TRIP, "undo = ")):
+    for text, wrong in (
+        (TRIP, "undo = five"),
+        (several, "undo = five"),
+        (several, "keep = 3\nkeep = 4"),
+        (TRIP, "undo = "),
+    ):
         text = text.replace("keep = 3" if "keep" in wrong else "undo = 5", wrong)
         line = wrong.split("\n")[-1]
         found = page.put({"definition": text})
-        assert found["checked"] == "sagas: definition: not-toml" and f"line {text.split(chr(10)).index(line) + 1}:" in found["remedy"], found
+        assert (
+            found["checked"] == "sagas: definition: not-toml"
+            and f"line {text.split(chr(10)).index(line) + 1}:" in found["remedy"]
+        ), found
         assert found["fault"].endswith(f": {line}")
-    page.run("document.getElementById('definition').focus(); document.getElementById('definition').setSelectionRange(7, 7)")
+    page.run(
+        "document.getElementById('definition').focus(); document.getElementById('definition').setSelectionRange(7, 7)"
+    )
     page.change("document.getElementById('definition').dispatchEvent(new Event('input'))")
     assert page.run("return document.getElementById('definition').selectionEnd") == 7
     page.show("audit", 0)
     found = page.put({"definition": TRIP + "---\n" + TRIP.replace("undo = 5", "undo = five")})
-    assert f"line {2 + TRIP.count(chr(10)) + TRIP.split(chr(10)).index('undo = 5')}:" in found["remedy"], found
+    assert (
+        f"line {2 + TRIP.count(chr(10)) + TRIP.split(chr(10)).index('undo = 5')}:"
+        in found["remedy"]
+    ), found
 
 
 def test_faults_of_certificates_and_logs(page: Chromium) -> None:
     page.show("judge", 0)
-    for answer, kind, checked in (("[]", "bad", "sagas: answer: kind"), (HOSTILE, "bad", "sagas: answer: not-json"), (TRIP_ANSWER.replace("[0,1]", "[0]", 1), "no", "Verified here")):
+    for answer, kind, checked in (
+        ("[]", "bad", "sagas: answer: kind"),
+        (HOSTILE, "bad", "sagas: answer: not-json"),
+        (TRIP_ANSWER.replace("[0,1]", "[0]", 1), "no", "Verified here"),
+    ):
         found = page.put({"answer": answer})
-        assert (found["kind"], found["faults"]) == (kind, ["answer"]) and found["checked"].startswith(checked)
+        assert (found["kind"], found["faults"]) == (kind, ["answer"]) and found[
+            "checked"
+        ].startswith(checked)
     page.show("audit", 0)
     found = page.put({"log": '{"format":2}\n{}\n'})
-    assert (found["kind"], found["faults"], found["checked"]) == ("bad", ["log"], "sagas: log: line 2: kind") and "2: {}" in found["fault"]
+    assert (found["kind"], found["faults"], found["checked"]) == (
+        "bad",
+        ["log"],
+        "sagas: log: line 2: kind",
+    ) and "2: {}" in found["fault"]
     found = page.put({"definition": TRIP + "---\nname"})
     assert found["checked"] == "sagas: log: line 2: kind"
     found = page.put({"log": ""})
@@ -174,18 +241,30 @@ def test_faults_of_certificates_and_logs(page: Chromium) -> None:
 
 def test_states_by_clicks_and_keys(page: Chromium) -> None:
     page.show("plan", 0)
-    found = page.change("document.querySelector('[data-step=\"2\"]').dispatchEvent(new MouseEvent('click', { bubbles: true }))")
+    found = page.change(
+        "document.querySelector('[data-step=\"2\"]').dispatchEvent(new MouseEvent('click', { bubbles: true }))"
+    )
     assert json.loads(found["case"])["states"] == ["committed", "committed", "undone", "waiting"]
     page.run("document.querySelector('.node[data-step=\"1\"]').focus()")
     before = page.run("return document.body.dataset.rounds")
     page.driver.switch_to.active_element.send_keys(Keys.ENTER)
     page.until("return document.body.dataset.rounds !== arguments[0]", before)
-    assert json.loads(page.shown()["case"])["states"] == ["committed", "failed", "undone", "waiting"]
+    assert json.loads(page.shown()["case"])["states"] == [
+        "committed",
+        "failed",
+        "undone",
+        "waiting",
+    ]
     assert page.run("return document.activeElement.dataset.step") == "1"
-    found = page.change("const it = document.querySelector('select[data-step=\"0\"]'); it.value = 'waiting'; it.dispatchEvent(new Event('change'))")
+    found = page.change(
+        "const it = document.querySelector('select[data-step=\"0\"]'); it.value = 'waiting'; it.dispatchEvent(new Event('change'))"
+    )
     assert json.loads(found["case"])["states"] == ["waiting", "failed", "undone", "waiting"]
     found = page.change("document.getElementById('aborted').click()")
-    assert json.loads(found["case"]) == {"aborted": True, "states": ["waiting", "failed", "undone", "waiting"]}
+    assert json.loads(found["case"]) == {
+        "aborted": True,
+        "states": ["waiting", "failed", "undone", "waiting"],
+    }
     assert found["shall"] == ["skip"] * 4
 
 
@@ -195,10 +274,25 @@ def test_by_the_keyboard_alone(page: Chromium) -> None:
     seen = []
     for _ in range(40):
         page.driver.switch_to.active_element.send_keys(Keys.TAB)
-        seen.append(page.run("const it = document.activeElement; return it.id || it.name || it.dataset.step || it.tagName"))
+        seen.append(
+            page.run(
+                "const it = document.activeElement; return it.id || it.name || it.dataset.step || it.tagName"
+            )
+        )
         if seen[-1] == "judge":
             break
-    for wanted in ("mode", "example", "definition", "case", "aborted", "waiting", "0", "3", "copy", "judge"):
+    for wanted in (
+        "mode",
+        "example",
+        "definition",
+        "case",
+        "aborted",
+        "waiting",
+        "0",
+        "3",
+        "copy",
+        "judge",
+    ):
         assert wanted in seen, seen
     page.run("document.querySelector('input[name=mode]:checked').focus()")
     before = page.run("return document.body.dataset.rounds")
@@ -215,7 +309,9 @@ def test_names_for_readers(page: Chromium) -> None:
             .filter(it => !(it.getAttribute('aria-label') || it.labels?.length || it.textContent.trim())).map(it => it.outerHTML.slice(0, 80));"""
         )
         assert unnamed == []
-    assert page.run("const it = document.getElementById('told'); return [it.getAttribute('role'), it.getAttribute('aria-live')]") == ["status", "polite"]
+    assert page.run(
+        "const it = document.getElementById('told'); return [it.getAttribute('role'), it.getAttribute('aria-live')]"
+    ) == ["status", "polite"]
 
 
 def test_the_programs_bytes(page: Chromium) -> None:
@@ -226,8 +322,18 @@ def test_the_programs_bytes(page: Chromium) -> None:
     for number in range(int(os.environ.get("PAGE_SAGAS", "75"))):
         questions += same.at_random(random.Random(f"page {number}"), loaded)
     long = b" " * (1 << 20) + b"x"
-    questions += [("plan", [b"", b""]), ("plan", [b"\xff\0", b"{}"]), ("draw", [long]), ("check", [b"format=1", long, long]), ("audit_all", [b"\0\n\xff", b""])]
-    questions += [("plan", [TRIP.encode(), b"[" * 100000]), ("plan", [TRIP.encode(), b'{"states":[' + b"0," * 300000 + b"0]}"]), ("audit_all", [b"", *[b""] * 65])]
+    questions += [
+        ("plan", [b"", b""]),
+        ("plan", [b"\xff\0", b"{}"]),
+        ("draw", [long]),
+        ("check", [b"format=1", long, long]),
+        ("audit_all", [b"\0\n\xff", b""]),
+    ]
+    questions += [
+        ("plan", [TRIP.encode(), b"[" * 100000]),
+        ("plan", [TRIP.encode(), b'{"states":[' + b"0," * 300000 + b"0]}"]),
+        ("audit_all", [b"", *[b""] * 65]),
+    ]
     assert page.calls(questions) == [same.by_program(question) for question in questions]
 
 
@@ -238,11 +344,19 @@ def test_prices_and_reasons(page: Chromium) -> None:
         chance = random.Random(f"prices {number}")
         definition, count = same.definition(chance)
         found = page.put({"definition": definition, "case": same.case(chance, count)})
-        prices = page.run("return [...document.querySelectorAll('#steps td.price.taken')].map(it => it.textContent)")
-        reasons = page.run("return [...document.querySelectorAll('#steps td.why')].map(it => it.textContent)")
+        prices = page.run(
+            "return [...document.querySelectorAll('#steps td.price.taken')].map(it => it.textContent)"
+        )
+        reasons = page.run(
+            "return [...document.querySelectorAll('#steps td.why')].map(it => it.textContent)"
+        )
         if found["kind"] == "good":
             plans += 1
-            cost = found["checked"].removeprefix("Planned, then verified here by the proved checker: least ").rstrip(".")
+            cost = (
+                found["checked"]
+                .removeprefix("Planned, then verified here by the proved checker: least ")
+                .rstrip(".")
+            )
             assert sum(int(price.replace(",", "")) for price in prices) == int(cost)
             assert len(reasons) == count and all(reasons)
     assert plans > 5
@@ -277,7 +391,13 @@ def test_a_saga_of_1024_steps(page: Chromium) -> None:
 
 
 def test_a_browser_that_cannot(browser: Chromium) -> None:
-    for script, why in (("delete window.WebAssembly;", "WebAssembly"), ("WebAssembly.compile = async () => { throw new WebAssembly.CompileError('unknown'); };", "unknown")):
+    for script, why in (
+        ("delete window.WebAssembly;", "WebAssembly"),
+        (
+            "WebAssembly.compile = async () => { throw new WebAssembly.CompileError('unknown'); };",
+            "unknown",
+        ),
+    ):
         added = browser.tell("Page.addScriptToEvaluateOnNewDocument", source=script)
         try:
             browser.open(PAGE.as_uri())
@@ -297,5 +417,7 @@ def test_looks(page: Chromium, width: int, is_dark: bool) -> None:
         page.show(mode, example)
         assert page.run("return document.documentElement.scrollWidth") <= width
         page.picture(PICTURES / f"{width}-{'dark' if is_dark else 'light'}-{mode}-{example}.png")
-    ground = page.run("return getComputedStyle(document.body).backgroundColor.match(/\\d+/g).map(Number)")
+    ground = page.run(
+        "return getComputedStyle(document.body).backgroundColor.match(/\\d+/g).map(Number)"
+    )
     assert (max(ground) < 80) == is_dark

@@ -35,14 +35,23 @@ attributes #1 = { nounwind }
 def test_what_changes() -> None:
     made = retargeted(MODULE)
     assert 'target triple = "wasm64-unknown-unknown"' in made and "x86" not in made
-    assert '"wasm-export-name"="sagas_plan"' in made and 'define internal i32 @"rattle::export sagas_plan"(ptr %a, i64 %b) #0 {' in made
+    assert (
+        '"wasm-export-name"="sagas_plan"' in made
+        and 'define internal i32 @"rattle::export sagas_plan"(ptr %a, i64 %b) #0 {' in made
+    )
     assert "  %b = add i64 %a, 1\n  ret i64 %b\n}" in made
 
 
 def test_an_export_that_is_left_out() -> None:
-    other = MODULE.replace("define i32 @sagas_plan", "define noundef i32 @sagas_open(ptr %a) #0 {\n  ret i32 1\n}\n\ndefine i32 @sagas_plan")
+    other = MODULE.replace(
+        "define i32 @sagas_plan",
+        "define noundef i32 @sagas_open(ptr %a) #0 {\n  ret i32 1\n}\n\ndefine i32 @sagas_plan",
+    )
     made = retargeted(other, frozenset({"sagas_open"}))
-    assert "define internal noundef i32 @sagas_open(ptr %a) #0 {" in made and '"wasm-export-name"="sagas_open"' not in made
+    assert (
+        "define internal noundef i32 @sagas_open(ptr %a) #0 {" in made
+        and '"wasm-export-name"="sagas_open"' not in made
+    )
     with pytest.raises(SystemExit, match="no export sagas_reply"):
         retargeted(other, frozenset({"sagas_reply"}))
 
@@ -58,7 +67,15 @@ def test_an_export_that_is_left_out() -> None:
         "define void @other() {\n  ret void\n}\n",
         'target triple = "x86_64-unknown-linux-gnu"\n',
     ],
-    ids=["a function", "an intrinsic", "assembly", "a thread's global", "a float's flag", "an export", "two targets"],
+    ids=[
+        "a function",
+        "an intrinsic",
+        "assembly",
+        "a thread's global",
+        "a float's flag",
+        "an export",
+        "two targets",
+    ],
 )
 def test_it_stops_at_what_it_does_not_know(line: str) -> None:
     with pytest.raises(SystemExit, match="page: the module has what this script does not know"):

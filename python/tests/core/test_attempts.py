@@ -14,7 +14,18 @@ import pytest
 import sagas
 from sagas.core import early_reports, outcomes, states
 from sagas.core.attempts import LOOK, AttemptMachine, is_asked, is_simple, will_be_asked
-from sagas.core.decisions import CALL, FOLLOW, NOTHING, OFFER, REPORT, REPORT_AGAIN, SLEEP, WITHDRAW, Decision, Do
+from sagas.core.decisions import (
+    CALL,
+    FOLLOW,
+    NOTHING,
+    OFFER,
+    REPORT,
+    REPORT_AGAIN,
+    SLEEP,
+    WITHDRAW,
+    Decision,
+    Do,
+)
 from sagas.core.early_reports import EarlyReport
 from sagas.core.model import Attempt, SagaInstance
 from sagas.core.outcomes import Outcome
@@ -32,7 +43,8 @@ class Where:
 
     timeout = 60.0
 
-    def declare(self, *words: Any) -> None: ...
+    def declare(self, *words: Any) -> None:
+        ...
 
 
 def due(task: sagas.Task[Any]) -> Any:
@@ -51,22 +63,28 @@ def trip() -> sagas.Saga:
     saga = sagas.Saga("trip")
 
     @saga.step(undo=0, tries=3, backoff=WAIT)
-    async def simple(task: sagas.Task[Any]) -> None: ...
+    async def simple(task: sagas.Task[Any]) -> None:
+        ...
 
     @saga.step(undo=0, tries=3, backoff=WAIT, max_unknown=2)
-    def plain(task: sagas.Task[Any]) -> None: ...
+    def plain(task: sagas.Task[Any]) -> None:
+        ...
 
     @saga.step(undo=0, backoff=WAIT, max_unknown=datetime.timedelta(seconds=30))
-    def timed(task: sagas.Task[Any]) -> None: ...
+    def timed(task: sagas.Task[Any]) -> None:
+        ...
 
     @saga.wait(until=datetime.timedelta(seconds=30), tries=2)
-    def pause(task: sagas.Task[Any]) -> None: ...
+    def pause(task: sagas.Task[Any]) -> None:
+        ...
 
     @saga.wait(until=due, tries=2)
-    def later(task: sagas.Task[Any]) -> None: ...
+    def later(task: sagas.Task[Any]) -> None:
+        ...
 
     @saga.approval(timeout=60)
-    def sign(task: sagas.Task[Any]) -> None: ...
+    def sign(task: sagas.Task[Any]) -> None:
+        ...
 
     saga.step(name="outside", undo=0, tries=2, external=True, backoff=WAIT)
     saga.step(name="sent", undo=0, queue=Where(), backoff=WAIT)(lambda task: None)  # type: ignore[arg-type]
@@ -84,7 +102,9 @@ def checked() -> Iterator[None]:
     states.Check.is_on = before
 
 
-def attempt_of(step: str, number: int = 1, kind: str = "run", text: str = "null", fresh: bool = True) -> Attempt:
+def attempt_of(
+    step: str, number: int = 1, kind: str = "run", text: str = "null", fresh: bool = True
+) -> Attempt:
     """An attempt that was claimed, alone in its saga."""
     instance = SagaInstance("k", text, KIND, 0)
     instance.token = "test-0"
@@ -120,7 +140,9 @@ def test_a_retry_waits_for_its_back_off() -> None:
     attempt = attempt_of("simple", 3)
     attempt.instance.rare.missed_at[attempt.word] = NOW - 5
     assert MACHINE.begin(attempt, NOW) is SLEEP
-    assert (attempt.reason, attempt.until) == (Suspension.BACKOFF, NOW + 15) and MACHINE.delay(attempt, NOW) == 15
+    assert (attempt.reason, attempt.until) == (Suspension.BACKOFF, NOW + 15) and MACHINE.delay(
+        attempt, NOW
+    ) == 15
     assert MACHINE.timer(attempt, NOW + 15) is CALL
 
 
@@ -142,20 +164,32 @@ def test_behind_a_permanent_failure_nothing_is_called() -> None:
     attempt = attempt_of("simple", 2)
     attempt.instance.rare.final.add(attempt.word)
     assert MACHINE.begin(attempt, NOW) is REPORT and attempt.at == NOW
-    assert attempt.outcome and attempt.outcome.kind is OutcomeKind.FAILED_PERMANENTLY and not attempt.outcome.called
+    assert (
+        attempt.outcome
+        and attempt.outcome.kind is OutcomeKind.FAILED_PERMANENTLY
+        and not attempt.outcome.called
+    )
 
 
 @pytest.mark.parametrize(
     ("number", "aborted", "fresh", "kind", "leaves"),
     [
         (1, False, True, "run", True),
-        (3, False, True, "run", False),  # the last attempt: to give it up would be a failure that was none
+        (
+            3,
+            False,
+            True,
+            "run",
+            False,
+        ),  # the last attempt: to give it up would be a failure that was none
         (3, True, True, "run", True),
         (1, False, False, "run", False),  # it may have been called
         (1, True, True, "undo", False),
     ],
 )
-def test_what_is_left_out_of_a_saga_that_drains(number: int, aborted: bool, fresh: bool, kind: str, leaves: bool) -> None:
+def test_what_is_left_out_of_a_saga_that_drains(
+    number: int, aborted: bool, fresh: bool, kind: str, leaves: bool
+) -> None:
     attempt = attempt_of("plain", number, kind, fresh=fresh)
     attempt.instance.draining, attempt.instance.aborted = True, aborted
     assert MACHINE.begin(attempt, NOW) is (REPORT if leaves else CALL)
@@ -178,11 +212,20 @@ def test_a_wait_is_stored_then_waits_then_is_called() -> None:
     attempt = attempt_of("pause")
     assert will_be_asked(attempt)
     decision = MACHINE.begin(attempt, NOW)
-    assert decision == Decision(Do.SUSPEND, SuspensionRow(Suspension.TIMER, NOW + 30)) and not decision.timer
+    assert (
+        decision == Decision(Do.SUSPEND, SuspensionRow(Suspension.TIMER, NOW + 30))
+        and not decision.timer
+    )
     attempt.pending = decision.row
     assert not is_asked(attempt) and will_be_asked(attempt)
-    assert MACHINE.stored(attempt) == Decision(Do.SUSPEND, timer=True, event=("step_suspended", "wait"))
-    assert is_asked(attempt) and MACHINE.delay(attempt, NOW) == 30 and MACHINE.delay(attempt, NOW - 900) == LOOK
+    assert MACHINE.stored(attempt) == Decision(
+        Do.SUSPEND, timer=True, event=("step_suspended", "wait")
+    )
+    assert (
+        is_asked(attempt)
+        and MACHINE.delay(attempt, NOW) == 30
+        and MACHINE.delay(attempt, NOW - 900) == LOOK
+    )
     assert MACHINE.timer(attempt, NOW - 900) is SLEEP  # a clock that jumped back
     decision = MACHINE.timer(attempt, NOW + 30)
     assert decision == Decision(Do.SUSPEND, SuspensionRow(Suspension.TIMER, 0.0))
@@ -224,7 +267,9 @@ def test_a_wait_until_a_time_that_the_program_says() -> None:
         ('"none"', OutcomeKind.FAILED, "NoneType"),
     ],
 )
-def test_a_wait_that_cannot_say_its_time_has_failed(text: str, kind: OutcomeKind, told: str) -> None:
+def test_a_wait_that_cannot_say_its_time_has_failed(
+    text: str, kind: OutcomeKind, told: str
+) -> None:
     attempt = attempt_of("later", text=text)
     assert answered(attempt) is REPORT
     assert attempt.outcome and attempt.outcome.kind is kind and told in error_of(attempt)
@@ -252,19 +297,27 @@ def test_a_wait_of_a_saga_that_drains_is_given_up_before_it_waits() -> None:
 # -- outcomes
 
 
-@pytest.mark.parametrize("outcome", [outcomes.succeeded({"a": 1}), outcomes.failure("no"), outcomes.failure("no", final=True)])
+@pytest.mark.parametrize(
+    "outcome",
+    [outcomes.succeeded({"a": 1}), outcomes.failure("no"), outcomes.failure("no", final=True)],
+)
 def test_an_outcome_is_reported(outcome: Outcome) -> None:
     attempt = running("plain")
     assert MACHINE.ended(attempt, outcome, NOW) is REPORT
     assert (attempt.outcome, attempt.at, attempt.state) == (outcome, NOW, AttemptState.FINISHED)
-    assert (attempt.word in attempt.instance.rare.final) is (outcome.kind is OutcomeKind.FAILED_PERMANENTLY)
+    assert (attempt.word in attempt.instance.rare.final) is (
+        outcome.kind is OutcomeKind.FAILED_PERMANENTLY
+    )
 
 
 def test_an_unknown_outcome_is_called_again_until_a_person_has_to_say() -> None:
     attempt, now = running("plain"), NOW
     for count, pause in ((1, 10.0), (2, 20.0)):
         decision = MACHINE.ended(attempt, outcomes.unknown("lost"), now)
-        assert decision.row == SuspensionRow(Suspension.UNKNOWN, now + pause, "lost") and decision.timer
+        assert (
+            decision.row == SuspensionRow(Suspension.UNKNOWN, now + pause, "lost")
+            and decision.timer
+        )
         assert decision.event == ("step_unknown", "lost" if count == 1 else "lost; 2 times so far")
         assert (attempt.count, attempt.since, MACHINE.delay(attempt, now)) == (count, NOW, pause)
         now += pause
@@ -283,7 +336,9 @@ def test_an_unknown_outcome_may_be_bounded_by_time() -> None:
     MACHINE.ended(attempt, outcomes.unknown("lost"), NOW)
     attempt.queue()
     attempt.start()
-    assert MACHINE.ended(attempt, outcomes.unknown("lost"), NOW + 30).row == SuspensionRow(Suspension.UNKNOWN, None, "lost")
+    assert MACHINE.ended(attempt, outcomes.unknown("lost"), NOW + 30).row == SuspensionRow(
+        Suspension.UNKNOWN, None, "lost"
+    )
 
 
 def test_a_wait_that_was_given_up_leaves_its_place_to_others() -> None:
@@ -291,7 +346,9 @@ def test_a_wait_that_was_given_up_leaves_its_place_to_others() -> None:
     attempt.rare.gave_way = True
     attempt.rare.count = 6
     MACHINE.ended(attempt, outcomes.unknown("all places are taken"), NOW)
-    assert attempt.until == NOW + 100 and not attempt.rare.gave_way  # its back-off is longer than the 60 s
+    assert (
+        attempt.until == NOW + 100 and not attempt.rare.gave_way
+    )  # its back-off is longer than the 60 s
 
 
 def test_what_cannot_be_decoded_is_parked() -> None:
@@ -304,24 +361,39 @@ def test_what_cannot_be_decoded_is_parked() -> None:
         event=("step_cannot_decode", "input lacks x"),
     )
     attempt.pending = decision.row
-    assert MACHINE.stored(attempt).timer is False and MACHINE.delay(attempt, NOW) is None and is_asked(attempt)
+    assert (
+        MACHINE.stored(attempt).timer is False
+        and MACHINE.delay(attempt, NOW) is None
+        and is_asked(attempt)
+    )
     wait = running("pause")
     wait.instance.rare.due[wait.word] = 0.0
-    assert MACHINE.ended(wait, told, NOW).row == SuspensionRow(Suspension.CANNOT_DECODE, 0.0, "input lacks x")
+    assert MACHINE.ended(wait, told, NOW).row == SuspensionRow(
+        Suspension.CANNOT_DECODE, 0.0, "input lacks x"
+    )
 
 
 def test_an_approval_is_asked_for_and_given_up_in_time() -> None:
     attempt = running("sign")
     decision = MACHINE.ended(attempt, outcomes.succeeded(None), NOW)
-    assert decision == Decision(Do.SUSPEND, SuspensionRow(Suspension.APPROVAL, NOW + 60)) and attempt.fresh
+    assert (
+        decision == Decision(Do.SUSPEND, SuspensionRow(Suspension.APPROVAL, NOW + 60))
+        and attempt.fresh
+    )
     attempt.pending = decision.row
-    assert MACHINE.stored(attempt) == Decision(Do.SUSPEND, timer=True, event=("step_suspended", "approval"))
+    assert MACHINE.stored(attempt) == Decision(
+        Do.SUSPEND, timer=True, event=("step_suspended", "approval")
+    )
     assert MACHINE.timer(attempt, NOW + 59) is SLEEP and MACHINE.timer(attempt, NOW + 60) is REPORT
     assert "nobody approved it" in error_of(attempt) and attempt.word in attempt.instance.rare.final
 
 
 @pytest.mark.parametrize(
-    ("said", "kind"), [(sagas.Approved(5), OutcomeKind.SUCCEEDED), (sagas.Rejected("no"), OutcomeKind.FAILED_PERMANENTLY)]
+    ("said", "kind"),
+    [
+        (sagas.Approved(5), OutcomeKind.SUCCEEDED),
+        (sagas.Rejected("no"), OutcomeKind.FAILED_PERMANENTLY),
+    ],
 )
 def test_an_approval_may_be_decided_by_its_function(said: Any, kind: OutcomeKind) -> None:
     attempt = running("sign")
@@ -337,7 +409,9 @@ def test_a_compensation_of_an_approval_asks_nobody() -> None:
 def test_an_approval_in_a_saga_that_drains_is_given_up() -> None:
     attempt = running("sign")
     attempt.instance.draining = attempt.instance.aborted = True
-    assert MACHINE.ended(attempt, outcomes.succeeded(None), NOW) is REPORT and "being undone" in error_of(attempt)
+    assert MACHINE.ended(
+        attempt, outcomes.succeeded(None), NOW
+    ) is REPORT and "being undone" in error_of(attempt)
 
 
 def test_what_external_workers_may_have_is_withdrawn_first() -> None:
@@ -346,7 +420,10 @@ def test_what_external_workers_may_have_is_withdrawn_first() -> None:
     assert leased.begin(attempt, NOW) is OFFER
     attempt.instance.busy[attempt.word] = attempt
     attempt.instance.draining = attempt.instance.aborted = True
-    assert leased.drain(attempt.instance, NOW) == [(attempt, WITHDRAW)] and attempt.state is AttemptState.SUSPENDED
+    assert (
+        leased.drain(attempt.instance, NOW) == [(attempt, WITHDRAW)]
+        and attempt.state is AttemptState.SUSPENDED
+    )
     assert leased.withdrawn(attempt, NOW) is REPORT and "being undone" in error_of(attempt)
     assert leased.withdrawn(attempt, NOW) is NOTHING
 
@@ -391,7 +468,10 @@ def test_a_row_that_was_on_its_way_is_put_again() -> None:
     attempt.pending = row = MACHINE.ended(attempt, outcomes.unknown("lost"), NOW).row
     assert MACHINE.resume(attempt, NOW + 1) == Decision(Do.SUSPEND, row, timer=True)
     attempt.queue()
-    assert MACHINE.resume(attempt, NOW + 1) == Decision(Do.NOTHING, row) and attempt.state is AttemptState.QUEUED
+    assert (
+        MACHINE.resume(attempt, NOW + 1) == Decision(Do.NOTHING, row)
+        and attempt.state is AttemptState.QUEUED
+    )
     attempt.start()
     assert MACHINE.resume(attempt, NOW + 1) is NOTHING
 
@@ -419,7 +499,11 @@ def test_what_an_earlier_program_had_begun_goes_on_by_its_row(
     assert MACHINE.resume(attempt, NOW) == decision
     assert attempt.fresh is (reason in (Suspension.TIMER, Suspension.APPROVAL) and until != 0)
     if decision is not CALL:
-        assert (attempt.state, attempt.reason, attempt.until) == (AttemptState.SUSPENDED, reason, until)
+        assert (attempt.state, attempt.reason, attempt.until) == (
+            AttemptState.SUSPENDED,
+            reason,
+            until,
+        )
 
 
 def test_what_an_earlier_program_had_begun_without_a_row_begins_again() -> None:
@@ -445,7 +529,14 @@ def test_resumes_one_with_a_child() -> None:
 def test_a_saga_that_drains_gives_up_what_waits_and_was_not_called() -> None:
     instance = attempt_of("plain").instance
     made: dict[str, Attempt] = {}
-    for step, number in (("simple", 2), ("plain", 3), ("timed", 1), ("sign", 1), ("pause", 1), ("later", 1)):
+    for step, number in (
+        ("simple", 2),
+        ("plain", 3),
+        ("timed", 1),
+        ("sign", 1),
+        ("pause", 1),
+        ("later", 1),
+    ):
         attempt = Attempt(instance, KIND.names.index(step), "run", number, fresh=True)
         made[step] = instance.busy[attempt.word] = attempt
     made["simple"].suspend(Suspension.BACKOFF, NOW + 5)
@@ -494,7 +585,16 @@ CHOICES = {
     AttemptState.CLAIMED: ("begin", "resume"),
     AttemptState.QUEUED: ("start", "limit", "resume", "drain", "stored"),
     AttemptState.RUNNING: ("ended", "ended", "claim", "resume", "drain", "stored"),
-    AttemptState.SUSPENDED: ("timer", "timer", "stored", "withdrawn", "resume", "drain", "report", "enter"),
+    AttemptState.SUSPENDED: (
+        "timer",
+        "timer",
+        "stored",
+        "withdrawn",
+        "resume",
+        "drain",
+        "report",
+        "enter",
+    ),
 }
 
 
@@ -523,7 +623,9 @@ def decide(what: str, attempt: Attempt, outcome: Outcome, now: float) -> Decisio
 
 @hypothesis.settings(max_examples=300, deadline=None)
 @hypothesis.given(step=st.sampled_from(KIND.names), number=st.integers(1, 3), data=st.data())
-def test_whatever_happens_each_decision_fits_the_state(step: str, number: int, data: st.DataObject) -> None:
+def test_whatever_happens_each_decision_fits_the_state(
+    step: str, number: int, data: st.DataObject
+) -> None:
     """No transition is missing from the table, what is finished stays so, and nothing is called that waits for its row."""
     attempt, now = attempt_of(step, number), NOW
     attempt.instance.rare.missed_at[attempt.word] = NOW

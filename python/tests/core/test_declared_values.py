@@ -39,10 +39,12 @@ def shop() -> sagas.Saga:
     saga = sagas.Saga("shop", fair_by=lambda given: given["account"])
 
     @saga.step(concurrency=1, concurrency_by=by)
-    def pay(task: sagas.Task[Order]) -> None: ...
+    def pay(task: sagas.Task[Order]) -> None:
+        ...
 
     @pay.compensation
-    def unpay(task: sagas.Task[Order]) -> None: ...
+    def unpay(task: sagas.Task[Order]) -> None:
+        ...
 
     return saga
 
@@ -71,12 +73,19 @@ def limited(attempt: Attempt) -> tuple[str, Decision]:
 def test_the_key_of_a_limit_is_asked_for_once() -> None:
     """A compensation has none; whoever cannot say it is not called."""
     attempt = attempt_of({"account": "a"})
-    assert limited(attempt) == ("fair_by= and concurrency_by=", CALL) and attempt.rare.limit_key == '["a"]'
+    assert (
+        limited(attempt) == ("fair_by= and concurrency_by=", CALL)
+        and attempt.rare.limit_key == '["a"]'
+    )
     attempt.instance.text = "{}"
     assert limited(attempt) == ("", CALL)
     undo = attempt_of({"account": "raises"}, "undo")
     assert limited(undo) == ("fair_by=", CALL) and undo.rare.limit_key is None
-    for given, kind in [("raises", OutcomeKind.FAILED), ("fails", OutcomeKind.FAILED_PERMANENTLY), ("odd", OutcomeKind.FAILED)]:
+    for given, kind in [
+        ("raises", OutcomeKind.FAILED),
+        ("fails", OutcomeKind.FAILED_PERMANENTLY),
+        ("odd", OutcomeKind.FAILED),
+    ]:
         attempt = attempt_of({"account": given})
         assert limited(attempt)[1] == REPORT and attempt.state is AttemptState.FINISHED
         assert attempt.outcome and attempt.outcome.kind is kind
@@ -113,10 +122,23 @@ def noted() -> Exception:
 @pytest.mark.parametrize(
     "error",
     [
-        ValueError("x"), ValueError(), ValueError(" "), ValueError("a\nb"), KeyError("k"), sagas.Fail("no"), SystemExit(1),
-        json.JSONDecodeError("a", "b", 0), Odd(), OSError(2, "no"), SyntaxError("bad", ("f", 1, 2, "text")), noted(),
+        ValueError("x"),
+        ValueError(),
+        ValueError(" "),
+        ValueError("a\nb"),
+        KeyError("k"),
+        sagas.Fail("no"),
+        SystemExit(1),
+        json.JSONDecodeError("a", "b", 0),
+        Odd(),
+        OSError(2, "no"),
+        SyntaxError("bad", ("f", 1, 2, "text")),
+        noted(),
     ],
-)  # fmt: skip
+)
 def test_the_line_of_an_error_is_pythons_own(error: BaseException) -> None:
     """It is made without `traceback`, which takes ten times as long."""
-    assert outcomes.described(error) == "".join(traceback.format_exception_only(type(error), error)).strip()
+    assert (
+        outcomes.described(error)
+        == "".join(traceback.format_exception_only(type(error), error)).strip()
+    )

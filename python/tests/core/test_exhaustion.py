@@ -108,7 +108,10 @@ def test_an_unknown_one_stays_unknown_where_it_is_retried() -> None:
     assert attempt.since == NOW
     decision = exhaustion.retry(attempt, NOW + 5)
     assert attempt.since == NOW + 5
-    assert decision.row and (decision.row.reason, decision.row.error) == (Suspension.UNKNOWN, "lost")
+    assert decision.row and (decision.row.reason, decision.row.error) == (
+        Suspension.UNKNOWN,
+        "lost",
+    )
     assert attempt.count == 0 and attempt.outcome and attempt.outcome.kind is OutcomeKind.UNKNOWN
 
 

@@ -25,9 +25,18 @@ def test_it_waits_for_nothing_that_it_has_not_seen() -> None:
 
 @pytest.mark.parametrize(
     ("coming", "rows", "latency", "waits"),
-    [(9, 8, 0.01, True), (8, 8, 0.01, False), (0, 0, 0.01, False), (9, 8, 0.0001, False), (99, FEW, 0.05, False), (99, FEW, 0.25, True)],
+    [
+        (9, 8, 0.01, True),
+        (8, 8, 0.01, False),
+        (0, 0, 0.01, False),
+        (9, 8, 0.0001, False),
+        (99, FEW, 0.05, False),
+        (99, FEW, 0.25, True),
+    ],
 )
-def test_it_waits_for_more_than_it_has_if_that_comes_soon(coming: int, rows: int, latency: float, waits: bool) -> None:
+def test_it_waits_for_more_than_it_has_if_that_comes_soon(
+    coming: int, rows: int, latency: float, waits: bool
+) -> None:
     """Of few rows up to four times as long as a commit takes, of many half of it."""
     assert taught(0.001).holds(coming, rows, latency, 7.0) is waits
 

@@ -30,10 +30,12 @@ def two() -> Shelf:
     saga = sagas.Saga("two")
 
     @saga.step(tries=2)
-    def a(task: sagas.Task[Any]) -> None: ...
+    def a(task: sagas.Task[Any]) -> None:
+        ...
 
     @a.compensation
-    def unmake(task: sagas.Task[Any]) -> None: ...
+    def unmake(task: sagas.Task[Any]) -> None:
+        ...
 
     saga.step(name="b", needs=[a], tries=2)(lambda task: None)
     return Shelf([saga])
@@ -44,7 +46,9 @@ SHELF = two()
 
 def driver() -> ShardDriver:
     """A new shard with an engine."""
-    found = ShardDriver.created(ShardIdentity(NUMBER, "name", ShardDefinitions(SHELF.kinds)), "line")
+    found = ShardDriver.created(
+        ShardIdentity(NUMBER, "name", ShardDefinitions(SHELF.kinds)), "line"
+    )
     found.to(ShardState.STARTING)
     found.to(ShardState.ACTIVE)
     return found
@@ -68,9 +72,14 @@ def event(word: str, phase: str = "going", number: int = 0) -> str:
 def tasks(*found: tuple[int, int, str, int], settled: bool = False) -> str:
     """The reply to a claim: saga, step, action and number of each."""
     each = ",".join(
-        f'{{"attempt":{count},"name":"x","saga":{saga},"step":{step},"task":"{word}"}}' for saga, step, word, count in found
+        f'{{"attempt":{count},"name":"x","saga":{saga},"step":{step},"task":"{word}"}}'
+        for saga, step, word, count in found
     )
-    return f'{{{chr(34)}settled{chr(34)}:true,"tasks":[{each}]}}' if settled else f'{{"tasks":[{each}]}}'
+    return (
+        f'{{{chr(34)}settled{chr(34)}:true,"tasks":[{each}]}}'
+        if settled
+        else f'{{"tasks":[{each}]}}'
+    )
 
 
 def come(shard: ShardDriver, *replies: str, text: str = "line\n") -> Effects:
@@ -91,7 +100,9 @@ def begun(shard: ShardDriver, key: str = "k") -> Attempt:
     """The first attempt of a saga that is opened."""
     shard.open(instance(key))
     shard.requests(8)
-    (attempt,) = kept(shard, come(shard, opened(shard.opened), tasks((shard.opened, 0, "run", 1)))).dispatch
+    (attempt,) = kept(
+        shard, come(shard, opened(shard.opened), tasks((shard.opened, 0, "run", 1)))
+    ).dispatch
     return attempt
 
 
@@ -101,7 +112,11 @@ def test_a_saga_from_its_start_to_its_end() -> None:
     shard.open(saga)
     assert shard.requests(8) == ['{"def":0,"do":"open","saga":0}', '{"do":"next","most":2}']
     effects = come(shard, opened(0), tasks((0, 0, "run", 1)))
-    assert effects.batch.opened == [(7000, "k", "two", 0, '{"n":1}', NOW, None, None)] and effects.batch.born and effects.unclaimed == 1
+    assert (
+        effects.batch.opened == [(7000, "k", "two", 0, '{"n":1}', NOW, None, None)]
+        and effects.batch.born
+        and effects.unclaimed == 1
+    )
     assert effects.opened == [saga] and not saga.committed and shard.sent and shard.events == 1
     shard.writes(effects)
     assert shard.unwritten == 1 and not shard.is_over
@@ -113,12 +128,28 @@ def test_a_saga_from_its_start_to_its_end() -> None:
         attempt.finish(outcomes.Outcome(outcomes.SUCCEEDED, str(step)), NOW)
         shard.report(attempt)
         assert [*shard.unkept()] == [attempt] and shard.is_due(may_claim=False)
-        assert shard.requests(8)[0] == f'{{"attempt":1,"do":"report","outcome":"ok","saga":0,"step":{step},"task":"run"}}'
-        following = [tasks((0, 1, "run", 1))] if phase == "going" else ['{"settled":true,"tasks":[]}']
+        assert (
+            shard.requests(8)[0]
+            == f'{{"attempt":1,"do":"report","outcome":"ok","saga":0,"step":{step},"task":"run"}}'
+        )
+        following = (
+            [tasks((0, 1, "run", 1))] if phase == "going" else ['{"settled":true,"tasks":[]}']
+        )
         effects = kept(shard, come(shard, event("commit", phase), *following))
-        assert effects.reported == [attempt] and effects.batch.results == [(7000, step, "run", 1, "commit", str(step), NOW)]
-    assert [row[0] for row in effects.batch.ended] == ["ended"] and effects.ended == [saga] and saga.over
-    assert shard.is_over and not shard.hungry and not shard.is_due(may_claim=True) and shard.requests(8) == []
+        assert effects.reported == [attempt] and effects.batch.results == [
+            (7000, step, "run", 1, "commit", str(step), NOW)
+        ]
+    assert (
+        [row[0] for row in effects.batch.ended] == ["ended"]
+        and effects.ended == [saga]
+        and saga.over
+    )
+    assert (
+        shard.is_over
+        and not shard.hungry
+        and not shard.is_due(may_claim=True)
+        and shard.requests(8) == []
+    )
 
 
 def test_no_more_tasks_are_claimed_than_there_are_slots() -> None:
@@ -126,10 +157,19 @@ def test_no_more_tasks_are_claimed_than_there_are_slots() -> None:
     shard = driver()
     for number in range(MOST_REPORTS + 10):
         shard.open(instance(f"k{number}"))
-    assert len(shard.requests(0)) == MOST_REPORTS and shard.asked and shard.asked.claims == 0 and len(shard.opens) == 10
+    assert (
+        len(shard.requests(0)) == MOST_REPORTS
+        and shard.asked
+        and shard.asked.claims == 0
+        and len(shard.opens) == 10
+    )
     come(shard, *(opened(number) for number in range(MOST_REPORTS)))
     assert shard.hungry and not shard.is_due(may_claim=False) or shard.opens
-    assert shard.requests(3)[-1] == '{"do":"next","most":3}' and shard.unask() == 3 and shard.asked is None
+    assert (
+        shard.requests(3)[-1] == '{"do":"next","most":3}'
+        and shard.unask() == 3
+        and shard.asked is None
+    )
 
 
 def test_a_shard_that_is_full_takes_no_more() -> None:
@@ -139,7 +179,12 @@ def test_a_shard_that_is_full_takes_no_more() -> None:
         shard.open(saga)
     shard.requests(0)
     effects = come(shard, opened(0), '{"refused":"full"}', '{"refused":"number"}')
-    assert effects.rare.displaced == lives[1:] and shard.is_full and not shard.has_room(1000) and shard.reserved == shard.opened == 1
+    assert (
+        effects.rare.displaced == lives[1:]
+        and shard.is_full
+        and not shard.has_room(1000)
+        and shard.reserved == shard.opened == 1
+    )
     empty, saga = driver(), SagaInstance("k", "1", two().kinds[0], 0)
     empty.open(saga)
     empty.requests(0)
@@ -150,20 +195,36 @@ def test_a_shard_that_is_full_takes_no_more() -> None:
 def test_a_saga_whose_deadline_has_passed_is_aborted_as_it_is_opened() -> None:
     """No task of it is claimed: it is planned, and over in the batch that opens it. Where there is no room, it is opened elsewhere."""
     shard, soon = driver(), instance("soon")
-    late, later = (SagaInstance(key, '{"n":1}', SHELF.kinds[0], 0, StartOptions(deadline=NOW)) for key in "ab")
+    late, later = (
+        SagaInstance(key, '{"n":1}', SHELF.kinds[0], 0, StartOptions(deadline=NOW)) for key in "ab"
+    )
     for saga in (soon, late, later):
         shard.open(saga)
     assert shard.requests(1, NOW)[3:] == [
-        '{"do":"abort","saga":1}', '{"do":"abort","saga":2}', '{"do":"next","most":3}', '{"do":"show","saga":1}',
+        '{"do":"abort","saga":1}',
+        '{"do":"abort","saga":2}',
+        '{"do":"next","most":3}',
+        '{"do":"show","saga":1}',
         '{"do":"show","saga":2}',
-    ]  # fmt: skip
+    ]
     plan = {"answer": {"kind": "plan", "cost": 3}, "phase": "ended", "saga": 1, "task": "plan"}
     claimed = json.dumps({"tasks": [{"attempt": 1, "saga": 0, "step": 0, "task": "run"}, plan]})
     aborted, no = event("abort", "draining", 1), '{"refused":"no-such-saga"}'
     end = shown("ended", plan["answer"], ["waiting", "waiting"])
-    effects = kept(shard, come(shard, opened(0), opened(1), '{"refused":"full"}', aborted, no, claimed, end, no))
-    assert effects.rare.overdue == effects.ended == [late] and late.aborted and effects.opened == [soon, late]
-    assert effects.rare.displaced == [later] and not later.aborted and [one.instance for one in effects.dispatch] == [soon]
+    effects = kept(
+        shard,
+        come(shard, opened(0), opened(1), '{"refused":"full"}', aborted, no, claimed, end, no),
+    )
+    assert (
+        effects.rare.overdue == effects.ended == [late]
+        and late.aborted
+        and effects.opened == [soon, late]
+    )
+    assert (
+        effects.rare.displaced == [later]
+        and not later.aborted
+        and [one.instance for one in effects.dispatch] == [soon]
+    )
 
 
 def test_an_engine_that_knows_something_else() -> None:
@@ -193,14 +254,28 @@ def test_a_refused_commit_makes_it_stale() -> None:
     effects = come(shard, event("commit"), tasks((0, 1, "run", 1)))
     shard.writes(effects)
     shard.requests(5)
-    assert shard.failed(effects) == 2 and shard.state is ShardState.STALE and shard.unwritten == 0 and not shard.is_known
+    assert (
+        shard.failed(effects) == 2
+        and shard.state is ShardState.STALE
+        and shard.unwritten == 0
+        and not shard.is_known
+    )
     assert [*shard.unkept()] == [attempt] and shard.fail() == 0
 
 
 def shown(phase: str, answer: object, states: list[str]) -> str:
     """A reply to `show`."""
-    told = {"aborted": False, "kept": [], "name": "trip", "phase": phase, "saga": 0, "states": states}
-    return json.dumps(told | ({"answer": answer} if answer else {}), separators=(",", ":"), sort_keys=True)
+    told = {
+        "aborted": False,
+        "kept": [],
+        "name": "trip",
+        "phase": phase,
+        "saga": 0,
+        "states": states,
+    }
+    return json.dumps(
+        told | ({"answer": answer} if answer else {}), separators=(",", ":"), sort_keys=True
+    )
 
 
 def test_a_saga_that_fails_drains_and_its_end_is_asked() -> None:
@@ -213,17 +288,34 @@ def test_a_saga_that_fails_drains_and_its_end_is_asked() -> None:
     shard.report(attempt)
     report, _, look = shard.requests(8)
     assert '"outcome":"fail"' in report and look == '{"do":"show","saga":0}' and saga.odd
-    effects = kept(shard, come(shard, event("fail", "planning"), '{"tasks":[]}', shown("planning", None, [])))
+    effects = kept(
+        shard, come(shard, event("fail", "planning"), '{"tasks":[]}', shown("planning", None, []))
+    )
     assert effects.rare.draining == [saga] and saga.draining and "no" in saga.rare.errors[0]
     shard.requests(8)
     plan = {"answer": {"kind": "plan", "cost": 3}, "phase": "ended", "saga": 0, "task": "plan"}
     (show,) = shard.replies([json.dumps({"settled": True, "tasks": [plan]})], "plan\n", NOW)  # type: ignore[misc]
     assert show == '{"do":"show","saga":0}'
-    effects = kept(shard, come(shard, shown("ended", plan["answer"], ["fixed", "waiting"]), text=""))
-    assert effects.rare.planned == [saga] and effects.ended == [saga] and effects.batch.text == "plan\n"
+    effects = kept(
+        shard, come(shard, shown("ended", plan["answer"], ["fixed", "waiting"]), text="")
+    )
+    assert (
+        effects.rare.planned == [saga]
+        and effects.ended == [saga]
+        and effects.batch.text == "plan\n"
+    )
     ((phase, told, recovered, undo_failed, at, id),) = effects.batch.ended
-    assert told == '{"aborted":false,"answer":{"cost":3,"kind":"plan"},"kept":[],"states":["fixed","waiting"]}'
-    assert (phase, recovered, undo_failed, at, id) == ("ended", True, True, NOW, 7000) and not shard.sagas
+    assert (
+        told
+        == '{"aborted":false,"answer":{"cost":3,"kind":"plan"},"kept":[],"states":["fixed","waiting"]}'
+    )
+    assert (phase, recovered, undo_failed, at, id) == (
+        "ended",
+        True,
+        True,
+        NOW,
+        7000,
+    ) and not shard.sagas
 
 
 def test_an_abort_is_answered() -> None:
@@ -235,8 +327,15 @@ def test_an_abort_is_answered() -> None:
         shard.abort(abort)
         shard.requests(0)
         effects = come(shard, reply)
-        assert effects.rare.aborted == [abort] and abort.done is done and shard.aborting == [abort] and saga.aborted is done
-        assert effects.batch.rare and effects.batch.rare.answers == [("true" if done else "false", 4)]
+        assert (
+            effects.rare.aborted == [abort]
+            and abort.done is done
+            and shard.aborting == [abort]
+            and saga.aborted is done
+        )
+        assert effects.batch.rare and effects.batch.rare.answers == [
+            ("true" if done else "false", 4)
+        ]
         kept(shard, effects)
         assert shard.aborting == []
 
@@ -246,8 +345,14 @@ def test_a_suspension_is_kept_by_itself() -> None:
     shard = driver()
     attempt = begun(shard)
     effects = shard.suspended(attempt, SuspensionRow(Suspension.UNKNOWN, 60.0, "lost"), NOW)
-    assert effects.batch.rare and effects.batch.rare.held == [(7000, 0, "run", 1, "unknown", 0, 0.0, 60.0, "lost")]
-    assert [one for one, _ in effects.rare.suspended] == [attempt] and effects.batch.first == 1 and not effects.batch.text
+    assert effects.batch.rare and effects.batch.rare.held == [
+        (7000, 0, "run", 1, "unknown", 0, 0.0, 60.0, "lost")
+    ]
+    assert (
+        [one for one, _ in effects.rare.suspended] == [attempt]
+        and effects.batch.first == 1
+        and not effects.batch.text
+    )
 
 
 def test_a_state_that_may_not_follow(monkeypatch: pytest.MonkeyPatch) -> None:
@@ -265,7 +370,9 @@ def rows(*, results: list[Any] = [], held: list[Any] = [], open: bool = True) ->
     return Loaded("x\n", 1, 1, there, results, held, epoch=3, line="other")
 
 
-def recovered(shard: ShardDriver, loaded: Loaded, busy: list[tuple[int, str, int]]) -> recovery.Recovery:
+def recovered(
+    shard: ShardDriver, loaded: Loaded, busy: list[tuple[int, str, int]]
+) -> recovery.Recovery:
     """A shard that was taken up from them."""
     shard.fail()
     shard.to(ShardState.LOADING)
@@ -283,8 +390,15 @@ def test_what_runs_stays_and_what_had_not_begun_is_forgotten() -> None:
     attempt = begun(shard)
     attempt.start()
     found = recovered(shard, rows(), [(0, "run", 1)])
-    assert found.resumed == [attempt] and attempt.state is AttemptState.RUNNING and not found.forgotten
-    assert shard.state is ShardState.ACTIVE and shard.known == (3, "other") and shard.epoch == 3 and found.restored == [attempt.instance]
+    assert (
+        found.resumed == [attempt] and attempt.state is AttemptState.RUNNING and not found.forgotten
+    )
+    assert (
+        shard.state is ShardState.ACTIVE
+        and shard.known == (3, "other")
+        and shard.epoch == 3
+        and found.restored == [attempt.instance]
+    )
     found = recovered(shard, rows(), [])
     assert found.resumed == [] and found.forgotten == [attempt] and attempt.instance.busy == {}
 
@@ -296,14 +410,26 @@ def test_a_finished_attempt_is_reported_again_or_replaced() -> None:
     attempt.finish(outcomes.Outcome(outcomes.SUCCEEDED, "1"), NOW)
     shard.report(attempt)
     found = recovered(shard, rows(), [(0, "run", 1)])
-    assert found.resumed == [attempt] and attempt.state is AttemptState.FINISHED and [*shard.unkept()] == []
+    assert (
+        found.resumed == [attempt]
+        and attempt.state is AttemptState.FINISHED
+        and [*shard.unkept()] == []
+    )
     attempt.recorded = True
     found = recovered(shard, rows(), [(0, "run", 1)])
     (other,) = found.resumed
-    assert found.forgotten == [attempt] and other is not attempt and other.state is AttemptState.CLAIMED and not other.fresh
+    assert (
+        found.forgotten == [attempt]
+        and other is not attempt
+        and other.state is AttemptState.CLAIMED
+        and not other.fresh
+    )
 
 
-@pytest.mark.parametrize(("epoch", "line", "is_ours"), [(1, "line", True), (2, "line", True), (3, "line", False), (2, "other", False)])
+@pytest.mark.parametrize(
+    ("epoch", "line", "is_ours"),
+    [(1, "line", True), (2, "line", True), (3, "line", False), (2, "other", False)],
+)
 def test_what_was_given_up_is_decided_again(epoch: int, line: str, is_ours: bool) -> None:
     """And what waits is made anew from its row, where another node may have had the shard, or another server took over: it may have been called there."""
     shard = driver()
@@ -312,23 +438,44 @@ def test_what_was_given_up_is_decided_again(epoch: int, line: str, is_ours: bool
     shard.report(attempt)
     loaded = dataclasses.replace(rows(), epoch=epoch, line=line)
     (given_up,) = recovered(shard, loaded, [(0, "run", 1)]).resumed
-    assert given_up is not attempt and given_up.state is AttemptState.CLAIMED and given_up.fresh is is_ours
+    assert (
+        given_up is not attempt
+        and given_up.state is AttemptState.CLAIMED
+        and given_up.fresh is is_ours
+    )
     shard.known = (1, "line")
     given_up.suspend(Suspension.BACKOFF, NOW + 1)
     found = recovered(shard, loaded, [(0, "run", 1)])
     (other,) = found.resumed
-    assert (other is given_up) is is_ours and (given_up in found.forgotten) is not is_ours and other.fresh is is_ours
+    assert (
+        (other is given_up) is is_ours
+        and (given_up in found.forgotten) is not is_ours
+        and other.fresh is is_ours
+    )
 
 
 def test_rows_of_an_earlier_program() -> None:
     """A result whose report is not there is reported; a suspension goes on; a saga that is over is gone."""
     row = (7000, 0, "run", 1)
-    begun_before = recovered(begun_shard := driver(), rows(results=[(*row, "ok", '"r"', 9.0)]), [(0, "run", 1)])
+    begun_before = recovered(
+        begun_shard := driver(), rows(results=[(*row, "ok", '"r"', 9.0)]), [(0, "run", 1)]
+    )
     (attempt,) = begun_before.resumed
-    assert attempt.state is AttemptState.FINISHED and attempt.outcome and attempt.outcome.value == '"r"' and attempt.at == 9.0
+    assert (
+        attempt.state is AttemptState.FINISHED
+        and attempt.outcome
+        and attempt.outcome.value == '"r"'
+        and attempt.at == 9.0
+    )
     held = (*row, "unknown", 2, 5.0, 60.0, "lost")
     (attempt,) = recovered(driver(), rows(held=[held]), [(0, "run", 1)]).resumed
-    assert (attempt.reason, attempt.count, attempt.until, attempt.has_row, attempt.fresh) == (Suspension.UNKNOWN, 2, 60.0, True, False)
+    assert (attempt.reason, attempt.count, attempt.until, attempt.has_row, attempt.fresh) == (
+        Suspension.UNKNOWN,
+        2,
+        60.0,
+        True,
+        False,
+    )
     saga = attempt.instance
     assert saga.rare.due == {(0, "run"): 0.0} and begun_shard.hungry
     gone = recovered(begun_shard, rows(open=False), [])
@@ -342,7 +489,11 @@ def test_aborts_are_asked_again_or_answered() -> None:
     abort = Abort(saga)
     shard.abort(abort)
     shard.requests(0)
-    assert recovered(shard, rows(), []).aborted == [] and shard.aborts == [abort] and shard.aborting == []
+    assert (
+        recovered(shard, rows(), []).aborted == []
+        and shard.aborts == [abort]
+        and shard.aborting == []
+    )
     found = recovered(shard, rows(open=False), [])
     assert found.aborted == [abort] and abort.done is False and shard.aborts == []
 
@@ -395,7 +546,11 @@ def test_a_saga_that_comes_from_the_store_has_its_options() -> None:
 def test_labels_go_with_the_row_of_their_saga() -> None:
     """A saga that is displaced takes them into the next shard; others have no row of them."""
     saga = SagaInstance(
-        "k", "1", SHELF.kinds[0], 0, StartOptions({"customer": "7", "region": "north"}, 5.0, traceparent=TRACE)
+        "k",
+        "1",
+        SHELF.kinds[0],
+        0,
+        StartOptions({"customer": "7", "region": "north"}, 5.0, traceparent=TRACE),
     )
     full, shard = driver(), driver()
     for one in (full, shard):
@@ -405,7 +560,9 @@ def test_labels_go_with_the_row_of_their_saga() -> None:
         labels = effects.batch.rare.labels if effects.batch.rare else []
         id = NUMBER * 1000
         rows = [(id, "customer", "7"), (id, "region", "north")]
-        assert labels == ([] if one is full else rows) and bool(effects.rare.displaced) is (one is full)
+        assert labels == ([] if one is full else rows) and bool(effects.rare.displaced) is (
+            one is full
+        )
         assert [row[-2:] for row in effects.batch.opened] == ([] if one is full else [(5.0, TRACE)])
     shard.open(instance("other"))
     shard.requests(0)
@@ -422,4 +579,8 @@ def test_a_plan_and_what_it_begins_come_by_one_question() -> None:
         shard.report(attempt)
     assert shard.requests(2)[2] == '{"do":"next","most":4}'
     shows = [shown("draining", None, []), shown("draining", None, [])]
-    shard.replies((event("fail", "draining"), event("fail", "draining", 1), tasks(settled=True), *shows), "", NOW)
+    shard.replies(
+        (event("fail", "draining"), event("fail", "draining", 1), tasks(settled=True), *shows),
+        "",
+        NOW,
+    )

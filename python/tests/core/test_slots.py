@@ -20,11 +20,13 @@ SAGA = sagas.Saga("one")
 
 
 @SAGA.step(undo=0, concurrency=1)
-async def narrow(task: sagas.Task[None]) -> None: ...
+async def narrow(task: sagas.Task[None]) -> None:
+    ...
 
 
 @SAGA.step(undo=0)
-async def wide(task: sagas.Task[None]) -> None: ...
+async def wide(task: sagas.Task[None]) -> None:
+    ...
 
 
 KIND = Shelf([SAGA]).kinds[0]
@@ -55,7 +57,9 @@ class Store:
         self.fed += 1
 
     def enter(self, step: str) -> Attempt:
-        attempt = Attempt(SagaInstance("k", "{}", KIND, 0), KIND.names.index(step), "run", 1, fresh=True)
+        attempt = Attempt(
+            SagaInstance("k", "{}", KIND, 0), KIND.names.index(step), "run", 1, fresh=True
+        )
         self.slots.enter(attempt)
         return attempt
 
@@ -83,7 +87,10 @@ def test_attempts_come_in_turn() -> None:
 def test_who_is_over_its_steps_limit_keeps_nobody_back() -> None:
     store = Store(3)
     first, second, third = (store.enter("narrow") for _ in range(3))
-    assert store.called == [first] and (second.state, second.reason) == (AttemptState.SUSPENDED, Suspension.STEP_LIMIT)
+    assert store.called == [first] and (second.state, second.reason) == (
+        AttemptState.SUSPENDED,
+        Suspension.STEP_LIMIT,
+    )
     other = store.enter("wide")
     assert store.called == [first, other]
     second.forget()  # it was given up meanwhile
@@ -142,7 +149,9 @@ def test_slots_are_shared_among_tenants() -> None:
         counts = Counter(one.instance.tenant for one in running)
         if draw.random() < 0.55:
             tenant = draw.choice("aaaabbc")
-            attempt = Attempt(SagaInstance(f"k{number}", f'"{tenant}"', kind, 0), 0, "run", 1, fresh=True)
+            attempt = Attempt(
+                SagaInstance(f"k{number}", f'"{tenant}"', kind, 0), 0, "run", 1, fresh=True
+            )
             store.slots.come(attempt)
             if len(running) == 3:
                 waiting.setdefault(attempt.instance.tenant, []).append(attempt)
@@ -159,5 +168,7 @@ def test_slots_are_shared_among_tenants() -> None:
         elif any(waiting.values()):
             tenant = draw.choice([tenant for tenant, ones in waiting.items() if ones])
             store.slots.cancel(waiting[tenant].pop(draw.randrange(len(waiting[tenant]))))
-        assert store.slots.running == min(3, len([one for one in store.called if one.state is AttemptState.RUNNING]))
+        assert store.slots.running == min(
+            3, len([one for one in store.called if one.state is AttemptState.RUNNING])
+        )
         assert len(store.slots._queued) == sum(map(len, waiting.values()))

@@ -52,7 +52,8 @@ def attempt_in(state: AttemptState) -> Attempt:
     saga = sagas.Saga("one")
 
     @saga.step(undo=0)
-    async def a(task: sagas.Task[Any]) -> None: ...
+    async def a(task: sagas.Task[Any]) -> None:
+        ...
 
     attempt = Attempt(SagaInstance("k", "{}", Shelf([saga]).kinds[0], 0), 0, "run", 1, fresh=True)
     attempt.state = state
@@ -73,7 +74,9 @@ def test_a_table_has_each_state_and_each_is_reached(machine: type[enum.Enum]) ->
 
 
 @pytest.mark.parametrize(("before", "after"), itertools.product(AttemptState, AttemptState))
-def test_an_attempt_goes_only_where_its_table_lets_it(before: AttemptState, after: AttemptState) -> None:
+def test_an_attempt_goes_only_where_its_table_lets_it(
+    before: AttemptState, after: AttemptState
+) -> None:
     attempt = attempt_in(before)
     if after in states.ATTEMPT_TRANSITIONS[before]:
         WRITERS[after](attempt)
@@ -94,7 +97,9 @@ def test_finished_is_never_left() -> None:
         start_all([attempt])
 
 
-@pytest.mark.parametrize("before", [state for state in AttemptState if state is not AttemptState.FINISHED])
+@pytest.mark.parametrize(
+    "before", [state for state in AttemptState if state is not AttemptState.FINISHED]
+)
 def test_an_attempt_is_forgotten_from_each_state(before: AttemptState) -> None:
     attempt = attempt_in(before)
     attempt.forget()
@@ -119,7 +124,16 @@ def test_without_the_check_nothing_is_looked_up() -> None:
 
 def test_the_events_of_a_step_keep_to_its_table() -> None:
     at = StepState.WAITING
-    for event in ("start_run", "missed", "start_run", "commit", "start_undo", "undo_missed", "start_undo", "undo_fail"):
+    for event in (
+        "start_run",
+        "missed",
+        "start_run",
+        "commit",
+        "start_undo",
+        "undo_missed",
+        "start_undo",
+        "undo_fail",
+    ):
         states.check(states.STEP_TRANSITIONS, at, states.EVENT_STATES[event])
         at = states.EVENT_STATES[event]
     assert at is StepState.COMPENSATION_FAILED == states.step_state("fixed")

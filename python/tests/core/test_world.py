@@ -21,11 +21,25 @@ from sagas.core import model, shard, states
 
 MOVES, SAGAS = 20_000, 135
 ENDS: dict[str, dict[str, Any]] = {
-    "asks": {"on_exhausted": "ask"}, "goes on": {"on_exhausted": "retry"}, "many": {"max_attempts": 5},
+    "asks": {"on_exhausted": "ask"},
+    "goes on": {"on_exhausted": "retry"},
+    "many": {"max_attempts": 5},
 }
 SOON = sagas.Backoff(initial=5, maximum=60)
 MANNERS = st.sampled_from(
-    ("simple", "plain", "timed", "wait", "approval", "timed approval", "external", "transaction", "asks", "goes on", "many")
+    (
+        "simple",
+        "plain",
+        "timed",
+        "wait",
+        "approval",
+        "timed approval",
+        "external",
+        "transaction",
+        "asks",
+        "goes on",
+        "many",
+    )
 )
 
 
@@ -45,11 +59,21 @@ async def simple(task: sagas.Task[Any]) -> None:
 def declare(saga: sagas.Saga, drawn: list[StepDraw], number: int, manner: str) -> None:
     """One step, in its manner."""
     one = drawn[number]
-    words: dict[str, Any] = {"name": one.name, "needs": [drawn[need].name for need in one.needs], "skip": cost(one.skip)}
+    words: dict[str, Any] = {
+        "name": one.name,
+        "needs": [drawn[need].name for need in one.needs],
+        "skip": cost(one.skip),
+    }
     if one.undo != "never":
         words["undo"] = cost(one.undo)
     if manner == "wait":
-        step = saga.wait(until=datetime.timedelta(hours=1), tries=one.tries, backoff=SOON, keep=cost(one.keep), **words)(nothing)
+        step = saga.wait(
+            until=datetime.timedelta(hours=1),
+            tries=one.tries,
+            backoff=SOON,
+            keep=cost(one.keep),
+            **words,
+        )(nothing)
     elif manner.endswith("approval"):
         timeout = 3600 if manner.startswith("timed") else None
         step = saga.approval(timeout=timeout, tries=one.tries, backoff=SOON, **words)(nothing)
@@ -92,8 +116,13 @@ def test_whatever_happens(part: int, monkeypatch: pytest.MonkeyPatch) -> None:
     for module in (model, shard):
         monkeypatch.setattr(module, "check", count)
 
-    @settings(max_examples=14, deadline=None, suppress_health_check=list(HealthCheck), derandomize=True)
-    @given(st.lists(definitions(), min_size=1, max_size=3, unique_by=lambda saga: saga.name), st.integers(0, 10**9))
+    @settings(
+        max_examples=14, deadline=None, suppress_health_check=list(HealthCheck), derandomize=True
+    )
+    @given(
+        st.lists(definitions(), min_size=1, max_size=3, unique_by=lambda saga: saga.name),
+        st.integers(0, 10**9),
+    )
     def play(kinds: list[sagas.Saga], seed: int) -> None:
         nonlocal transitions
         with tempfile.TemporaryDirectory() as folder:

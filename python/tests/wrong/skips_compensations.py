@@ -16,6 +16,10 @@ def apply() -> None:
     right = AttemptMachine.begin
 
     def begin(self: AttemptMachine, attempt: Attempt, now: float) -> Decision:
-        return self.finish(attempt, outcomes.succeeded(None), now) if attempt.undo else right(self, attempt, now)
+        return (
+            self.finish(attempt, outcomes.succeeded(None), now)
+            if attempt.undo
+            else right(self, attempt, now)
+        )
 
     setattr(AttemptMachine, "begin", begin)

@@ -10,4 +10,8 @@ MOMENT = "a_refused_start_comes_late"
 
 def apply() -> None:
     """The owner alone is compared."""
-    setattr(commit_statement, "ALONE", commit_statement.ALONE.replace("epoch = $4::bigint", "$4::bigint > 0"))
+    setattr(
+        commit_statement,
+        "ALONE",
+        commit_statement.ALONE.replace("epoch = $4::bigint", "$4::bigint > 0"),
+    )

@@ -11,4 +11,10 @@ MOMENT = "a_commit_of_two_logs_comes_late"
 def apply() -> None:
     """The owner alone is compared."""
     right = commit_statement.LISTED
-    setattr(commit_statement, "LISTED", right.replace("epoch = ($4::bigint[])[array_position($3, shard)]", "$4::bigint[] IS NOT NULL"))
+    setattr(
+        commit_statement,
+        "LISTED",
+        right.replace(
+            "epoch = ($4::bigint[])[array_position($3, shard)]", "$4::bigint[] IS NOT NULL"
+        ),
+    )

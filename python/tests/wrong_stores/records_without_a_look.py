@@ -11,6 +11,10 @@ UNRECORDED = "a step's own transaction has no event, so no record has it"
 
 def apply() -> None:
     """Takes each log for this node's."""
-    text = step_commit.RECORD.replace(" FOR SHARE)", ")").replace("owner = {node}", "{node}::text > ''").replace("epoch = {epoch}", "{epoch}::bigint > 0")
+    text = (
+        step_commit.RECORD.replace(" FOR SHARE)", ")")
+        .replace("owner = {node}", "{node}::text > ''")
+        .replace("epoch = {epoch}", "{epoch}::bigint > 0")
+    )
     assert "FOR SHARE" not in text and text.count("::bigint > 0") == text.count("::text > ''") == 1
     setattr(step_commit, "RECORD", text)

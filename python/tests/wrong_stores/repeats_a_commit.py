@@ -29,7 +29,9 @@ def apply() -> None:
                     batch.first, at = at, at + batch.text.count("\n")
             right(self, batches, then, now)
 
-        def told(batches: Sequence[Batch], fault: BaseException | None, lost: frozenset[int]) -> None:
+        def told(
+            batches: Sequence[Batch], fault: BaseException | None, lost: frozenset[int]
+        ) -> None:
             if isinstance(fault, StoreUnavailable):
                 job = asyncio.get_running_loop().create_task(again())
                 jobs.add(job)

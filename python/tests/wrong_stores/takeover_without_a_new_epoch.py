@@ -4,7 +4,18 @@ from __future__ import annotations
 
 from sagas.storage.postgresql import commit_statement, node_lease, shard_loader
 
-FINDS = {"illegal", "audit", "results", "end", "gap", "no-effect", "told-early", "begun-early", "effect-lost", "wrong-attempt"}
+FINDS = {
+    "illegal",
+    "audit",
+    "results",
+    "end",
+    "gap",
+    "no-effect",
+    "told-early",
+    "begun-early",
+    "effect-lost",
+    "wrong-attempt",
+}
 STRIKES = "sleep"
 MOMENT = "another_node_has_the_log"
 
@@ -13,7 +24,15 @@ def apply() -> None:
     """Epochs stay what they are, and owners are not compared."""
     setattr(node_lease, "TAKE", node_lease.TAKE.replace("epoch = epoch + 1", "epoch = epoch"))
     for name in ("TOGETHER", "ALONE"):
-        setattr(shard_loader, name, getattr(shard_loader, name).replace("SET epoch = epoch + 1", "SET epoch = epoch"))
+        setattr(
+            shard_loader,
+            name,
+            getattr(shard_loader, name).replace("SET epoch = epoch + 1", "SET epoch = epoch"),
+        )
     for name in ("ALONE", "LISTED"):
-        setattr(commit_statement, name, getattr(commit_statement, name).replace("owner = $2", "$2::text IS NOT NULL"))
+        setattr(
+            commit_statement,
+            name,
+            getattr(commit_statement, name).replace("owner = $2", "$2::text IS NOT NULL"),
+        )
     commit_statement.PARTS["lines"] += " ON CONFLICT DO NOTHING"

@@ -23,7 +23,12 @@ def apply() -> None:
         desk = self.queue.desk()
         begun = desk.begin(order)
         if begun and function:
-            desk.report(order, outcomes.succeeded(expected(order.key, order.step) if order.kind == "run" else None))
+            desk.report(
+                order,
+                outcomes.succeeded(
+                    expected(order.key, order.step) if order.kind == "run" else None
+                ),
+            )
             with contextlib.suppress(Exception):
                 function(self._task(order, begun))
 

@@ -21,6 +21,10 @@ def apply() -> None:
 
     def task(self: Work, order: Order, begun: Begun) -> Task[Any]:
         told = whole(right(self, order, begun)._about)
-        return Task(dataclasses.replace(told, given={name: seen.setdefault(name, text) for name, text in told.given.items()}))
+        return Task(
+            dataclasses.replace(
+                told, given={name: seen.setdefault(name, text) for name, text in told.given.items()}
+            )
+        )
 
     setattr(Work, "_task", task)

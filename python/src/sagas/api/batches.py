@@ -31,9 +31,7 @@ def name_of(saga: Saga | str | None) -> str | None:
     return saga.name if isinstance(saga, Saga) else saga
 
 
-def _page(
-    of: Filter, after: Summary | int | None, limit: int
-) -> Question[builtins.list[Summary]]:  # fmt: skip
+def _page(of: Filter, after: Summary | int | None, limit: int) -> Question[builtins.list[Summary]]:
     place = yield from pages.position(after)
     return (yield from pages.page(of=of, after=place, newest=False, most=limit))
 

@@ -44,8 +44,11 @@ class ChildCarrier:
         inside = self._access.inside
         known = await retries.until_answered(functools.partial(inside.store.known, over))
         kind = inside.shelf.kind(known.definition)
-        results = {step: value or "null" for step, _, _, event, value, _ in known.results
-                   if event == "commit"}  # fmt: skip
+        results = {
+            step: value or "null"
+            for step, _, _, event, value, _ in known.results
+            if event == "commit"
+        }
         return ChildEnd(
             history.end_of(kind, over, known.results), over.id, kind, over.input, results
         )

@@ -17,7 +17,7 @@ from sagas.api.schedules import Schedules
 from sagas.base.errors import Closed, InvalidStore, NoSuchSaga
 from sagas.base.fork_guard import Opened
 
-from sagas.core import pending  # fmt: skip
+from sagas.core import pending
 from sagas.core import attention, history, step_reports
 from sagas.core.batch import Known, SagaRow
 from sagas.core.outcomes import Outcome, reported
@@ -74,9 +74,14 @@ class Client(Schedules):
     """
 
     def __init__(
-        self, url: str, *, connections: int = 4, codec: Codec | None = None,
-        blobs: BlobStore | None = None, record: str | os.PathLike[str] | None = None,
-    ) -> None:  # fmt: skip
+        self,
+        url: str,
+        *,
+        connections: int = 4,
+        codec: Codec | None = None,
+        blobs: BlobStore | None = None,
+        record: str | os.PathLike[str] | None = None,
+    ) -> None:
         """Make a client, to be entered by `async with`.
 
         Args:
@@ -287,16 +292,26 @@ class Client(Schedules):
         return bool(await self._request(row, "abort", "null"))
 
     async def complete(
-        self, key: str, step: Step[Any] | str, result: Any = None, *, undo: bool = False,
+        self,
+        key: str,
+        step: Step[Any] | str,
+        result: Any = None,
+        *,
+        undo: bool = False,
         early: bool = True,
-    ) -> None:  # fmt: skip
+    ) -> None:
         """Report that a step succeeded. See `Store.complete`."""
         await self._report(key, step, reported(result, None), undo, early)
 
     async def fail(
-        self, key: str, step: Step[Any] | str, error: str, *, undo: bool = False,
+        self,
+        key: str,
+        step: Step[Any] | str,
+        error: str,
+        *,
+        undo: bool = False,
         early: bool = True,
-    ) -> None:  # fmt: skip
+    ) -> None:
         """Report that a step failed permanently. See `Store.fail`."""
         await self._report(key, step, reported(None, error), undo, early)
 

@@ -177,9 +177,14 @@ class ClientStarter:
         """connections that were given, and are to the store's database"""
 
     def words(
-        self, saga: Saga, key: str, input: Any, labels: Labels | None, deadline: Deadline | None,
+        self,
+        saga: Saga,
+        key: str,
+        input: Any,
+        labels: Labels | None,
+        deadline: Deadline | None,
         traceparent: str | None,
-    ) -> dict[str, Any]:  # fmt: skip
+    ) -> dict[str, Any]:
         """What a start writes, and of which saga. Of one without steps no digest: it says only
         which saga is meant."""
         arguments.key(key)

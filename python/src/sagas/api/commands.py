@@ -94,9 +94,15 @@ class Commands:
         return operator_requests.told(answer)
 
     async def report(
-        self, key: str, step: str, outcome: Outcome, undo: bool, request: Wanted,
-        of: int | None = None, early: bool = True,
-    ) -> None:  # fmt: skip
+        self,
+        key: str,
+        step: str,
+        outcome: Outcome,
+        undo: bool,
+        request: Wanted,
+        of: int | None = None,
+        early: bool = True,
+    ) -> None:
         """Says how a step ended, or its compensation. `early`: also of one that has not begun."""
         kind = "undo" if undo else "run"
         while True:

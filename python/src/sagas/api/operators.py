@@ -58,9 +58,16 @@ class Operators(Questions):
         return await self._commands.abort(key, self._commands.noted(key, "abort", by, note))
 
     async def complete(
-        self, key: str, step: Step[Any] | str, result: Any = None, *, undo: bool = False,
-        early: bool = True, by: str | None = None, note: str | None = None,
-    ) -> None:  # fmt: skip
+        self,
+        key: str,
+        step: Step[Any] | str,
+        result: Any = None,
+        *,
+        undo: bool = False,
+        early: bool = True,
+        by: str | None = None,
+        note: str | None = None,
+    ) -> None:
         """Report that a step succeeded: an approval, an external or an unknown one.
 
         When it returns, the report is durable. The same report again is not an error, also after
@@ -103,9 +110,16 @@ class Operators(Questions):
         await self._commands.report(key, name, outcome, undo, asked, early=early)
 
     async def fail(
-        self, key: str, step: Step[Any] | str, error: str, *, undo: bool = False,
-        early: bool = True, by: str | None = None, note: str | None = None,
-    ) -> None:  # fmt: skip
+        self,
+        key: str,
+        step: Step[Any] | str,
+        error: str,
+        *,
+        undo: bool = False,
+        early: bool = True,
+        by: str | None = None,
+        note: str | None = None,
+    ) -> None:
         """Report that a step failed permanently. See `Store.complete`.
 
         It had no effect, and is not attempted again.

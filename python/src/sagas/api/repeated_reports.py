@@ -14,9 +14,13 @@ Read = Callable[..., Awaitable[Sequence[tuple[Any, ...]]]]
 
 
 async def check_again(
-    read: Read, row: SagaRow, names: Sequence[str], action: tuple[str, str], outcome: Outcome,
+    read: Read,
+    row: SagaRow,
+    names: Sequence[str],
+    action: tuple[str, str],
+    outcome: Outcome,
     payloads: Payloads,
-) -> None:  # fmt: skip
+) -> None:
     """Check a report of a saga that is over, by what was reported before.
 
     Raises:

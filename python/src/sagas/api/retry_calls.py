@@ -24,9 +24,14 @@ class RetryCalls(Operators):
     """What an open store answers attempts with that wait for a person."""
 
     async def retry(
-        self, key: str, step: Step[Any] | str, *, undo: bool = False, by: str | None = None,
+        self,
+        key: str,
+        step: Step[Any] | str,
+        *,
+        undo: bool = False,
+        by: str | None = None,
         note: str | None = None,
-    ) -> None:  # fmt: skip
+    ) -> None:
         """Attempt a step again, whose attempts are used up, or whose outcome is unknown.
 
         The same attempt is made at once, with its idempotency key, and its number of attempts
@@ -52,10 +57,15 @@ class RetryCalls(Operators):
         await self._commands.retry(key, name, undo, asked)
 
     async def retry_all(
-        self, *, saga: Saga | str | None = None, step: str | None = None,
-        labels: Labels | None = None, limit: int = 1000, by: str | None = None,
+        self,
+        *,
+        saga: Saga | str | None = None,
+        step: str | None = None,
+        labels: Labels | None = None,
+        limit: int = 1000,
+        by: str | None = None,
         note: str | None = None,
-    ) -> int:  # fmt: skip
+    ) -> int:
         """Attempt again each step whose attempts are used up. See `Store.retry`.
 
         `complete_all` and `fail_all` report them instead.
@@ -81,10 +91,16 @@ class RetryCalls(Operators):
         )
 
     async def complete_all(
-        self, result: Any = None, *, saga: Saga | str | None = None, step: str | None = None,
-        labels: Labels | None = None, limit: int = 1000, by: str | None = None,
+        self,
+        result: Any = None,
+        *,
+        saga: Saga | str | None = None,
+        step: str | None = None,
+        labels: Labels | None = None,
+        limit: int = 1000,
+        by: str | None = None,
         note: str | None = None,
-    ) -> int:  # fmt: skip
+    ) -> int:
         """Report that each step succeeded whose attempts are used up.
 
         Args:
@@ -103,10 +119,16 @@ class RetryCalls(Operators):
         )
 
     async def fail_all(
-        self, error: str, *, saga: Saga | str | None = None, step: str | None = None,
-        labels: Labels | None = None, limit: int = 1000, by: str | None = None,
+        self,
+        error: str,
+        *,
+        saga: Saga | str | None = None,
+        step: str | None = None,
+        labels: Labels | None = None,
+        limit: int = 1000,
+        by: str | None = None,
         note: str | None = None,
-    ) -> int:  # fmt: skip
+    ) -> int:
         """Report that each step failed permanently whose attempts are used up.
 
         Args:

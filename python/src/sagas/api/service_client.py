@@ -63,9 +63,14 @@ class ServiceClient:
     """
 
     def __init__(
-        self, url: str | Sequence[str], token: str | None = None, *, timeout: float = 60.0,
-        codec: Codec | None = None, blobs: BlobStore | None = None,
-    ) -> None:  # fmt: skip
+        self,
+        url: str | Sequence[str],
+        token: str | None = None,
+        *,
+        timeout: float = 60.0,
+        codec: Codec | None = None,
+        blobs: BlobStore | None = None,
+    ) -> None:
         """Make a client. It connects at its first call.
 
         Args:
@@ -184,9 +189,11 @@ class ServiceClient:
             left = max(0.0, until - time.monotonic())
             seconds = min(MOST_WAIT, left)
             told = self._ask(
-                f"{_path(key, 'wait')}?seconds={seconds:.3f}", None, seconds + BEYOND,
+                f"{_path(key, 'wait')}?seconds={seconds:.3f}",
+                None,
+                seconds + BEYOND,
                 max(LATE, min(left, self.timeout)) + seconds,
-            )  # fmt: skip
+            )
             if told["over"]:
                 return saga_of(self._values.saga(told))
             if time.monotonic() >= until:
@@ -212,9 +219,15 @@ class ServiceClient:
         return done
 
     def complete(
-        self, key: str, step: Step[Any] | str, result: Any = None, *, undo: bool = False,
-        early: bool = True, note: str | None = None,
-    ) -> None:  # fmt: skip
+        self,
+        key: str,
+        step: Step[Any] | str,
+        result: Any = None,
+        *,
+        undo: bool = False,
+        early: bool = True,
+        note: str | None = None,
+    ) -> None:
         """Report that a step succeeded, for example that it is approved.
 
         An approver reports approvals, an operator also other steps. The same report again is not an
@@ -239,9 +252,15 @@ class ServiceClient:
         self._report(key, step, "complete", {"result": result}, undo, early, note)
 
     def fail(
-        self, key: str, step: Step[Any] | str, error: str, *, undo: bool = False,
-        early: bool = True, note: str | None = None,
-    ) -> None:  # fmt: skip
+        self,
+        key: str,
+        step: Step[Any] | str,
+        error: str,
+        *,
+        undo: bool = False,
+        early: bool = True,
+        note: str | None = None,
+    ) -> None:
         """Report that a step failed permanently. See `ServiceClient.complete`.
 
         Args:
@@ -258,9 +277,15 @@ class ServiceClient:
         self._report(key, step, "fail", {"error": error}, undo, early, note)
 
     def _report(
-        self, key: str, step: Step[Any] | str, verb: str, body: dict[str, Any], undo: bool,
-        early: bool, note: str | None,
-    ) -> None:  # fmt: skip
+        self,
+        key: str,
+        step: Step[Any] | str,
+        verb: str,
+        body: dict[str, Any],
+        undo: bool,
+        early: bool,
+        note: str | None,
+    ) -> None:
         words = _given(note=note) | {"undo": undo, "early": early}
         self._ask(_path(key, "steps", _name("step", step), verb), body | words)
 
@@ -300,11 +325,14 @@ class ServiceClient:
             ServiceUnavailable: No service answered in time.
         """
         query = _given(
-            limit=arguments.count("page_size", page_size), phase=phase, search=search, error=error,
+            limit=arguments.count("page_size", page_size),
+            phase=phase,
+            search=search,
+            error=error,
             definition=None if saga is None else _name("saga", saga),
             started_after=_moment("started_after", started_after),
             started_before=_moment("started_before", started_before),
-        )  # fmt: skip
+        )
         pairs = [f"{name}={value}" for name, value in checked(labels).items()]
         return self._pages({**query, "label": pairs})
 
@@ -317,9 +345,12 @@ class ServiceClient:
             query["after"] = told["next"]
 
     def events(
-        self, *, key: str | None = None, saga: Saga | str | None = None,
+        self,
+        *,
+        key: str | None = None,
+        saga: Saga | str | None = None,
         last_event_id: str | None = None,
-    ) -> ServiceEvents:  # fmt: skip
+    ) -> ServiceEvents:
         """Follow events, from the moment at which the stream is opened.
 
         Args:
@@ -368,9 +399,13 @@ class ServiceClient:
         self.close()
 
     def _ask(
-        self, path: str, body: dict[str, Any] | None = None, seconds: float = ANSWER,
-        patience: float | None = None, headers: Mapping[str, str] = NO_HEADERS,
-    ) -> dict[str, Any]:  # fmt: skip
+        self,
+        path: str,
+        body: dict[str, Any] | None = None,
+        seconds: float = ANSWER,
+        patience: float | None = None,
+        headers: Mapping[str, str] = NO_HEADERS,
+    ) -> dict[str, Any]:
         """An answer. Raises the exceptions of a store where the problem is one of them."""
         try:
             return self._service.repeated(

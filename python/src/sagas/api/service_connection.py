@@ -175,9 +175,13 @@ class ServiceConnection:
         raise Closed("the client is closed. Make another one")
 
     def ask(
-        self, url: str, path: str, body: dict[str, Any] | None, seconds: float,
+        self,
+        url: str,
+        path: str,
+        body: dict[str, Any] | None,
+        seconds: float,
         headers: Mapping[str, str] = NO_HEADERS,
-    ) -> dict[str, Any]:  # fmt: skip
+    ) -> dict[str, Any]:
         """One request, a GET where it has no body, over a connection that is kept; one that the
         service has closed meanwhile is opened anew. Raises `ServiceRefused`, or an `OSError` or a
         `ValueError` where there was no answer.
@@ -276,9 +280,12 @@ class ServiceConnection:
         return link
 
     def _answer(
-        self, link: http.client.HTTPConnection, path: str, data: bytes | None,
+        self,
+        link: http.client.HTTPConnection,
+        path: str,
+        data: bytes | None,
         headers: dict[str, str],
-    ) -> tuple[int, bytes]:  # fmt: skip
+    ) -> tuple[int, bytes]:
         """Asks, and reads the answer to its end, so that the connection can be used again."""
         if link.sock is None:
             link.connect()

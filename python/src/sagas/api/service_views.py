@@ -26,10 +26,17 @@ from sagas.definition.fan import FIXED, Fan
 ERRORS: dict[str, type[SagasError]] = {
     kind.__name__: kind
     for kind in (
-        ConflictingReport, InvalidInput, InvalidKey, InvalidLabel, KeyConflict, NoSuchSaga,
-        NotSerializable, StepNotWaiting, TooLarge,
+        ConflictingReport,
+        InvalidInput,
+        InvalidKey,
+        InvalidLabel,
+        KeyConflict,
+        NoSuchSaga,
+        NotSerializable,
+        StepNotWaiting,
+        TooLarge,
     )
-}  # fmt: skip
+}
 """The problems that callers know as exceptions of a store, by their names."""
 
 

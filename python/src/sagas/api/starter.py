@@ -35,9 +35,15 @@ class Starter:
         self.accepts_new = accepts_new
 
     def start(
-        self, saga: Saga, key: str, input: Any, labels: Labels | None, deadline: Deadline | None,
-        traceparent: str | None = None, token: str | None = None,
-    ) -> Begun:  # fmt: skip
+        self,
+        saga: Saga,
+        key: str,
+        input: Any,
+        labels: Labels | None,
+        deadline: Deadline | None,
+        traceparent: str | None = None,
+        token: str | None = None,
+    ) -> Begun:
         """Starts a saga. Whether this start began it. `token`: the name of a service's token."""
         inside = self._access.here()
         arguments.key(key)
@@ -58,9 +64,7 @@ class Starter:
             return self._shape(inside, saga, key, text, options, self.accepts_new)
         return self._start(inside, saga, fitted, key, text, options, self.accepts_new)
 
-    def start_child(
-        self, saga: Saga | Kind, key: str, input: Any, options: StartOptions
-    ) -> Begun:  # fmt: skip
+    def start_child(self, saga: Saga | Kind, key: str, input: Any, options: StartOptions) -> Begun:
         """Starts a child, also where the store starts no new sagas: its parent is not new. What
         undoes a child comes as its definition."""
         inside = self._access.here()
@@ -78,18 +82,29 @@ class Starter:
         return self._start(inside, saga, fitted, key, text, options, accepts=True)
 
     async def _shape(
-        self, inside: Coordinator, saga: Saga, key: str, text: str, options: StartOptions,
+        self,
+        inside: Coordinator,
+        saga: Saga,
+        key: str,
+        text: str,
+        options: StartOptions,
         accepts: bool,
-    ) -> bool:  # fmt: skip
+    ) -> bool:
         """As `_start`, of a saga whose steps come from its input. Its key is taken only then."""
         fitted = await inside.declared.fit(self._shelf, saga, text)
         self._access.here()  # it may be closed by now
         return await self._start(inside, saga, fitted, key, text, options, accepts)
 
     def _start(
-        self, inside: Coordinator, saga: Saga | Kind, fitted: Fitted, key: str, text: str,
-        options: StartOptions, accepts: bool,
-    ) -> Begun:  # fmt: skip
+        self,
+        inside: Coordinator,
+        saga: Saga | Kind,
+        fitted: Fitted,
+        key: str,
+        text: str,
+        options: StartOptions,
+        accepts: bool,
+    ) -> Begun:
         kind, shape, wrong = fitted
         if shape is not None:
             options = dataclasses.replace(options, shape=shape)
@@ -102,9 +117,15 @@ class Starter:
         return self._look(inside, saga, fitted, key, text, options, accepts)
 
     async def _look(
-        self, inside: Coordinator, saga: Saga | Kind, fitted: Fitted, key: str, text: str,
-        options: StartOptions, accepts: bool,
-    ) -> bool:  # fmt: skip
+        self,
+        inside: Coordinator,
+        saga: Saga | Kind,
+        fitted: Fitted,
+        key: str,
+        text: str,
+        options: StartOptions,
+        accepts: bool,
+    ) -> bool:
         """As `_start`, of a key that may be there."""
         lookup, payloads = self._lookup, self._shelf.payloads
         kind, _, wrong = fitted

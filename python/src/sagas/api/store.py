@@ -60,14 +60,29 @@ class Store(RetryCalls):
     opened_with: Mapping[str, Any] = {}
 
     def __init__(
-        self, path: str | os.PathLike[str], sagas: Iterable[Saga], *, concurrency: int,
-        accept_new: bool, engine_processes: int, threads: int | None,
-        shutdown_timeout: Seconds | None, idle: Seconds, on_event: Hook | None,
-        clock: Callable[[], float], program: str | None, node: str | None, lease: Seconds,
-        retention: datetime.timedelta | None, archive_dir: str | os.PathLike[str] | None,
-        context: Any, codec: Codec | None, blobs: BlobStore | None, blob_threshold: int,
+        self,
+        path: str | os.PathLike[str],
+        sagas: Iterable[Saga],
+        *,
+        concurrency: int,
+        accept_new: bool,
+        engine_processes: int,
+        threads: int | None,
+        shutdown_timeout: Seconds | None,
+        idle: Seconds,
+        on_event: Hook | None,
+        clock: Callable[[], float],
+        program: str | None,
+        node: str | None,
+        lease: Seconds,
+        retention: datetime.timedelta | None,
+        archive_dir: str | os.PathLike[str] | None,
+        context: Any,
+        codec: Codec | None,
+        blobs: BlobStore | None,
+        blob_threshold: int,
         record: str | os.PathLike[str] | None,
-    ) -> None:  # fmt: skip
+    ) -> None:
         threads = concurrency if threads is None else threads
         counts = {
             "concurrency": concurrency,
@@ -194,9 +209,11 @@ class Store(RetryCalls):
             ...
 
     async def __aexit__(
-        self, kind: type[BaseException] | None, error: BaseException | None,
+        self,
+        kind: type[BaseException] | None,
+        error: BaseException | None,
         trace: TracebackType | None,
-    ) -> None:  # fmt: skip
+    ) -> None:
         await self.close()
 
     async def close(self, shutdown_timeout: Seconds | None = None) -> None:
@@ -280,9 +297,15 @@ class Store(RetryCalls):
             raise refusal.result()
 
     async def start(
-        self, saga: Saga, key: str, input: Any = None, *, labels: Labels | None = None,
-        deadline: Deadline | None = None, traceparent: str | None = None,
-    ) -> Run:  # fmt: skip
+        self,
+        saga: Saga,
+        key: str,
+        input: Any = None,
+        *,
+        labels: Labels | None = None,
+        deadline: Deadline | None = None,
+        traceparent: str | None = None,
+    ) -> Run:
         """Start a saga, or return the one with this key.
 
         The call is idempotent. When it returns, the saga is durable: it goes on even if this
@@ -324,9 +347,15 @@ class Store(RetryCalls):
         return await self._start(None, saga, key, input, labels, deadline, traceparent)
 
     async def _start(
-        self, token: str | None, saga: Saga, key: str, input: Any, labels: Labels | None,
-        deadline: Deadline | None, traceparent: str | None,
-    ) -> Run:  # fmt: skip
+        self,
+        token: str | None,
+        saga: Saga,
+        key: str,
+        input: Any,
+        labels: Labels | None,
+        deadline: Deadline | None,
+        traceparent: str | None,
+    ) -> Run:
         """As `start`; `token`: of a service, the name of the token that starts it."""
         trace = tracing.of_start(self._tracer, traceparent)
         new = await self._starter.start(saga, key, input, labels, deadline, trace, token)

@@ -59,9 +59,14 @@ class SyncClient(Facade[Client]):
     """
 
     def __init__(
-        self, url: str, *, connections: int = 4, codec: Codec | None = None,
-        blobs: BlobStore | None = None, record: str | os.PathLike[str] | None = None,
-    ) -> None:  # fmt: skip
+        self,
+        url: str,
+        *,
+        connections: int = 4,
+        codec: Codec | None = None,
+        blobs: BlobStore | None = None,
+        record: str | os.PathLike[str] | None = None,
+    ) -> None:
         """Make a client, to be entered by `with`. See `Client`."""
         client = Client(url, connections=connections, codec=codec, blobs=blobs, record=record)
         remedy = "is not open. Use `with sagas.SyncClient(...) as client`"

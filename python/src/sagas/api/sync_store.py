@@ -132,9 +132,15 @@ class SyncStore(Facade[Store]):
                 signal.signal(number, signal.SIG_DFL if handler is None else handler)
 
     def start(
-        self, saga: Saga, key: str, input: Any = None, *, labels: Labels | None = None,
-        deadline: Deadline | None = None, traceparent: str | None = None,
-    ) -> SyncRun:  # fmt: skip
+        self,
+        saga: Saga,
+        key: str,
+        input: Any = None,
+        *,
+        labels: Labels | None = None,
+        deadline: Deadline | None = None,
+        traceparent: str | None = None,
+    ) -> SyncRun:
         """Start a saga, or return the one with this key. See `Store.start`.
 
         Example:

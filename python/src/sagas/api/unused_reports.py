@@ -132,10 +132,18 @@ class UnusedReports:
         results = {kind.names[at]: decode(done[at] or "null") for at in below}
         task: Task[Any] = Task(
             Told(
-                kind.name, row.key, name, True, 1, token, place.input if place else given, results,
-                decode(text), place=place,
+                kind.name,
+                row.key,
+                name,
+                True,
+                1,
+                token,
+                place.input if place else given,
+                results,
+                decode(text),
+                place=place,
             )
-        )  # fmt: skip
+        )
         plain = task.plain
         told = None
         if place is not None:

@@ -70,9 +70,16 @@ class Worker:
     """
 
     def __init__(
-        self, url: str | Sequence[str], token: str | None = None, *, concurrency: int = 4,
-        lease: float = 30.0, wait: float = 20.0, name: str | None = None, context: Any = None,
-    ) -> None:  # fmt: skip
+        self,
+        url: str | Sequence[str],
+        token: str | None = None,
+        *,
+        concurrency: int = 4,
+        lease: float = 30.0,
+        wait: float = 20.0,
+        name: str | None = None,
+        context: Any = None,
+    ) -> None:
         """Make a worker; `run` starts it.
 
         Args:
@@ -313,8 +320,12 @@ class Worker:
         return self._report(one, verb, body, more)
 
     def _report(
-        self, one: Held, verb: str, body: dict[str, Any], more: dict[str, Any],
-    ) -> dict[str, Any] | None:  # fmt: skip
+        self,
+        one: Held,
+        verb: str,
+        body: dict[str, Any],
+        more: dict[str, Any],
+    ) -> dict[str, Any] | None:
         """Says how a task ended. Where no more tasks may be taken with it, it is said alone."""
         path, told = f"/v1/tasks/{one.attempt_id}/{verb}", {"lease": one.lease, **body}
         try:

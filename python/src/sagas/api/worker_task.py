@@ -27,8 +27,10 @@ logger = logging.getLogger("sagas.worker")
 Function = Callable[[Task[Any]], Any]
 MOST_TEXT = 4000
 KINDS = {
-    "complete": OutcomeKind.SUCCEEDED, "fail": OutcomeKind.FAILED, "unknown": OutcomeKind.UNKNOWN
-}  # fmt: skip
+    "complete": OutcomeKind.SUCCEEDED,
+    "fail": OutcomeKind.FAILED,
+    "unknown": OutcomeKind.UNKNOWN,
+}
 """What the verb of a report says."""
 
 

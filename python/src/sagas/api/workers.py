@@ -56,9 +56,15 @@ class Workers:
         return await inside.external.claim([*steps], limit, wait, lease, worker, holder)
 
     async def heartbeat(
-        self, attempt_id: str, lease: str, seconds: float = 30.0, *, holder: str = "",
-        progress: float | None = None, detail: str | None = None,
-    ) -> Heartbeat:  # fmt: skip
+        self,
+        attempt_id: str,
+        lease: str,
+        seconds: float = 30.0,
+        *,
+        holder: str = "",
+        progress: float | None = None,
+        detail: str | None = None,
+    ) -> Heartbeat:
         """Extend a lease, because the worker still performs the task.
 
         Args:

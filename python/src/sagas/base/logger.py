@@ -39,9 +39,16 @@ class Guarded(logging.LoggerAdapter[logging.Logger]):
         inner = self.logger
         try:
             record = inner.makeRecord(
-                inner.name, level, __file__, 0, "%s %s", (name, words), error, "event",
+                inner.name,
+                level,
+                __file__,
+                0,
+                "%s %s",
+                (name, words),
+                error,
+                "event",
                 {"sagas": told},
-            )  # fmt: skip
+            )
             inner.handle(record)
         except Exception:
             _say()

@@ -57,7 +57,7 @@ def nodes(path: str, words: argparse.Namespace) -> int:
                 one["starts"],
                 f"{one['seconds']:.1f} s",
                 why(one),
-            )  # fmt: skip
+            )
             for one in told["starts_without_node"]
         ]
         print(table(["SAGA", "DEFINITION", "STARTS", "WAITING", "FOR"], rows))

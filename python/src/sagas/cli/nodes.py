@@ -85,9 +85,7 @@ def read(name: str) -> dict[str, Any]:
                 }
             )
             left.append({"shard": log, "name": word, "sagas": kinds, "open": open})
-        damaged = [
-            dict(zip(("shard", "name", "open", "reason"), row)) for row in link.ask(DAMAGED)
-        ]
+        damaged = [dict(zip(("shard", "name", "open", "reason"), row)) for row in link.ask(DAMAGED)]
         return {
             "nodes": nodes,
             "shards_without_node": left,
@@ -110,7 +108,7 @@ def _starts(link: Base) -> list[dict[str, Any]]:
             "seconds": float(seconds),
             "fits": fits,
             "nodes": others,
-        }  # fmt: skip
+        }
         for saga, version, digest, count, seconds, fits, others in rows
     ]
 

@@ -85,9 +85,13 @@ class Judge:
     """Judges the shards of a store, as of one moment."""
 
     def __init__(
-        self, store: Snapshot, records: Records, is_synchronous: bool = False,
-        folder: str | None = None, judge: Callable[[str], tuple[bool, str]] | None = None,
-    ) -> None:  # fmt: skip
+        self,
+        store: Snapshot,
+        records: Records,
+        is_synchronous: bool = False,
+        folder: str | None = None,
+        judge: Callable[[str], tuple[bool, str]] | None = None,
+    ) -> None:
         self._store, self._records, self._judge = store, records, judge or judged
         self._is_synchronous, self._folder = is_synchronous, folder
         ((self._timeline,),) = store.rows(LINE)

@@ -31,9 +31,7 @@ Delivery = tuple[str, str, str, int, str, str, float]
 """id, webhook, type, saga, key, body, at: of `webhook_deliveries`"""
 Spans = tuple[int, int, str, int, float, str]
 """id, step, kind, attempt, at, spans: of `attempt_spans`"""
-Offer = tuple[
-    str, int, int, int, str, int, str, Optional[int], Optional[int], float, Optional[str]
-]  # fmt: skip
+Offer = tuple[str, int, int, int, str, int, str, Optional[int], Optional[int], float, Optional[str]]
 """attempt, shard, id, step, action, number, task, concurrency, lease, offered_at, cancelled: of
 `external_attempts`"""
 Cancelled = tuple[str, int]

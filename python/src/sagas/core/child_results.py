@@ -16,9 +16,12 @@ CHILDREN = "SELECT s.key, {} FROM children c JOIN sagas s ON s.id = c.id WHERE c
 
 
 def check(
-    key: str, step: str, result: Any, rows: Collection[tuple[str, str]],
+    key: str,
+    step: str,
+    result: Any,
+    rows: Collection[tuple[str, str]],
     steps: Collection[str] | None,
-) -> None:  # fmt: skip
+) -> None:
     """Check a result that is reported by hand for a step that starts a child.
 
     Args:

@@ -58,9 +58,14 @@ def _written(value: Any) -> str:
 
 
 def undo_input(
-    key: str, token: str, kind: Kind, text: str, results: Mapping[int, str],
-    undone: Iterable[str] = (), earlier: Sequence[str] = (),
-) -> Any:  # fmt: skip
+    key: str,
+    token: str,
+    kind: Kind,
+    text: str,
+    results: Mapping[int, str],
+    undone: Iterable[str] = (),
+    earlier: Sequence[str] = (),
+) -> Any:
     """Return the input of the saga that undoes a child.
 
     Args:

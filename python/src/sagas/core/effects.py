@@ -85,8 +85,15 @@ class Effects:
     """
 
     __slots__ = (
-        "batch", "unclaimed", "reported", "opened", "ended", "dispatch", "is_written", "rare",
-    )  # fmt: skip
+        "batch",
+        "unclaimed",
+        "reported",
+        "opened",
+        "ended",
+        "dispatch",
+        "is_written",
+        "rare",
+    )
 
     def __init__(self, batch: Batch) -> None:
         self.batch = batch
@@ -129,9 +136,21 @@ class Question:
     """
 
     __slots__ = (
-        "lines", "reports", "odd", "early", "goods", "aborts", "opens", "overdue", "defines",
-        "claims", "plans", "looks", "shows", "effects",
-    )  # fmt: skip
+        "lines",
+        "reports",
+        "odd",
+        "early",
+        "goods",
+        "aborts",
+        "opens",
+        "overdue",
+        "defines",
+        "claims",
+        "plans",
+        "looks",
+        "shows",
+        "effects",
+    )
 
     def __init__(self) -> None:
         self.lines = self.defines = self.claims = self.plans = self.goods = 0

@@ -102,9 +102,12 @@ class ShardRecord:
         return len(self._lines) - 1
 
     def make(
-        self, takeovers: Sequence[Takeover], chunks: Sequence[Chunk], timeline: str,
+        self,
+        takeovers: Sequence[Takeover],
+        chunks: Sequence[Chunk],
+        timeline: str,
         ends: Iterable[tuple[str, int]] = (),
-    ) -> None:  # fmt: skip
+    ) -> None:
         """Make it.
 
         Args:

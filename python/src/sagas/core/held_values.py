@@ -86,5 +86,7 @@ class HeldValues:
     def is_whole(self) -> bool:
         """Whether all of it is held."""
         return not self.is_partial or ABSENT not in (
-            self.text, self.options.shape, *self.results.values()
-        )  # fmt: skip
+            self.text,
+            self.options.shape,
+            *self.results.values(),
+        )

@@ -73,10 +73,27 @@ class Attempt(AcknowledgedAttempt):
     """
 
     __slots__ = (
-        "instance", "step", "kind", "attempt", "action", "state", "reason", "until", "since",
-        "fresh", "outcome", "at", "took", "event", "has_row", "pending", "record", "recorded",
-        "results", "extras",
-    )  # fmt: skip
+        "instance",
+        "step",
+        "kind",
+        "attempt",
+        "action",
+        "state",
+        "reason",
+        "until",
+        "since",
+        "fresh",
+        "outcome",
+        "at",
+        "took",
+        "event",
+        "has_row",
+        "pending",
+        "record",
+        "recorded",
+        "results",
+        "extras",
+    )
 
     def __init__(
         self, instance: SagaInstance, step: int, kind: str, attempt: int, fresh: bool

@@ -23,8 +23,15 @@ from collections.abc import Iterable
 from typing import NamedTuple
 
 FIELDS = {
-    "took": 7, "sent": 7, "heard": 6, "stale": 5, "failed": 5, "closed": 5, "told": 7, "seen": 4
-}  # fmt: skip
+    "took": 7,
+    "sent": 7,
+    "heard": 6,
+    "stale": 5,
+    "failed": 5,
+    "closed": 5,
+    "told": 7,
+    "seen": 4,
+}
 """How many words a line has."""
 SEEN = "seen"
 

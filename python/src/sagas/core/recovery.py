@@ -180,9 +180,12 @@ def recover(
 
 
 def _put_aborts(
-    effects: Effects, driver: ShardDriver, overdue: Sequence[int], replies: Iterator[str],
+    effects: Effects,
+    driver: ShardDriver,
+    overdue: Sequence[int],
+    replies: Iterator[str],
     log_text: str,
-) -> None:  # fmt: skip
+) -> None:
     """The sagas whose deadlines had passed are aborted, before an attempt of theirs goes on."""
     if overdue:
         effects.batch.text = log_text
@@ -199,9 +202,12 @@ def _under_way(driver: ShardDriver) -> Old:
 
 
 def _restore(
-    found: Recovery, driver: ShardDriver, row: OpenRow,
-    known: Mapping[str, SagaInstance], is_shared: bool,
-) -> None:  # fmt: skip
+    found: Recovery,
+    driver: ShardDriver,
+    row: OpenRow,
+    known: Mapping[str, SagaInstance],
+    is_shared: bool,
+) -> None:
     """Take an open saga of the store; the one that this program has, if it is the same."""
     id, key, place, text, deadline, traceparent, shape = row
     saga = known.get(key)
@@ -264,9 +270,13 @@ def _show(effects: Effects, driver: ShardDriver, number: int, reply: str) -> Non
 
 
 def _resume(
-    found: Recovery, driver: ShardDriver, rows: Loaded, old: Old, busy: list[dict[str, Any]],
+    found: Recovery,
+    driver: ShardDriver,
+    rows: Loaded,
+    old: Old,
+    busy: list[dict[str, Any]],
     is_ours: bool,
-) -> None:  # fmt: skip
+) -> None:
     """The attempts that were begun and not reported: those that are under way here, and those of
     an earlier program. `is_ours`: no other node had the shard since this program knew it, and the
     server is the same.

@@ -141,9 +141,14 @@ class Reading:
             if outcome.kind is SUCCEEDED and not outcome.encoded and payloads.changes(value):
                 value = stored(payloads, value)
             row: Result = (
-                first + saga.number, attempt.step, attempt.kind, attempt.attempt, event, value,
+                first + saga.number,
+                attempt.step,
+                attempt.kind,
+                attempt.attempt,
+                event,
+                value,
                 attempt.at,
-            )  # fmt: skip
+            )
             rows.append(row)
             if attempt.has_row or attempt.extras or saga.kind.has_external:
                 self._settle_rows(attempt)
@@ -267,9 +272,15 @@ class Reading:
                     batch.guessed.append(saga.key)
                 labels, id = saga.options.labels, first + number
                 row: Opened = (
-                    id, saga.key, saga.kind.name, saga.place, saga.text, batch.at,
-                    saga.options.deadline, saga.options.traceparent,
-                )  # fmt: skip
+                    id,
+                    saga.key,
+                    saga.kind.name,
+                    saga.place,
+                    saga.text,
+                    batch.at,
+                    saga.options.deadline,
+                    saga.options.traceparent,
+                )
                 assert saga.text != ABSENT, "the store has this saga already"
                 batch.opened.append(row)
                 if labels:
@@ -325,9 +336,13 @@ class Reading:
             self._end(saga, phase, text, recovered, undo_failed)
 
     def _end(
-        self, saga: SagaInstance, phase: str, end: str, recovered: bool = False,
+        self,
+        saga: SagaInstance,
+        phase: str,
+        end: str,
+        recovered: bool = False,
         undo_failed: bool = False,
-    ) -> None:  # fmt: skip
+    ) -> None:
         saga.phase, saga.end = phase, end
         batch, id = self._batch, self._first + saga.number
         batch.ended.append((phase, end, recovered, undo_failed, batch.at, id))

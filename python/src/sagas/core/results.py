@@ -209,16 +209,35 @@ class SagaResult(Answering):
     fan: Fan = dataclasses.field(default=FIXED, repr=False, compare=False)
 
     def __init__(
-        self, key: str, saga: str, phase: str, states: dict[str, str], results: dict[str, Any],
-        cost: int | None, blocking_steps: list[str], kept: list[str], aborted: bool,
-        note: str | None = None, errors: dict[str, str] | None = None, fan: Fan = FIXED,
-    ) -> None:  # fmt: skip
+        self,
+        key: str,
+        saga: str,
+        phase: str,
+        states: dict[str, str],
+        results: dict[str, Any],
+        cost: int | None,
+        blocking_steps: list[str],
+        kept: list[str],
+        aborted: bool,
+        note: str | None = None,
+        errors: dict[str, str] | None = None,
+        fan: Fan = FIXED,
+    ) -> None:
         # at once: a frozen class's own form takes three times as long, and each saga makes one
         vars(self).update(
-            key=key, saga=saga, phase=phase, states=states, results=results, cost=cost,
+            key=key,
+            saga=saga,
+            phase=phase,
+            states=states,
+            results=results,
+            cost=cost,
             blocking_steps=blocking_steps,
-            kept=kept, aborted=aborted, note=note, errors=errors or {}, fan=fan,
-        )  # fmt: skip
+            kept=kept,
+            aborted=aborted,
+            note=note,
+            errors=errors or {},
+            fan=fan,
+        )
 
     @classmethod
     def later(cls, read: Callable[[], SagaResult]) -> SagaResult:

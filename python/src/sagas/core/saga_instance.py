@@ -56,9 +56,23 @@ class SagaInstance(AcknowledgedSaga):
     """
 
     __slots__ = (
-        "key", "kind", "place", "number", "shard", "busy", "odd", "aborted", "draining", "answer",
-        "committed", "guessed", "start", "phase", "end", "token",
-    )  # fmt: skip
+        "key",
+        "kind",
+        "place",
+        "number",
+        "shard",
+        "busy",
+        "odd",
+        "aborted",
+        "draining",
+        "answer",
+        "committed",
+        "guessed",
+        "start",
+        "phase",
+        "end",
+        "token",
+    )
 
     def __init__(
         self,

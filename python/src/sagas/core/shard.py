@@ -85,10 +85,27 @@ class ShardDriver:
     """
 
     __slots__ = (
-        "identity", "state", "epoch", "known", "born", "sagas", "opens", "reports", "aborts",
-        "sent", "reporting", "aborting", "events", "opened", "reserved", "is_full", "unwritten",
-        "hungry", "asked", "_more",
-    )  # fmt: skip
+        "identity",
+        "state",
+        "epoch",
+        "known",
+        "born",
+        "sagas",
+        "opens",
+        "reports",
+        "aborts",
+        "sent",
+        "reporting",
+        "aborting",
+        "events",
+        "opened",
+        "reserved",
+        "is_full",
+        "unwritten",
+        "hungry",
+        "asked",
+        "_more",
+    )
 
     def __init__(
         self, identity: ShardIdentity, state: ShardState, epoch: int = 0, opened: int = 0
@@ -309,9 +326,11 @@ class ShardDriver:
         reports = [line for _, line in told]
         taken = [protocol.take_lines(one.saga.number, one.word[0]) for one in asked.early]
         lines[:] = [
-            *reports[: asked.goods], *itertools.chain(*taken), *lines[:first],
+            *reports[: asked.goods],
+            *itertools.chain(*taken),
+            *lines[:first],
             *reports[asked.goods :],
-        ]  # fmt: skip
+        ]
 
     def _ask_opens(self, lines: list[str]) -> Sequence[SagaInstance]:
         """As many as a question may have."""

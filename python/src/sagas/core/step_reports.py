@@ -61,9 +61,13 @@ def early_of(rows: Iterable[tuple[Any, ...]]) -> Outcome | None:
 
 
 def check(
-    key: str, step: str, first: Outcome, outcome: Outcome, why: str | None = None,
+    key: str,
+    step: str,
+    first: Outcome,
+    outcome: Outcome,
+    why: str | None = None,
     payloads: Payloads = PLAIN,
-) -> None:  # fmt: skip
+) -> None:
     """Raises `ConflictingReport` where this is another answer than the first, which is as it is
     stored. What was said is in neither text. `why`: what is to be said of the step, where that is
     more."""

@@ -27,7 +27,7 @@ class CompletedChild(NamedTuple):
 
 def by_shard(
     rows: Iterable[tuple[Any, ...]], definitions: Iterable[tuple[Any, ...]]
-) -> dict[int, list[CompletedChild]]:  # fmt: skip
+) -> dict[int, list[CompletedChild]]:
     """Return completed children by the shards of the open sagas above them.
 
     Args:

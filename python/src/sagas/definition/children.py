@@ -61,28 +61,49 @@ class ChildSteps:
 
     @overload
     def child(
-        self, saga: Saga, *, input: Callable[[Any], Any], name: str | None = None,
-        needs: Iterable[Need] = (), undo: Cost | None = None, skip: Cost = 0,
-        keep: Cost | None = None, on_exhausted: Literal["fail", "ask"] = "fail",
+        self,
+        saga: Saga,
+        *,
+        input: Callable[[Any], Any],
+        name: str | None = None,
+        needs: Iterable[Need] = (),
+        undo: Cost | None = None,
+        skip: Cost = 0,
+        keep: Cost | None = None,
+        on_exhausted: Literal["fail", "ask"] = "fail",
         undo_on_exhausted: Literal["fail", "ask"] = "ask",
-    ) -> Step[ChildResult]:  # fmt: skip
+    ) -> Step[ChildResult]:
         ...
 
     @overload
     def child(
-        self, saga: Saga, *, input: None = None, name: str | None = None,
-        needs: Iterable[Need] = (), undo: Cost | None = None, skip: Cost = 0,
-        keep: Cost | None = None, on_exhausted: Literal["fail", "ask"] = "fail",
+        self,
+        saga: Saga,
+        *,
+        input: None = None,
+        name: str | None = None,
+        needs: Iterable[Need] = (),
+        undo: Cost | None = None,
+        skip: Cost = 0,
+        keep: Cost | None = None,
+        on_exhausted: Literal["fail", "ask"] = "fail",
         undo_on_exhausted: Literal["fail", "ask"] = "ask",
-    ) -> Callable[[Callable[[Any], Any]], Step[ChildResult]]:  # fmt: skip
+    ) -> Callable[[Callable[[Any], Any]], Step[ChildResult]]:
         ...
 
     def child(
-        self, saga: Saga, *, input: Callable[[Any], Any] | None = None, name: str | None = None,
-        needs: Iterable[Need] = (), undo: Cost | None = None, skip: Cost = 0,
-        keep: Cost | None = None, on_exhausted: Literal["fail", "ask"] = "fail",
+        self,
+        saga: Saga,
+        *,
+        input: Callable[[Any], Any] | None = None,
+        name: str | None = None,
+        needs: Iterable[Need] = (),
+        undo: Cost | None = None,
+        skip: Cost = 0,
+        keep: Cost | None = None,
+        on_exhausted: Literal["fail", "ask"] = "fail",
         undo_on_exhausted: Literal["fail", "ask"] = "ask",
-    ) -> Any:  # fmt: skip
+    ) -> Any:
         """Declare a step that starts another saga, and waits for its end.
 
         The function returns the child's input. It may be called again: the first child that is

@@ -89,9 +89,18 @@ class Action:
     """
 
     __slots__ = (
-        "name", "word", "kind", "undo", "simple", "inside", "given", "hint",
-        "is_remote", "is_external", "context",
-    )  # fmt: skip
+        "name",
+        "word",
+        "kind",
+        "undo",
+        "simple",
+        "inside",
+        "given",
+        "hint",
+        "is_remote",
+        "is_external",
+        "context",
+    )
 
     def __init__(
         self,
@@ -124,9 +133,13 @@ class Kind:
     """
 
     def __init__(
-        self, text: str, saga: Saga | None, context: Context | None = None,
-        payloads: Payloads = PLAIN_PAYLOADS, declared: Declared | None = None,
-    ) -> None:  # fmt: skip
+        self,
+        text: str,
+        saga: Saga | None,
+        context: Context | None = None,
+        payloads: Payloads = PLAIN_PAYLOADS,
+        declared: Declared | None = None,
+    ) -> None:
         self.payloads = payloads
         self.hooks: Hooks = {}
         self.declared = declared or Declared(saga)
@@ -232,11 +245,16 @@ class Kind:
         is_fair = self.fair_by is not None
         return [
             Action(
-                name, (number, kind), self.steps[number], given[number], hints[number], context,
+                name,
+                (number, kind),
+                self.steps[number],
+                given[number],
+                hints[number],
+                context,
                 is_fair,
             )
             for number, name in enumerate(self.names)
-        ]  # fmt: skip
+        ]
 
     def _below(self, needs: list[list[int]]) -> list[list[int]]:
         """The steps that each step needs, directly or not."""

@@ -20,16 +20,23 @@ MINUTE, DAY = datetime.timedelta(minutes=1), datetime.timedelta(days=1)
 MOST_DAYS = 366 * 8 + 1
 """Days that are looked at for the next time: a 29th of February may be eight years away."""
 MACROS = {
-    "@yearly": "0 0 1 1 *", "@annually": "0 0 1 1 *", "@monthly": "0 0 1 * *",
-    "@weekly": "0 0 * * 0", "@daily": "0 0 * * *", "@midnight": "0 0 * * *",
+    "@yearly": "0 0 1 1 *",
+    "@annually": "0 0 1 1 *",
+    "@monthly": "0 0 1 * *",
+    "@weekly": "0 0 * * 0",
+    "@daily": "0 0 * * *",
+    "@midnight": "0 0 * * *",
     "@hourly": "0 * * * *",
-}  # fmt: skip
+}
 MONTHS = "jan feb mar apr may jun jul aug sep oct nov dec".split()
 DAYS = "sun mon tue wed thu fri sat".split()
 FIELDS: tuple[tuple[str, int, int, list[str]], ...] = (
-    ("minute", 0, 59, []), ("hour", 0, 23, []), ("day of month", 1, 31, []),
-    ("month", 1, 12, MONTHS), ("day of week", 0, 7, DAYS),
-)  # fmt: skip
+    ("minute", 0, 59, []),
+    ("hour", 0, 23, []),
+    ("day of month", 1, 31, []),
+    ("month", 1, 12, MONTHS),
+    ("day of week", 0, 7, DAYS),
+)
 PART = re.compile(r"(\*|\w+)(?:-(\w+))?(?:/(\d+))?\Z")
 
 

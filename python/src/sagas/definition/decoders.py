@@ -22,11 +22,15 @@ from sagas.definition.mismatches import Misfit
 
 Decoder = Callable[[Any], Any]
 _MADE: dict[Any, type] = {
-    collections.abc.Sequence: list, collections.abc.MutableSequence: list,
-    collections.abc.Collection: list, collections.abc.Iterable: list,
-    collections.abc.Set: set, collections.abc.MutableSet: set,
-    collections.abc.Mapping: dict, collections.abc.MutableMapping: dict,
-}  # fmt: skip
+    collections.abc.Sequence: list,
+    collections.abc.MutableSequence: list,
+    collections.abc.Collection: list,
+    collections.abc.Iterable: list,
+    collections.abc.Set: set,
+    collections.abc.MutableSet: set,
+    collections.abc.Mapping: dict,
+    collections.abc.MutableMapping: dict,
+}
 """What is made for a hint that names no class of its own."""
 
 
@@ -381,9 +385,14 @@ def _knows(made: Any, value: Any) -> bool:
 
 
 _JSON: dict[Any, tuple[type, ...]] = {
-    str: (str,), int: (int,), float: (int, float), bool: (bool,), dict: (dict,), list: (list,),
+    str: (str,),
+    int: (int,),
+    float: (int, float),
+    bool: (bool,),
+    dict: (dict,),
+    list: (list,),
     type(None): (type(None),),
-}  # fmt: skip
+}
 """The types of JSON that a plain hint stands for; of others anything is taken."""
 
 

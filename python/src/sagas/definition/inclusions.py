@@ -32,27 +32,43 @@ class Inclusions:
 
     @overload
     def include(
-        self, saga: Saga, *, name: str | None = None, needs: Iterable[Need] = (),
+        self,
+        saga: Saga,
+        *,
+        name: str | None = None,
+        needs: Iterable[Need] = (),
         input: str | Callable[[Any], Any] | None = None,
-        given: Callable[[Any], Any] | None = None, when: Callable[[Any], Any] | None = None,
+        given: Callable[[Any], Any] | None = None,
+        when: Callable[[Any], Any] | None = None,
         for_each: None = None,
-    ) -> Inclusion:  # fmt: skip
+    ) -> Inclusion:
         ...
 
     @overload
     def include(
-        self, saga: Saga, *, for_each: ForEach, name: str | None = None,
-        needs: Iterable[Need] = (), input: str | Callable[[Any], Any] | None = None,
-        given: Callable[[Any], Any] | None = None, when: Callable[[Any], Any] | None = None,
-    ) -> FanOutInclusion:  # fmt: skip
+        self,
+        saga: Saga,
+        *,
+        for_each: ForEach,
+        name: str | None = None,
+        needs: Iterable[Need] = (),
+        input: str | Callable[[Any], Any] | None = None,
+        given: Callable[[Any], Any] | None = None,
+        when: Callable[[Any], Any] | None = None,
+    ) -> FanOutInclusion:
         ...
 
     def include(
-        self, saga: Saga, *, name: str | None = None, needs: Iterable[Need] = (),
+        self,
+        saga: Saga,
+        *,
+        name: str | None = None,
+        needs: Iterable[Need] = (),
         input: str | Callable[[Any], Any] | None = None,
-        given: Callable[[Any], Any] | None = None, when: Callable[[Any], Any] | None = None,
+        given: Callable[[Any], Any] | None = None,
+        when: Callable[[Any], Any] | None = None,
         for_each: ForEach | None = None,
-    ) -> Inclusion:  # fmt: skip
+    ) -> Inclusion:
         """Have the steps of another saga within this one, under one plan.
 
         The step `room` of an inclusion `hotel` has the name `hotel-room`. The functions of the

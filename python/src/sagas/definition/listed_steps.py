@@ -68,6 +68,13 @@ def is_compensated(step: Step[Any]) -> bool:
 def _step(told: dict[str, Any], is_compensated: bool) -> ListedStep:
     run, undo, skip, keep = (told.get(word, 0) for word in ("run", "undo", "skip", "keep"))
     return ListedStep(
-        told["name"], tuple(told.get("needs", ())), told.get("tries", 1), run, undo, skip, keep,
-        told.get("undo_tries", 1), is_compensated,
-    )  # fmt: skip
+        told["name"],
+        tuple(told.get("needs", ())),
+        told.get("tries", 1),
+        run,
+        undo,
+        skip,
+        keep,
+        told.get("undo_tries", 1),
+        is_compensated,
+    )

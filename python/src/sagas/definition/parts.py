@@ -95,10 +95,17 @@ class Inclusion:
     kind = "include"
 
     def __init__(
-        self, saga: Saga, inner: Saga, name: str, where: str, needs: tuple[Need, ...],
-        input: str | Callable[[Any], Any] | None, given: Callable[[Any], Any] | None,
-        for_each: ForEach | None, when: Callable[[Any], Any] | None,
-    ) -> None:  # fmt: skip
+        self,
+        saga: Saga,
+        inner: Saga,
+        name: str,
+        where: str,
+        needs: tuple[Need, ...],
+        input: str | Callable[[Any], Any] | None,
+        given: Callable[[Any], Any] | None,
+        for_each: ForEach | None,
+        when: Callable[[Any], Any] | None,
+    ) -> None:
         self.saga, self.inner, self.name, self.where = saga, inner, name, where
         self.input, self.given, self.for_each, self.when = input, given, for_each, when
         self._needs = needs

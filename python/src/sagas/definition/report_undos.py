@@ -117,10 +117,14 @@ def _undoing(function: Callable[[Any], Any], step: Step[Any]) -> Callable[[Any],
         about = task._about
         inner: Task[Any] = Task(
             dataclasses.replace(
-                told_of(task.input, step, task.attempt), hint=hint, decoders=known,
-                context=about.context, control=about.control, traceparent=about.traceparent,
+                told_of(task.input, step, task.attempt),
+                hint=hint,
+                decoders=known,
+                context=about.context,
+                control=about.control,
+                traceparent=about.traceparent,
             )
-        )  # fmt: skip
+        )
         inner.enter_by(lambda: task.connection)
         return inner
 

@@ -91,9 +91,14 @@ class Saga(WaitSteps, Inclusions):
     """
 
     def __init__(
-        self, name: str, *, version: int = 1, deadline: Seconds | None = None,
-        fair_by: Callable[[Any], Any] | None = None, input: Any = None,
-    ) -> None:  # fmt: skip
+        self,
+        name: str,
+        *,
+        version: int = 1,
+        deadline: Seconds | None = None,
+        fair_by: Callable[[Any], Any] | None = None,
+        input: Any = None,
+    ) -> None:
         self.name, self.version, self.where = name, version, validation.caller(2)
         self.deadline, self.fair_by = deadline, fair_by
         self.input_type = input
@@ -117,63 +122,23 @@ class Saga(WaitSteps, Inclusions):
         self,
         function: None = None,
         /,
-        *, external: Literal[True], name: str, needs: Iterable[Need] = (),
-        run: CostOf = 0, undo: CostOf | None = None, skip: CostOf = 0, keep: CostOf = 0,
-        tries: int = 1, backoff: Backoff = Backoff(), concurrency: int | None = None,
-        on_exhausted: OnExhausted = "fail", max_attempts: int | None = None,
-        for_each: None = None, when: Callable[[Any], Any] | None = None,
-        early_unused: EarlyUnused = "ask",
-    ) -> Step[Any]:  # fmt: skip
-        ...
-
-    @overload
-    def step(
-        self,
-        function: None = None,
-        /,
-        *, external: Literal[True], name: str, for_each: ForEach, needs: Iterable[Need] = (),
-        run: CostOf = 0, undo: CostOf | None = None, skip: CostOf = 0, keep: CostOf = 0,
-        tries: int = 1, backoff: Backoff = Backoff(), concurrency: int | None = None,
-        on_exhausted: OnExhausted = "fail", max_attempts: int | None = None,
-        when: Callable[[Any], Any] | None = None, early_unused: EarlyUnused = "ask",
-    ) -> FanOut[Any, Any]:  # fmt: skip
-        ...
-
-    @overload
-    def step(
-        self,
-        function: None = None,
-        /,
-        *, for_each: Callable[[Any], Mapping[str, T]], name: str | None = None,
-        needs: Iterable[Need] = (), run: CostOf = 0,
-        undo: CostOf | None = None, skip: CostOf = 0,
-        keep: CostOf = 0, tries: int = 1,
-        timeout: Seconds | None = None, backoff: Backoff = Backoff(), unknown: Unknowns = UNKNOWN,
-        max_unknown: int | datetime.timedelta | None = None, concurrency: int | None = None,
-        transaction: bool = False, queue: RemoteQueue | None = None,
-        fleet_concurrency: int | None = None, rate_limit: tuple[int, Seconds] | None = None,
-        on_exhausted: OnExhausted = "fail", max_attempts: int | None = None,
-        cancel_on_abort: bool = False, concurrency_by: Callable[[Any], Any] | None = None,
-        when: Callable[[Any], Any] | None = None,
-    ) -> DeclareKeyed[T]:  # fmt: skip
-        ...
-
-    @overload
-    def step(
-        self,
-        function: None = None,
-        /,
-        *, for_each: str, name: str | None = None, needs: Iterable[Need] = (),
-        run: CostOf = 0, undo: CostOf | None = None, skip: CostOf = 0, keep: CostOf = 0,
+        *,
+        external: Literal[True],
+        name: str,
+        needs: Iterable[Need] = (),
+        run: CostOf = 0,
+        undo: CostOf | None = None,
+        skip: CostOf = 0,
+        keep: CostOf = 0,
         tries: int = 1,
-        timeout: Seconds | None = None, backoff: Backoff = Backoff(), unknown: Unknowns = UNKNOWN,
-        max_unknown: int | datetime.timedelta | None = None, concurrency: int | None = None,
-        transaction: bool = False, queue: RemoteQueue | None = None,
-        fleet_concurrency: int | None = None, rate_limit: tuple[int, Seconds] | None = None,
-        on_exhausted: OnExhausted = "fail", max_attempts: int | None = None,
-        cancel_on_abort: bool = False, concurrency_by: Callable[[Any], Any] | None = None,
+        backoff: Backoff = Backoff(),
+        concurrency: int | None = None,
+        on_exhausted: OnExhausted = "fail",
+        max_attempts: int | None = None,
+        for_each: None = None,
         when: Callable[[Any], Any] | None = None,
-    ) -> DeclareEach[Any]:  # fmt: skip
+        early_unused: EarlyUnused = "ask",
+    ) -> Step[Any]:
         ...
 
     @overload
@@ -181,18 +146,23 @@ class Saga(WaitSteps, Inclusions):
         self,
         function: None = None,
         /,
-        *, for_each: Callable[[Any], Sequence[T]], name: str | None = None,
-        needs: Iterable[Need] = (), run: CostOf = 0,
-        undo: CostOf | None = None, skip: CostOf = 0,
-        keep: CostOf = 0, tries: int = 1,
-        timeout: Seconds | None = None, backoff: Backoff = Backoff(), unknown: Unknowns = UNKNOWN,
-        max_unknown: int | datetime.timedelta | None = None, concurrency: int | None = None,
-        transaction: bool = False, queue: RemoteQueue | None = None,
-        fleet_concurrency: int | None = None, rate_limit: tuple[int, Seconds] | None = None,
-        on_exhausted: OnExhausted = "fail", max_attempts: int | None = None,
-        cancel_on_abort: bool = False, concurrency_by: Callable[[Any], Any] | None = None,
+        *,
+        external: Literal[True],
+        name: str,
+        for_each: ForEach,
+        needs: Iterable[Need] = (),
+        run: CostOf = 0,
+        undo: CostOf | None = None,
+        skip: CostOf = 0,
+        keep: CostOf = 0,
+        tries: int = 1,
+        backoff: Backoff = Backoff(),
+        concurrency: int | None = None,
+        on_exhausted: OnExhausted = "fail",
+        max_attempts: int | None = None,
         when: Callable[[Any], Any] | None = None,
-    ) -> DeclareEach[T]:  # fmt: skip
+        early_unused: EarlyUnused = "ask",
+    ) -> FanOut[Any, Any]:
         ...
 
     @overload
@@ -200,31 +170,154 @@ class Saga(WaitSteps, Inclusions):
         self,
         function: None = None,
         /,
-        *, name: str | None = None, needs: Iterable[Need] = (), run: CostOf = 0,
-        undo: CostOf | None = None, skip: CostOf = 0, keep: CostOf = 0, tries: int = 1,
-        timeout: Seconds | None = None, backoff: Backoff = Backoff(), unknown: Unknowns = UNKNOWN,
-        max_unknown: int | datetime.timedelta | None = None, concurrency: int | None = None,
-        transaction: bool = False, queue: RemoteQueue | None = None,
-        fleet_concurrency: int | None = None, rate_limit: tuple[int, Seconds] | None = None,
-        on_exhausted: OnExhausted = "fail", max_attempts: int | None = None,
-        cancel_on_abort: bool = False, concurrency_by: Callable[[Any], Any] | None = None,
+        *,
+        for_each: Callable[[Any], Mapping[str, T]],
+        name: str | None = None,
+        needs: Iterable[Need] = (),
+        run: CostOf = 0,
+        undo: CostOf | None = None,
+        skip: CostOf = 0,
+        keep: CostOf = 0,
+        tries: int = 1,
+        timeout: Seconds | None = None,
+        backoff: Backoff = Backoff(),
+        unknown: Unknowns = UNKNOWN,
+        max_unknown: int | datetime.timedelta | None = None,
+        concurrency: int | None = None,
+        transaction: bool = False,
+        queue: RemoteQueue | None = None,
+        fleet_concurrency: int | None = None,
+        rate_limit: tuple[int, Seconds] | None = None,
+        on_exhausted: OnExhausted = "fail",
+        max_attempts: int | None = None,
+        cancel_on_abort: bool = False,
+        concurrency_by: Callable[[Any], Any] | None = None,
         when: Callable[[Any], Any] | None = None,
-    ) -> Declare:  # fmt: skip
+    ) -> DeclareKeyed[T]:
+        ...
+
+    @overload
+    def step(
+        self,
+        function: None = None,
+        /,
+        *,
+        for_each: str,
+        name: str | None = None,
+        needs: Iterable[Need] = (),
+        run: CostOf = 0,
+        undo: CostOf | None = None,
+        skip: CostOf = 0,
+        keep: CostOf = 0,
+        tries: int = 1,
+        timeout: Seconds | None = None,
+        backoff: Backoff = Backoff(),
+        unknown: Unknowns = UNKNOWN,
+        max_unknown: int | datetime.timedelta | None = None,
+        concurrency: int | None = None,
+        transaction: bool = False,
+        queue: RemoteQueue | None = None,
+        fleet_concurrency: int | None = None,
+        rate_limit: tuple[int, Seconds] | None = None,
+        on_exhausted: OnExhausted = "fail",
+        max_attempts: int | None = None,
+        cancel_on_abort: bool = False,
+        concurrency_by: Callable[[Any], Any] | None = None,
+        when: Callable[[Any], Any] | None = None,
+    ) -> DeclareEach[Any]:
+        ...
+
+    @overload
+    def step(
+        self,
+        function: None = None,
+        /,
+        *,
+        for_each: Callable[[Any], Sequence[T]],
+        name: str | None = None,
+        needs: Iterable[Need] = (),
+        run: CostOf = 0,
+        undo: CostOf | None = None,
+        skip: CostOf = 0,
+        keep: CostOf = 0,
+        tries: int = 1,
+        timeout: Seconds | None = None,
+        backoff: Backoff = Backoff(),
+        unknown: Unknowns = UNKNOWN,
+        max_unknown: int | datetime.timedelta | None = None,
+        concurrency: int | None = None,
+        transaction: bool = False,
+        queue: RemoteQueue | None = None,
+        fleet_concurrency: int | None = None,
+        rate_limit: tuple[int, Seconds] | None = None,
+        on_exhausted: OnExhausted = "fail",
+        max_attempts: int | None = None,
+        cancel_on_abort: bool = False,
+        concurrency_by: Callable[[Any], Any] | None = None,
+        when: Callable[[Any], Any] | None = None,
+    ) -> DeclareEach[T]:
+        ...
+
+    @overload
+    def step(
+        self,
+        function: None = None,
+        /,
+        *,
+        name: str | None = None,
+        needs: Iterable[Need] = (),
+        run: CostOf = 0,
+        undo: CostOf | None = None,
+        skip: CostOf = 0,
+        keep: CostOf = 0,
+        tries: int = 1,
+        timeout: Seconds | None = None,
+        backoff: Backoff = Backoff(),
+        unknown: Unknowns = UNKNOWN,
+        max_unknown: int | datetime.timedelta | None = None,
+        concurrency: int | None = None,
+        transaction: bool = False,
+        queue: RemoteQueue | None = None,
+        fleet_concurrency: int | None = None,
+        rate_limit: tuple[int, Seconds] | None = None,
+        on_exhausted: OnExhausted = "fail",
+        max_attempts: int | None = None,
+        cancel_on_abort: bool = False,
+        concurrency_by: Callable[[Any], Any] | None = None,
+        when: Callable[[Any], Any] | None = None,
+    ) -> Declare:
         ...
 
     def step(
-        self, function: Callable[[Any], Any] | None = None, /, *,
-        name: str | None = None, needs: Iterable[Need] = (), run: CostOf = 0,
-        undo: CostOf | None = None, skip: CostOf = 0, keep: CostOf = 0, tries: int = 1,
-        timeout: Seconds | None = None, backoff: Backoff = Backoff(), unknown: Unknowns = UNKNOWN,
-        max_unknown: int | datetime.timedelta | None = None, concurrency: int | None = None,
-        transaction: bool = False, external: bool = False, queue: RemoteQueue | None = None,
-        fleet_concurrency: int | None = None, rate_limit: tuple[int, Seconds] | None = None,
-        on_exhausted: OnExhausted = "fail", max_attempts: int | None = None,
-        cancel_on_abort: bool = False, concurrency_by: Callable[[Any], Any] | None = None,
-        when: Callable[[Any], Any] | None = None, early_unused: EarlyUnused = "ask",
+        self,
+        function: Callable[[Any], Any] | None = None,
+        /,
+        *,
+        name: str | None = None,
+        needs: Iterable[Need] = (),
+        run: CostOf = 0,
+        undo: CostOf | None = None,
+        skip: CostOf = 0,
+        keep: CostOf = 0,
+        tries: int = 1,
+        timeout: Seconds | None = None,
+        backoff: Backoff = Backoff(),
+        unknown: Unknowns = UNKNOWN,
+        max_unknown: int | datetime.timedelta | None = None,
+        concurrency: int | None = None,
+        transaction: bool = False,
+        external: bool = False,
+        queue: RemoteQueue | None = None,
+        fleet_concurrency: int | None = None,
+        rate_limit: tuple[int, Seconds] | None = None,
+        on_exhausted: OnExhausted = "fail",
+        max_attempts: int | None = None,
+        cancel_on_abort: bool = False,
+        concurrency_by: Callable[[Any], Any] | None = None,
+        when: Callable[[Any], Any] | None = None,
+        early_unused: EarlyUnused = "ask",
         for_each: ForEach | None = None,
-    ) -> Any:  # fmt: skip
+    ) -> Any:
         """Declare a function as a step, by `@saga.step` or `@saga.step(...)`.
 
         The function gets a `Task`. It may be called again, for example after a crash: hand
@@ -293,10 +386,19 @@ class Saga(WaitSteps, Inclusions):
 
         def declare(function: Callable[[Any], Any] | None) -> Step[Any]:
             manner = Manner(
-                function, tries, timeout if timeout is None else seconds(timeout), backoff, unknown,
-                max_unknown, function is None, transaction, queue=queue, on_exhausted=on_exhausted,
-                max_attempts=max_attempts, cancel_on_abort=cancel_on_abort,
-            )  # fmt: skip
+                function,
+                tries,
+                timeout if timeout is None else seconds(timeout),
+                backoff,
+                unknown,
+                max_unknown,
+                function is None,
+                transaction,
+                queue=queue,
+                on_exhausted=on_exhausted,
+                max_attempts=max_attempts,
+                cancel_on_abort=cancel_on_abort,
+            )
             costs: dict[str, CostOf | None] = {"run": run, "undo": undo, "skip": skip, "keep": keep}
             step = self._add(
                 function, name, "step", needs, costs, manner, concurrency, for_each, when

@@ -56,9 +56,12 @@ class Level:
     __slots__ = ("saga", "scope", "prefix", "owner", "found", "inner", "_entries")
 
     def __init__(
-        self, saga: Saga, scope: Scope, prefix: str,
+        self,
+        saga: Saga,
+        scope: Scope,
+        prefix: str,
         owner: tuple[Level, Inclusion, int | None] | None = None,
-    ) -> None:  # fmt: skip
+    ) -> None:
         self.saga, self.scope, self.prefix, self.owner = saga, scope, prefix, owner
         self.found: dict[str, Sequence[int | None]] = {}
         self.inner: dict[tuple[str, int | None], Level] = {}

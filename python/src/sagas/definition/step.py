@@ -291,24 +291,36 @@ class Step(Selection[R]):
         self,
         function: None = None,
         /,
-        *, tries: int = 1, timeout: Seconds | None = None, backoff: Backoff | None = None,
-        unknown: Unknowns | None = None, max_unknown: int | datetime.timedelta | None = None,
-        transaction: bool | None = None, external: bool = False,
+        *,
+        tries: int = 1,
+        timeout: Seconds | None = None,
+        backoff: Backoff | None = None,
+        unknown: Unknowns | None = None,
+        max_unknown: int | datetime.timedelta | None = None,
+        transaction: bool | None = None,
+        external: bool = False,
         queue: RemoteQueue | types.EllipsisType | None = ...,
-        on_exhausted: OnExhausted = "ask", max_attempts: int | None = None,
-    ) -> Callable[[Callable[[Any], Any]], Callable[[Any], Any]]:  # fmt: skip
+        on_exhausted: OnExhausted = "ask",
+        max_attempts: int | None = None,
+    ) -> Callable[[Callable[[Any], Any]], Callable[[Any], Any]]:
         ...
 
     def compensation(
         self,
         function: Callable[[Any], Any] | None = None,
         /,
-        *, tries: int = 1, timeout: Seconds | None = None, backoff: Backoff | None = None,
-        unknown: Unknowns | None = None, max_unknown: int | datetime.timedelta | None = None,
-        transaction: bool | None = None, external: bool = False,
+        *,
+        tries: int = 1,
+        timeout: Seconds | None = None,
+        backoff: Backoff | None = None,
+        unknown: Unknowns | None = None,
+        max_unknown: int | datetime.timedelta | None = None,
+        transaction: bool | None = None,
+        external: bool = False,
         queue: RemoteQueue | types.EllipsisType | None = ...,
-        on_exhausted: OnExhausted = "ask", max_attempts: int | None = None,
-    ) -> Any:  # fmt: skip
+        on_exhausted: OnExhausted = "ask",
+        max_attempts: int | None = None,
+    ) -> Any:
         """Declare the function that undoes this step, by `@step.compensation`.
 
         Its task has the step's result as `task.result`. Like a step's function it may be called

@@ -112,7 +112,20 @@ class Told:
 def whole(about: About) -> Told:
     """As it is now, whatever becomes of it."""
     return Told(
-        about.saga, about.key, about.name, about.undo, about.attempt, about.saga_token, about.input,
-        about.given, about.own, about.hint, about.decoders, about.deadline, about.context,
-        about.control, about.traceparent, about.place,
-    )  # fmt: skip
+        about.saga,
+        about.key,
+        about.name,
+        about.undo,
+        about.attempt,
+        about.saga_token,
+        about.input,
+        about.given,
+        about.own,
+        about.hint,
+        about.decoders,
+        about.deadline,
+        about.context,
+        about.control,
+        about.traceparent,
+        about.place,
+    )

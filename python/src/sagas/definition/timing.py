@@ -170,9 +170,13 @@ def policy_of(stored: str) -> tuple[CatchUp, int, Overlap]:
 
 
 def timing(
-    cron: Any, every: Any, timezone: Any, catch_up: Any, most: Any = MOST_MISSED,
+    cron: Any,
+    every: Any,
+    timezone: Any,
+    catch_up: Any,
+    most: Any = MOST_MISSED,
     overlap: Any = Overlap.ALLOW,
-) -> Timing:  # fmt: skip
+) -> Timing:
     """Return when a schedule starts its sagas, by the arguments of `Store.schedule`.
 
     Raises:

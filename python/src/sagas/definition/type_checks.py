@@ -22,9 +22,14 @@ from sagas.definition.mismatches import Misfit
 Check = Callable[[Any], None]
 """Raises `Misfit`."""
 NAMES: dict[Any, str] = {
-    str: "a text", int: "an integer", float: "a number", bool: "true or false",
-    type(None): "null", dict: "an object", list: "a list",
-}  # fmt: skip
+    str: "a text",
+    int: "an integer",
+    float: "a number",
+    bool: "true or false",
+    type(None): "null",
+    dict: "an object",
+    list: "a list",
+}
 LISTS = (list, tuple, set, frozenset)
 
 

@@ -129,9 +129,15 @@ def _declare(
     cost, skip = _cost(one.cost), _cost(one.skip)
     if step.child is not None and step.undo.implied:
         saga.child(
-            step.child, input=_key_of(step.name), name=step.name, needs=needs, undo=NEVER,
-            skip=skip, keep=0, on_exhausted="ask" if step.undo.on_exhausted == "ask" else "fail",
-        )  # fmt: skip
+            step.child,
+            input=_key_of(step.name),
+            name=step.name,
+            needs=needs,
+            undo=NEVER,
+            skip=skip,
+            keep=0,
+            on_exhausted="ask" if step.undo.on_exhausted == "ask" else "fail",
+        )
         return
     function = step.undo.function
     manner = dataclasses.replace(

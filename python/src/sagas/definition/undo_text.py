@@ -64,9 +64,7 @@ def sees_of(text: str) -> dict[str, tuple[str, ...]]:
     return {name: tuple(seen.split()) for name, seen in SEES.findall(text)}
 
 
-def planned(
-    child: Sequence[ListedStep], declared: Mapping[str, Step[Any]]
-) -> list[Compensation]:  # fmt: skip
+def planned(child: Sequence[ListedStep], declared: Mapping[str, Step[Any]]) -> list[Compensation]:
     """Return what undoes a completed child: its last step first.
 
     A step that cannot be undone stays, and so does what it needs.

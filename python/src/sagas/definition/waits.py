@@ -37,7 +37,7 @@ class WaitSteps(ChildSteps):
         concurrency: int | None = None,
         for_each: ForEach | None = None,
         when: Callable[[Any], Any] | None = None,
-    ) -> Declare:  # fmt: skip
+    ) -> Declare:
         """Declare a function that is called when a time has come, by `@saga.wait(...)`.
 
         Until then the step takes no slot. A saga that is undone meanwhile does not wait for it.
@@ -81,22 +81,36 @@ class WaitSteps(ChildSteps):
         self,
         function: None = None,
         /,
-        *, name: str | None = None, needs: Iterable[Need] = (),
-        undo: CostOf | None = None, skip: CostOf = 0, timeout: Seconds | None = None,
-        tries: int = MANY_TRIES, call_timeout: Seconds | None = None, backoff: Backoff = Backoff(),
-        for_each: ForEach | None = None, when: Callable[[Any], Any] | None = None,
-    ) -> Callable[[Callable[[Any], Any]], Step[Any]]:  # fmt: skip
+        *,
+        name: str | None = None,
+        needs: Iterable[Need] = (),
+        undo: CostOf | None = None,
+        skip: CostOf = 0,
+        timeout: Seconds | None = None,
+        tries: int = MANY_TRIES,
+        call_timeout: Seconds | None = None,
+        backoff: Backoff = Backoff(),
+        for_each: ForEach | None = None,
+        when: Callable[[Any], Any] | None = None,
+    ) -> Callable[[Callable[[Any], Any]], Step[Any]]:
         ...
 
     def approval(
         self,
         function: Callable[[Any], Any] | None = None,
         /,
-        *, name: str | None = None, needs: Iterable[Need] = (),
-        undo: CostOf | None = None, skip: CostOf = 0, timeout: Seconds | None = None,
-        tries: int = MANY_TRIES, call_timeout: Seconds | None = None, backoff: Backoff = Backoff(),
-        for_each: ForEach | None = None, when: Callable[[Any], Any] | None = None,
-    ) -> Any:  # fmt: skip
+        *,
+        name: str | None = None,
+        needs: Iterable[Need] = (),
+        undo: CostOf | None = None,
+        skip: CostOf = 0,
+        timeout: Seconds | None = None,
+        tries: int = MANY_TRIES,
+        call_timeout: Seconds | None = None,
+        backoff: Backoff = Backoff(),
+        for_each: ForEach | None = None,
+        when: Callable[[Any], Any] | None = None,
+    ) -> Any:
         """Declare a step that a person decides, by `@saga.approval`.
 
         The function asks for the decision, for example by mail, and returns None. `Store.complete`

@@ -154,9 +154,19 @@ def _among(of: Filter) -> tuple[list[str], list[Any]]:
 
 
 def _entry(
-    kind: str, names: Names, started: float, id: int, place: int, key: str, saga: str,
-    digest: str, action: str, outcome: str | None, detail: str | None, *times: Any,
-) -> Entry:  # fmt: skip
+    kind: str,
+    names: Names,
+    started: float,
+    id: int,
+    place: int,
+    key: str,
+    saga: str,
+    digest: str,
+    action: str,
+    outcome: str | None,
+    detail: str | None,
+    *times: Any,
+) -> Entry:
     steps = names.of(digest) if digest in names else []
     blocking = chain_of(steps, outcome) if kind == AttentionReason.STUCK else []
     if detail is not None and kind in (AttentionReason.STUCK, AttentionReason.UNDO_FAILED):
@@ -169,9 +179,13 @@ def _entry(
 
 
 def count(
-    kind: str, of: Filter = NOTHING, step: str | None = None, undo: bool | None = None, *,
+    kind: str,
+    of: Filter = NOTHING,
+    step: str | None = None,
+    undo: bool | None = None,
+    *,
     by_saga: bool = False,
-) -> Question[int]:  # fmt: skip
+) -> Question[int]:
     """How many there are of a kind; `undo`: as of `entries`; `by_saga`: of how many sagas."""
     if step is not None:
         return len((yield from entries(kind, of, step, undo, most=MOST_GROUPED)))

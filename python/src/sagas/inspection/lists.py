@@ -258,9 +258,18 @@ def waits(
 
 
 def _waits(
-    names: Names, key: str, saga: str, digest: str,
-    id: int, step: int, action: str, number: int, why: str, count: int, *times: Any,
-) -> Waits:  # fmt: skip
+    names: Names,
+    key: str,
+    saga: str,
+    digest: str,
+    id: int,
+    step: int,
+    action: str,
+    number: int,
+    why: str,
+    count: int,
+    *times: Any,
+) -> Waits:
     since, until, detail = times
     name = names.of(digest)[step]
     if why in FAILED_BEFORE:  # its row counts on from the engine's last attempt, or from a retry
@@ -269,9 +278,7 @@ def _waits(
     return Waits(id, key, saga, name, action == "undo", number, *told)
 
 
-def stuck(
-    most: int = MOST, scope: Scope = EVERYTHING
-) -> Question[list[tuple[Summary, list[str]]]]:  # fmt: skip
+def stuck(most: int = MOST, scope: Scope = EVERYTHING) -> Question[list[tuple[Summary, list[str]]]]:
     """The stuck sagas that nobody has resolved, with the chain of each, the oldest first."""
     where, words = scope.where()
     rows = yield Query(

@@ -157,7 +157,7 @@ def _order(at: str, newest: bool) -> str:
 
 def _rows(
     of: Filter, bounds: Bounds, newest: bool, most: int | None, at: str, **form: bool
-) -> Question[list[Summary]]:  # fmt: skip
+) -> Question[list[Summary]]:
     """`at`: `s.at` where the index of the starts leads to them; the others as of `_within`. `form`:
     as of `Filter.where`."""
     conditions, words = _within(bounds, at)

@@ -215,9 +215,14 @@ def spoken(view: SagaView, shown: list[Box]) -> str:
 
 
 def svg(
-    view: SagaView, style: str = "", *, tolds: list[Told] | None = None,
-    groups: Groups | None = None, unfold: Collection[str] = (), link: Link | None = None,
-) -> str:  # fmt: skip
+    view: SagaView,
+    style: str = "",
+    *,
+    tolds: list[Told] | None = None,
+    groups: Groups | None = None,
+    unfold: Collection[str] = (),
+    link: Link | None = None,
+) -> str:
     """The picture; without a style it is for the page, whose style sheet has the same classes.
 
     `unfold`: the groups whose parts are drawn; `link`: where a click on a group leads.

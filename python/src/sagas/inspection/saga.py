@@ -49,8 +49,10 @@ SELECT step, action, number, offered_at, since, worker, lease FROM external_atte
 """
 EARLY = "SELECT step, reason FROM suspensions WHERE id = ? AND number = 0"
 SAID = {
-    EarlyReason.RESULT: "complete", EarlyReason.ERROR: "fail", EarlyReason.UNDONE: "complete",
-}  # fmt: skip
+    EarlyReason.RESULT: "complete",
+    EarlyReason.ERROR: "fail",
+    EarlyReason.UNDONE: "complete",
+}
 NOTES = (
     "SELECT key, command, at, value, answer FROM operator_commands WHERE key = ? ORDER BY at, id"
 )
@@ -159,9 +161,13 @@ def view(key: str, read: Read = json.loads) -> Question[SagaView | None]:
 
 
 def _view(
-    row: SagaRow, recovered: bool, undo_failed: bool, labels: dict[str, str],
-    deadline: float | None, read: Read,
-) -> Question[SagaView]:  # fmt: skip
+    row: SagaRow,
+    recovered: bool,
+    undo_failed: bool,
+    labels: dict[str, str],
+    deadline: float | None,
+    read: Read,
+) -> Question[SagaView]:
     """All of a saga that is there. Raises `NoSuchSaga` where it was let go meanwhile."""
     kept = yield from _kept(row, read)
     held = yield from waits(MOST_HELD, person=False, key=row.key)
@@ -212,9 +218,12 @@ def _view(
 
 
 def steps_of(
-    definition: str, history: Projection, attempts: list[Attempted],
-    progress: Mapping[tuple[Any, ...], Progress], early: Mapping[int, str],
-) -> list[StepView]:  # fmt: skip
+    definition: str,
+    history: Projection,
+    attempts: list[Attempted],
+    progress: Mapping[tuple[Any, ...], Progress],
+    early: Mapping[int, str],
+) -> list[StepView]:
     """The steps of a saga as they stand. `progress`: by step, action and attempt; `early`: what was
     reported of steps before they have begun.
     """

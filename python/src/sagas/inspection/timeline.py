@@ -41,13 +41,22 @@ STATES: dict[str, tuple[str, str | None]] = {
 }
 """The state and the reason by what was noted (`core.spans`), and by what its node says of it."""
 OUTCOMES = {
-    "commit": "succeeded", "undone": "succeeded", "missed": "retried", "undo_missed": "retried",
-    "fail": "failed", "undo_fail": "failed",
-}  # fmt: skip
+    "commit": "succeeded",
+    "undone": "succeeded",
+    "missed": "retried",
+    "undo_missed": "retried",
+    "fail": "failed",
+    "undo_fail": "failed",
+}
 FIRST = {
-    ("backoff", None), ("waiting", "wait"), ("waiting", "worker"), ("waiting", "child"),
-    ("queued", "slot"), ("queued", "concurrency"), ("queued", "fleet_limit"),
-}  # fmt: skip
+    ("backoff", None),
+    ("waiting", "wait"),
+    ("waiting", "worker"),
+    ("waiting", "child"),
+    ("queued", "slot"),
+    ("queued", "concurrency"),
+    ("queued", "fleet_limit"),
+}
 """What an attempt does from its begin on, where it is the first that was noted: the others follow a
 call."""
 AGAIN = "called again: the program that called it before has ended"
@@ -138,9 +147,13 @@ def of(view: SagaView, now: float) -> list[AttemptTimes]:
 
 
 def _times(
-    one: Stretch, ready: float, marks: list[Span], end: Attempted | None, notes: list[Note],
+    one: Stretch,
+    ready: float,
+    marks: list[Span],
+    end: Attempted | None,
+    notes: list[Note],
     now: float,
-) -> AttemptTimes:  # fmt: skip
+) -> AttemptTimes:
     """An attempt, by what was noted of it."""
     outcome, error = OUTCOMES.get(one.outcome or ""), None
     if end is not None and end.outcome in MISSES:
@@ -150,10 +163,18 @@ def _times(
     last = now if one.ended is None else one.ended
     mine = [note for note in notes if _is_of(note, one) and note.at <= last + 1.0]
     return AttemptTimes(
-        one.step, one.undo, one.attempt, ready, one.began, one.ended, outcome, error,
+        one.step,
+        one.undo,
+        one.attempt,
+        ready,
+        one.began,
+        one.ended,
+        outcome,
+        error,
         sum(mark.why in ("unknown", "person") for mark in marks),
-        _joined(ready, one, marks), mine[-1] if mine else None,
-    )  # fmt: skip
+        _joined(ready, one, marks),
+        mine[-1] if mine else None,
+    )
 
 
 def _is_of(note: Note, one: Stretch) -> bool:
@@ -201,9 +222,12 @@ def _marks(view: SagaView) -> dict[Key, list[Span]]:
 
 
 def _mark(
-    word: str, at: float, raised: str | None = None, worker: str | None = None,
+    word: str,
+    at: float,
+    raised: str | None = None,
+    worker: str | None = None,
     lease: int | None = None,
-) -> Span:  # fmt: skip
+) -> Span:
     state, why = STATES.get(word, ("waiting", word))
     detail = AGAIN if word == AGAIN_WORD else raised
     return Span(state, why, at, None, worker, lease, detail)

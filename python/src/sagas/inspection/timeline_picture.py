@@ -49,7 +49,7 @@ def rows_of(attempts: list[AttemptTimes], now: float, titles: Mapping[str, str])
 
 def drawn(
     attempts: list[AttemptTimes], started: float, now: float, titles: Mapping[str, str] = {}
-) -> str:  # fmt: skip
+) -> str:
     """A row for each step, and in it a bar for each span of its attempts. `titles`: by the names of
     steps, the groups that have a row in their place: there spans that overlap are one.
     """
@@ -147,9 +147,14 @@ def group_bar(title: str, attempts: list[AttemptTimes], at: Scale, top: float) -
 
 
 SAID = {
-    "waiting": "not called", "committed": "succeeded", "undone": "undone", "running": "under way",
-    "missed": "failed, and retried", "undo_failed": "whose compensation failed", "failed": "failed",
-}  # fmt: skip
+    "waiting": "not called",
+    "committed": "succeeded",
+    "undone": "undone",
+    "running": "under way",
+    "missed": "failed, and retried",
+    "undo_failed": "whose compensation failed",
+    "failed": "failed",
+}
 
 
 def merged(spans: list[Span], now: float) -> list[Span]:
@@ -185,7 +190,10 @@ def told(one: AttemptTimes, now: float) -> str:
     said = wording.OUTCOMES.get(one.outcome or "", "under way")
     took = f" after {wording.span((one.ended or now) - one.began)}"
     seconds = one.seconds(now)
-    spans = [f"{word} {wording.span(seconds[state])}" for state, word in STATES.items()
-             if seconds.get(state)]  # fmt: skip
+    spans = [
+        f"{word} {wording.span(seconds[state])}"
+        for state, word in STATES.items()
+        if seconds.get(state)
+    ]
     more = f"; {', '.join(spans)}" if spans else ""
     return f"{one.step}, {what}, attempt {one.attempt}: {said}{took}{more}"

@@ -69,9 +69,16 @@ class Calls:
     """
 
     def __init__(
-        self, ends: Ends, host: Host, slots: Slots, fleet: Fleet, threads: Threads, remote: Remote,
-        tracer: Tracer | None, fill: Callable[[Attempt], Awaitable[None]],
-    ) -> None:  # fmt: skip
+        self,
+        ends: Ends,
+        host: Host,
+        slots: Slots,
+        fleet: Fleet,
+        threads: Threads,
+        remote: Remote,
+        tracer: Tracer | None,
+        fill: Callable[[Attempt], Awaitable[None]],
+    ) -> None:
         self._fill = fill
         self._ends, self._store, self._slots, self._fleet = ends, host.store, slots, fleet
         self._threads, self._remote = threads, remote
@@ -256,9 +263,13 @@ class Calls:
     # -- end
 
     def _ended(
-        self, attempt: Attempt, began: float, outcome: Outcome | None, fault: Lost | None,
+        self,
+        attempt: Attempt,
+        began: float,
+        outcome: Outcome | None,
+        fault: Lost | None,
         at_once: bool,
-    ) -> None:  # fmt: skip
+    ) -> None:
         record, attempt.record = attempt.record, None
         attempt.recorded = record is not None and record.done
         if not self._over(attempt, began):

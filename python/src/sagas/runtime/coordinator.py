@@ -96,9 +96,20 @@ class Coordinator:
         self.executor.slots.is_fair = any(saga.fair_by for saga in shelf.sagas.values())
         self.commits = CommitQueue(store, self, teller, self.loop)
         self.shards = Shards(
-            store, shelf, program, engine_processes, self.sagas, self.executor, self.commits,
-            self.external, clock, teller, self.spawn, self.look, idle,
-        )  # fmt: skip
+            store,
+            shelf,
+            program,
+            engine_processes,
+            self.sagas,
+            self.executor,
+            self.commits,
+            self.external,
+            clock,
+            teller,
+            self.spawn,
+            self.look,
+            idle,
+        )
         self.deadlines = Deadlines(self.sagas, self.shards.abort, teller, clock)
         self.sagas.driven = self.deadlines.add
         self.shards.abort_overdue = self.deadlines.look
@@ -109,9 +120,15 @@ class Coordinator:
     def starts(self) -> Starts:
         """Make what takes the starts of clients."""
         return Starts(
-            self, self.store, self.shelf, self.sagas, self.commits, self.shards.starts, self.clock,
+            self,
+            self.store,
+            self.shelf,
+            self.sagas,
+            self.commits,
+            self.shards.starts,
+            self.clock,
             self.shards.place,
-        )  # fmt: skip
+        )
 
     # -- opening
 
@@ -134,7 +151,7 @@ class Coordinator:
 
     def lacks(
         self, texts: list[str], places: list[int], completed: Sequence[CompletedChild]
-    ) -> str | None:  # fmt: skip
+    ) -> str | None:
         """Return what this program has no function for, of the definitions at these places of a
         shard, and of the completed children that its open sagas may undo.
         """

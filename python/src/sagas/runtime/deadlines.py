@@ -22,9 +22,12 @@ class Deadlines:
     """
 
     def __init__(
-        self, sagas: Instances, abort: Callable[[SagaInstance], asyncio.Future[bool]],
-        teller: Teller, clock: Callable[[], float],
-    ) -> None:  # fmt: skip
+        self,
+        sagas: Instances,
+        abort: Callable[[SagaInstance], asyncio.Future[bool]],
+        teller: Teller,
+        clock: Callable[[], float],
+    ) -> None:
         self._sagas, self._abort, self._teller, self._clock = sagas, abort, teller, clock
         self._heap: list[tuple[float, int, SagaInstance]] = []
         self._order = itertools.count()

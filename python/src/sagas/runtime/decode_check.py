@@ -35,9 +35,7 @@ class Checked(Protocol):
     has_unread: bool
 
 
-async def faults(
-    kinds: Sequence[Kind], rows: Loaded, store: Database
-) -> AsyncIterator[str]:  # fmt: skip
+async def faults(kinds: Sequence[Kind], rows: Loaded, store: Database) -> AsyncIterator[str]:
     """Of each open saga of a shard yield the first thing that cannot be read. What is in a blob
     store is not looked at: a function that needs it reads it.
     """

@@ -56,9 +56,13 @@ class Executor:
     """
 
     def __init__(
-        self, host: Host, external: External, concurrency: int, threads: Threads,
+        self,
+        host: Host,
+        external: External,
+        concurrency: int,
+        threads: Threads,
         tracer: Tracer | None = None,
-    ) -> None:  # fmt: skip
+    ) -> None:
         self._host, self._external = host, external
         self._loop, self._clock, self._teller = host.loop, host.clock, host.teller
         self.machine = AttemptMachine()
@@ -419,16 +423,28 @@ class Executor:
         self.tell(attempt, name, detail, level, outcome.error if name == "step_failed" else None)
 
     def tell(
-        self, attempt: Attempt, name: str, detail: str | None = None, level: int | None = None,
+        self,
+        attempt: Attempt,
+        name: str,
+        detail: str | None = None,
+        level: int | None = None,
         error: BaseException | None = None,
-    ) -> None:  # fmt: skip
+    ) -> None:
         """Tell an event of an attempt."""
         took = None if attempt.took is None else round(attempt.took, 6)
         self._teller.tell(
-            name, level=level, error=error, seconds=took, key=attempt.key, saga=attempt.saga,
-            step=attempt.declared_name, index=attempt.index, undo=attempt.undo,
-            attempt=attempt.attempt, detail=detail,
-        )  # fmt: skip
+            name,
+            level=level,
+            error=error,
+            seconds=took,
+            key=attempt.key,
+            saga=attempt.saga,
+            step=attempt.declared_name,
+            index=attempt.index,
+            undo=attempt.undo,
+            attempt=attempt.attempt,
+            detail=detail,
+        )
 
     def planned(self, instance: SagaInstance) -> None:
         """Tell of a plan that was adopted."""

@@ -318,10 +318,14 @@ class ExternalQueue(ExternalReports):
         if claim.cancelled is not None:
             task.cancelled.set(claim.cancelled)
         self.owner.teller.tell(
-            "step_started", key=task.key, saga=task.saga, step=task.declared_step,
-            index=task.index if task.has_item else None, undo=task.is_compensation,
+            "step_started",
+            key=task.key,
+            saga=task.saga,
+            step=task.declared_step,
+            index=task.index if task.has_item else None,
+            undo=task.is_compensation,
             attempt=task.attempt,
-        )  # fmt: skip
+        )
         if kind.saga is not None and kind.saga.undoes_step is not None:
             task = report_undos.compensation(task, kind.saga)
         elif kind.undoes is not None:
@@ -356,12 +360,22 @@ class ExternalQueue(ExternalReports):
         place = kind.place(name, values, text)
         hint = kind.actions[claim.action][claim.step].hint
         told = Told(
-            kind.name, key, name, undo, int(number), token.removesuffix(f"-{name}-{claim.action}"),
+            kind.name,
+            key,
+            name,
+            undo,
+            int(number),
+            token.removesuffix(f"-{name}-{claim.action}"),
             place.input if place else text,
             {kind.names[step]: results.get(step) or "null" for step in kind.below[claim.step]},
-            results.get(claim.step) if undo else None, hint, kind.decoders, deadline,
-            kind.actions[claim.action][claim.step].context, traceparent=traceparent, place=place,
-        )  # fmt: skip
+            results.get(claim.step) if undo else None,
+            hint,
+            kind.decoders,
+            deadline,
+            kind.actions[claim.action][claim.step].context,
+            traceparent=traceparent,
+            place=place,
+        )
         return kind, Task(told)
 
     async def heartbeat(

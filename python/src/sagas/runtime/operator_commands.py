@@ -32,9 +32,15 @@ class Carrier(Protocol):
         """As `Store.abort`."""
 
     async def report(
-        self, key: str, step: str, outcome: Outcome, undo: bool, request: Wanted,
-        of: int | None = None, early: bool = True,
-    ) -> None:  # fmt: skip
+        self,
+        key: str,
+        step: str,
+        outcome: Outcome,
+        undo: bool,
+        request: Wanted,
+        of: int | None = None,
+        early: bool = True,
+    ) -> None:
         """As `Store.complete` and `Store.fail`."""
 
     async def retry(

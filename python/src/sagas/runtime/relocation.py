@@ -61,9 +61,14 @@ def conflict(
 
 
 async def conflict_there(
-    store: Database, key: str, kind: Kind | Saga, text: str, name: str, there: str,
+    store: Database,
+    key: str,
+    kind: Kind | Saga,
+    text: str,
+    name: str,
+    there: str,
     payloads: Payloads | None = None,
-) -> KeyConflict | None:  # fmt: skip
+) -> KeyConflict | None:
     """As `conflict`. An input that is outside of the database is read if its digest is another one:
     it may be the same under other types. Raises `StoreUnavailable`.
     """

@@ -82,9 +82,18 @@ class Shards:
         self._relocation = Relocation(store, sagas, executor, commits, clock, spawn, self)
         effects = EffectHandler(executor, sagas, teller, self, offers)
         self._parts = Parts(
-            store, program, self._loop, clock, teller, sagas, executor.slots, commits,
-            self.engines, effects, spawn,
-        )  # fmt: skip
+            store,
+            program,
+            self._loop,
+            clock,
+            teller,
+            sagas,
+            executor.slots,
+            commits,
+            self.engines,
+            effects,
+            spawn,
+        )
         self._opening = Opening()
         self._closing: dict[int, asyncio.Task[None]] = {}  # settled, and not marked closed yet
         self._change: asyncio.Future[None] | None = None

@@ -53,9 +53,7 @@ class ValueReader:
         count: How often something was read.
     """
 
-    def __init__(
-        self, host: Host, unread: Callable[[Attempt, BlobUnavailable], None]
-    ) -> None:  # fmt: skip
+    def __init__(self, host: Host, unread: Callable[[Attempt, BlobUnavailable], None]) -> None:
         """`unread`: what is told of an attempt whose values the blob store does not give."""
         self._host, self._places = host, asyncio.Semaphore(AT_ONCE)
         self._unread = unread

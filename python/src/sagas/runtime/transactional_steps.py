@@ -144,9 +144,14 @@ class Transactions:
     """The connections of steps: apart from the store's own, with the user's settings."""
 
     def __init__(
-        self, url: str, where: str, node: str, line: Callable[[], str],
-        tail: Callable[[int], Tail | None], most: int,
-    ) -> None:  # fmt: skip
+        self,
+        url: str,
+        where: str,
+        node: str,
+        line: Callable[[], str],
+        tail: Callable[[int], Tail | None],
+        most: int,
+    ) -> None:
         self._where, self._node, self._line, self._tail = where, node, line, tail
         self._prepares = Prepares(step_commit.prepares())
         self._pool = Pool(url, most, self._prepares)
@@ -197,9 +202,14 @@ class Transactions:
         return outcome
 
     async def _call_plain(
-        self, attempt: Attempt, function: Function, manner: Manner, task: Task[Any],
-        executor: Executor | None, late: Callable[[str], object] | None,
-    ) -> Outcome | None:  # fmt: skip
+        self,
+        attempt: Attempt,
+        function: Function,
+        manner: Manner,
+        task: Task[Any],
+        executor: Executor | None,
+        late: Callable[[str], object] | None,
+    ) -> Outcome | None:
         """In a thread, which has a connection from before it begins."""
         try:
             loan = await self._pool.lend()

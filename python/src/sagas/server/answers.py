@@ -22,12 +22,25 @@ from sagas.server.shapes import (
 
 PHASES = "open", "completed", "recovered", "stuck", "resolved"
 STATES = (
-    "waiting", "begun", "running", "committed", "failed", "undoing", "undone", "undo_failed",
-)  # fmt: skip
+    "waiting",
+    "begun",
+    "running",
+    "committed",
+    "failed",
+    "undoing",
+    "undone",
+    "undo_failed",
+)
 KINDS = (
-    "stuck", "undo_failed", "unused_report", "unknown", "exhausted", "cannot_decode", "damaged",
+    "stuck",
+    "undo_failed",
+    "unused_report",
+    "unknown",
+    "exhausted",
+    "cannot_decode",
+    "damaged",
     "approval",
-)  # fmt: skip
+)
 """What needs a person."""
 NAME = Text(most=32, pattern=DEFINITION.pattern)
 COUNT = Number(least=0, whole=True)
@@ -170,10 +183,12 @@ SAGA = Record(
         "plan": Field(Nullable(PLAN), "the last plan; null: nothing has failed"),
         "waits": Field(Several(WAITING), "the attempts that wait"),
         "progress": Field(Several(PROGRESS), "of functions that run, as they reported it last"),
-        "early": Field(Mapped(Choice(("complete", "fail"))),
-                       "the reports that are stored of steps that have not begun"),
+        "early": Field(
+            Mapped(Choice(("complete", "fail"))),
+            "the reports that are stored of steps that have not begun",
+        ),
     },
-)  # fmt: skip
+)
 EVENT = Record(
     "SagaEvent",
     {
@@ -199,12 +214,13 @@ WHAT_IF = Record(
         "cost": Field(COST, "null: no plan is feasible, so the saga would be stuck"),
         "plan": Field(PLAN),
         "certificate": Field(CERTIFICATE),
-        "assumed": Field(Mapped(Choice(("waiting", "committed", "failed", "undone",
-                                        "undo_failed"))),
-                         "how steps that are under way were taken to end; waiting: given up"),
+        "assumed": Field(
+            Mapped(Choice(("waiting", "committed", "failed", "undone", "undo_failed"))),
+            "how steps that are under way were taken to end; waiting: given up",
+        ),
     },
     "What would be done. Nothing is changed.",
-)  # fmt: skip
+)
 ABORTED = Record(
     "Aborted", {"key": Field(Text()), "aborted": Field(Flag(), "false: it is over, or was aborted")}
 )

@@ -26,9 +26,16 @@ from sagas.storage.filters import EVERYTHING, Scope
 MOST_SESSIONS = 1000
 LOOK = 1.0  # seconds between two looks at the token file
 KEYS = (
-    "name", "roles", "sha256", "definitions", "keys", "steps", "expires", "open_sagas",
+    "name",
+    "roles",
+    "sha256",
+    "definitions",
+    "keys",
+    "steps",
+    "expires",
+    "open_sagas",
     "open_bytes",
-)  # fmt: skip
+)
 NAME = r"[a-z][a-z0-9_-]{0,31}"
 DEFINITION = re.compile(NAME)
 STEP = re.compile(rf"({NAME})/({NAME})(/undo)?")
@@ -273,8 +280,10 @@ def make(path: pathlib.Path, name: str, roles: list[str], limits: Limits = Limit
     ]
     scope = limits.scope
     for word, some in (
-        ("definitions", scope.definitions), ("keys", scope.keys), ("steps", limits.steps)
-    ):  # fmt: skip
+        ("definitions", scope.definitions),
+        ("keys", scope.keys),
+        ("steps", limits.steps),
+    ):
         lines += [f"{word} = {_list_of(sorted(some))}"] if some is not None else []
     lines += [f"expires = {limits.expires.isoformat()}"] if limits.expires else []
     for word, count in (("open_sagas", limits.open_sagas), ("open_bytes", limits.open_bytes)):

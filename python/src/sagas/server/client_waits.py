@@ -15,9 +15,12 @@ from sagas.server.middleware import FOLLOWED, GONE
 
 
 async def first(
-    request: Request, who: Who, work: "asyncio.Future[Any]", seconds: float,
+    request: Request,
+    who: Who,
+    work: "asyncio.Future[Any]",
+    seconds: float,
     *ends: "asyncio.Future[None]",
-) -> bool:  # fmt: skip
+) -> bool:
     """Waits for a piece of work, but no longer than the client, its token and the service are
     there, and until one of the `ends` is done, or the client sends something else. Whether it is
     done; else it is cancelled, to its end. Raises `Problem` where the token has ended."""

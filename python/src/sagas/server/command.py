@@ -102,28 +102,36 @@ def parser() -> argparse.ArgumentParser:
     add_access(found)
     add_limits(found)
     found.add_argument(
-        "--node", metavar="NAME",
+        "--node",
+        metavar="NAME",
         help="PostgreSQL only: name of this service; a restart under the same name continues its "
         "sagas at once (default: made of host and process)",
-    )  # fmt: skip
+    )
     found.add_argument(
-        "--lease", type=positive, metavar="SECONDS",
+        "--lease",
+        type=positive,
+        metavar="SECONDS",
         help="PostgreSQL only: seconds without a heartbeat before other services take over its "
         f"sagas ({OF_APP} or 10)",
-    )  # fmt: skip
+    )
     found.add_argument(
-        "--record", metavar="FILE",
+        "--record",
+        metavar="FILE",
         help="PostgreSQL only: file for what the service hears of its commits and acknowledges, "
         "for `sagas store URL record` (default: $SAGAS_RECORD, or none)",
-    )  # fmt: skip
+    )
     found.add_argument(
-        "--log", choices=["json", "text"], default="json",
+        "--log",
+        choices=["json", "text"],
+        default="json",
         help="format of the log on standard error (default: json)",
-    )  # fmt: skip
+    )
     found.add_argument(
-        "--log-level", choices=["debug", "info", "warning", "error"], default="info",
+        "--log-level",
+        choices=["debug", "info", "warning", "error"],
+        default="info",
         help="least severity that is logged (default: info)",
-    )  # fmt: skip
+    )
     return found
 
 
@@ -133,107 +141,151 @@ OF_APP = "default: that of a store of --app,"
 def add_sagas(found: argparse.ArgumentParser) -> None:
     """What is served."""
     found.add_argument(
-        "--definitions", type=pathlib.Path, metavar="DIR",
+        "--definitions",
+        type=pathlib.Path,
+        metavar="DIR",
         help="directory of definitions NAME.toml, whose steps external workers execute",
-    )  # fmt: skip
+    )
     found.add_argument(
-        "--app", metavar="MODULE:NAME",
+        "--app",
+        metavar="MODULE:NAME",
         help="a saga, a list of sagas, or a store made by sagas.open; the service executes its "
         "steps",
-    )  # fmt: skip
+    )
     found.add_argument(
-        "--concurrency", type=integer_from(1), metavar="N",
+        "--concurrency",
+        type=integer_from(1),
+        metavar="N",
         help=f"maximum number of functions of --app that run at once ({OF_APP} or 16)",
-    )  # fmt: skip
+    )
     found.add_argument(
-        "--context", metavar="MODULE:NAME",
+        "--context",
+        metavar="MODULE:NAME",
         help="what functions of --app get as task.context: an object, or a function that returns a "
         f"context manager ({OF_APP} or none)",
-    )  # fmt: skip
+    )
     found.add_argument(
-        "--retention", type=age, metavar="TIME",
+        "--retention",
+        type=age,
+        metavar="TIME",
         help="delete sagas that ended this long ago, for example 30d or 12h "
         f"({OF_APP} or never)",
-    )  # fmt: skip
+    )
     found.add_argument(
-        "--archive-dir", metavar="DIR",
+        "--archive-dir",
+        metavar="DIR",
         help="with --retention: first write each shard into its own subfolder of DIR "
         f"({OF_APP} or none)",
-    )  # fmt: skip
+    )
     found.add_argument(
-        "--codec", metavar="MODULE:NAME",
+        "--codec",
+        metavar="MODULE:NAME",
         help=f"codec that encodes stored inputs and results ({OF_APP} or none)",
-    )  # fmt: skip
+    )
     found.add_argument(
-        "--blobs", metavar="DIR|MODULE:NAME",
+        "--blobs",
+        metavar="DIR|MODULE:NAME",
         help="where large inputs and results are kept: a directory, or a blob store of a module "
         f"({OF_APP} or the database)",
-    )  # fmt: skip
+    )
     found.add_argument(
-        "--blob-threshold", type=integer_from(1), metavar="BYTES",
+        "--blob-threshold",
+        type=integer_from(1),
+        metavar="BYTES",
         help=f"size above which --blobs keeps a value ({OF_APP} or 65536)",
-    )  # fmt: skip
+    )
     found.add_argument(
-        "--webhooks", type=pathlib.Path, metavar="FILE",
+        "--webhooks",
+        type=pathlib.Path,
+        metavar="FILE",
         help="file that says where to post events of sagas (default: none)",
-    )  # fmt: skip
+    )
     found.add_argument(
-        "--local-webhooks", action="store_true",
+        "--local-webhooks",
+        action="store_true",
         help="allow --webhooks to post to loopback and link-local addresses (default: no)",
-    )  # fmt: skip
+    )
 
 
 def add_access(found: argparse.ArgumentParser) -> None:
     """Where it listens, and to whom."""
     found.add_argument(
-        "--listen", default="127.0.0.1:8080", metavar="HOST:PORT",
+        "--listen",
+        default="127.0.0.1:8080",
+        metavar="HOST:PORT",
         help="address to listen on (default: 127.0.0.1:8080)",
-    )  # fmt: skip
+    )
     found.add_argument(
-        "--token-file", type=pathlib.Path, metavar="FILE",
+        "--token-file",
+        type=pathlib.Path,
+        metavar="FILE",
         help="file of tokens and their roles, see `sagas token --help` (default: none; the service "
         "then accepts local connections only)",
-    )  # fmt: skip
+    )
     found.add_argument(
-        "--trusted-proxies", type=networks_of, default=LOOPBACK, metavar="NETWORKS",
+        "--trusted-proxies",
+        type=networks_of,
+        default=LOOPBACK,
+        metavar="NETWORKS",
         help="comma-separated networks of proxies whose X-Forwarded-For and X-Forwarded-Proto are "
         'trusted; "" for none (default: 127.0.0.0/8,::1/128)',
-    )  # fmt: skip
+    )
 
 
 def add_limits(found: argparse.ArgumentParser) -> None:
     """The limits of requests."""
     found.add_argument(
-        "--most-body", type=integer_from(1), default=1 << 20, metavar="BYTES",
+        "--most-body",
+        type=integer_from(1),
+        default=1 << 20,
+        metavar="BYTES",
         help="maximum size of a request body (default: 1048576)",
-    )  # fmt: skip
+    )
     found.add_argument(
-        "--most-connections", type=integer_from(1), default=2000, metavar="N",
+        "--most-connections",
+        type=integer_from(1),
+        default=2000,
+        metavar="N",
         help="maximum number of connections (default: 2000)",
-    )  # fmt: skip
+    )
     for option, default, what in PLACES:
         found.add_argument(
-            option, type=integer_from(1), default=default, metavar="N",
+            option,
+            type=integer_from(1),
+            default=default,
+            metavar="N",
             help=f"maximum number of {what} (default: {default})",
-        )  # fmt: skip
+        )
     found.add_argument(
-        "--kept-connections", type=integer_from(0), default=50, metavar="N",
+        "--kept-connections",
+        type=integer_from(0),
+        default=50,
+        metavar="N",
         help="connections kept for health and operators, at most a quarter of all (default: 50)",
-    )  # fmt: skip
+    )
     found.add_argument(
-        "--rate", type=positive, default=5000.0, metavar="N",
+        "--rate",
+        type=positive,
+        default=5000.0,
+        metavar="N",
         help="maximum number of requests per second for each token, or for each address if there "
         "is no token file (default: 5000)",
-    )  # fmt: skip
+    )
     found.add_argument(
-        "--open-sagas", type=integer_from(0), default=Quota().sagas, metavar="N",
+        "--open-sagas",
+        type=integer_from(0),
+        default=Quota().sagas,
+        metavar="N",
         help="maximum number of open sagas that each token started, unless the token file says "
         "another one (default: 10000)",
-    )  # fmt: skip
+    )
     found.add_argument(
-        "--open-bytes", type=integer_from(0), default=Quota().bytes, metavar="BYTES",
+        "--open-bytes",
+        type=integer_from(0),
+        default=Quota().bytes,
+        metavar="BYTES",
         help="maximum size of their inputs as JSON, in all (default: 1073741824)",
-    )  # fmt: skip
+    )
 
 
 def networks_of(text: str) -> tuple[Network, ...]:
@@ -350,14 +402,19 @@ def settings_of(words: argparse.Namespace) -> Settings:
         most_body=words.most_body,
         streams=StreamSettings(most_each=words.most_streams),
         places=PlaceSettings(
-            words.most_connections, words.most_waits, words.most_claims,
-            words.most_token_connections, words.most_address_connections, words.kept_connections,
+            words.most_connections,
+            words.most_waits,
+            words.most_claims,
+            words.most_token_connections,
+            words.most_address_connections,
+            words.kept_connections,
         ),
         rate=words.rate,
         quota=Quota(words.open_sagas, words.open_bytes),
         trusted_proxies=words.trusted_proxies,
-        store=StoreSettings(options, on_event), **more,
-    )  # fmt: skip
+        store=StoreSettings(options, on_event),
+        **more,
+    )
 
 
 def serve(words: argparse.Namespace) -> int:
@@ -449,31 +506,42 @@ def token_parser() -> argparse.ArgumentParser:
         "roles", nargs="+", choices=roles, metavar="ROLE", help=f"one or more of {', '.join(roles)}"
     )
     found.add_argument(
-        "--definition", action="append", metavar="NAME",
+        "--definition",
+        action="append",
+        metavar="NAME",
         help="allow only this definition; repeat it for several (default: all)",
-    )  # fmt: skip
+    )
     found.add_argument(
-        "--key", action="append", metavar="PATTERN",
+        "--key",
+        action="append",
+        metavar="PATTERN",
         help="of a caller or approver: allow only sagas with this key, or with * at the end with "
         "keys that begin so, for example 'team-a-*'; repeat it for several (default: all)",
-    )  # fmt: skip
+    )
     found.add_argument(
-        "--step", action="append", metavar="DEFINITION/STEP",
+        "--step",
+        action="append",
+        metavar="DEFINITION/STEP",
         help="of a worker: allow only this step, or its compensation DEFINITION/STEP/undo; repeat "
         "it for several (default: all)",
-    )  # fmt: skip
+    )
     found.add_argument(
-        "--open-sagas", type=integer_from(0), metavar="N",
+        "--open-sagas",
+        type=integer_from(0),
+        metavar="N",
         help="maximum number of open sagas that it started (default: that of the service)",
-    )  # fmt: skip
+    )
     found.add_argument(
-        "--open-bytes", type=integer_from(0), metavar="BYTES",
+        "--open-bytes",
+        type=integer_from(0),
+        metavar="BYTES",
         help="maximum size of their inputs as JSON, in all (default: that of the service)",
-    )  # fmt: skip
+    )
     found.add_argument(
-        "--expires", metavar="WHEN",
+        "--expires",
+        metavar="WHEN",
         help="end of validity, for example 2027-01-01T00:00:00Z (default: never)",
-    )  # fmt: skip
+    )
     return found
 
 

@@ -295,9 +295,13 @@ class Connections:
     the `trusted`, and how many are for health and operators alone."""
 
     def __init__(
-        self, most: int, head_time: float, send_time: float,
-        places: PlaceSettings = PlaceSettings(), trusted: tuple[Network, ...] = LOOPBACK,
-    ) -> None:  # fmt: skip
+        self,
+        most: int,
+        head_time: float,
+        send_time: float,
+        places: PlaceSettings = PlaceSettings(),
+        trusted: tuple[Network, ...] = LOOPBACK,
+    ) -> None:
         self.most, self.head_time, self.send_time = most, head_time, send_time
         self.all: dict[Connection, None] = {}
         self._most_each, self._trusted = places.connections_of_address, trusted

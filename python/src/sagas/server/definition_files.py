@@ -264,12 +264,20 @@ def _cost_of(step: Json, word: str) -> Cost:
 def _work(saga: Saga, step: Json, manner: Json) -> None:
     backoff = Backoff(**manner.get("backoff", {}))
     made: Step[Any] = saga.step(
-        external=True, name=step["name"], needs=step.get("needs", ()), run=_cost_of(step, "run"),
-        undo=_cost_of(step, "undo"), skip=_cost_of(step, "skip"),
-        keep=_cost_of(step, "keep"), tries=step.get("tries", 1), backoff=backoff,
-        concurrency=manner.get("concurrency"), on_exhausted=manner.get("on_exhausted", "fail"),
-        max_attempts=manner.get("max_attempts"), early_unused=manner.get("early_unused", "ask"),
-    )  # fmt: skip
+        external=True,
+        name=step["name"],
+        needs=step.get("needs", ()),
+        run=_cost_of(step, "run"),
+        undo=_cost_of(step, "undo"),
+        skip=_cost_of(step, "skip"),
+        keep=_cost_of(step, "keep"),
+        tries=step.get("tries", 1),
+        backoff=backoff,
+        concurrency=manner.get("concurrency"),
+        on_exhausted=manner.get("on_exhausted", "fail"),
+        max_attempts=manner.get("max_attempts"),
+        early_unused=manner.get("early_unused", "ask"),
+    )
     if made._costs["undo"] is not NEVER:
         exhausted = manner.get("undo_on_exhausted", "ask")
         tries = step.get("undo_tries", 1)
@@ -291,10 +299,14 @@ def _approval(saga: Saga, step: Json, manner: Json) -> None:
 
 def _wait(saga: Saga, step: Json, manner: Json) -> None:
     saga.wait(
-        name=step["name"], needs=step.get("needs", ()),
-        until=datetime.timedelta(seconds=manner["until"]), undo=_cost_of(step, "undo"),
-        skip=_cost_of(step, "skip"), keep=_cost_of(step, "keep"), tries=step.get("tries", 1),
-    )(nothing)  # fmt: skip
+        name=step["name"],
+        needs=step.get("needs", ()),
+        until=datetime.timedelta(seconds=manner["until"]),
+        undo=_cost_of(step, "undo"),
+        skip=_cost_of(step, "skip"),
+        keep=_cost_of(step, "keep"),
+        tries=step.get("tries", 1),
+    )(nothing)
 
 
 def _plain(told: Json) -> list[Any]:

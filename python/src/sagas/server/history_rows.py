@@ -45,9 +45,7 @@ class AttemptRow:
     urgency: int
 
 
-def attempt_rows(
-    attempts: Iterable[AttemptTimes], titles: Titles, now: float
-) -> list[AttemptRow]:  # fmt: skip
+def attempt_rows(attempts: Iterable[AttemptTimes], titles: Titles, now: float) -> list[AttemptRow]:
     """A row for each attempt; for those of a folded group one of the actions, and one of the
     compensations, where the first of them began."""
     found, groups = dict[Any, AttemptRow | None](), dict[Any, list[AttemptTimes]]()
@@ -80,9 +78,16 @@ def _single(one: AttemptTimes, now: float) -> AttemptRow:
     outcome = _told(one) + (f", {one.unknowns} × unknown" if one.unknowns else "")
     workers = [span for span in one.spans if span.worker]
     return AttemptRow(
-        one.step, one.undo, one.attempt, outcome, one.seconds(now), workers, one.error or "",
-        one.decision, OUTCOMES.index(one.outcome),
-    )  # fmt: skip
+        one.step,
+        one.undo,
+        one.attempt,
+        outcome,
+        one.seconds(now),
+        workers,
+        one.error or "",
+        one.decision,
+        OUTCOMES.index(one.outcome),
+    )
 
 
 def _group(title: str, undo: bool, some: list[AttemptTimes], now: float) -> AttemptRow:

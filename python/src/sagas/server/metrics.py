@@ -22,13 +22,21 @@ if TYPE_CHECKING:
 
 SECONDS = (0.01, 0.03, 0.1, 0.3, 1, 3, 10, 30, 100, 300, 1000, 3600, 86400)
 TOLD = {
-    "step_succeeded": "succeeded", "step_retrying": "retrying", "step_failed": "failed",
-    "step_unknown": "unknown", "step_exhausted": "exhausted",
+    "step_succeeded": "succeeded",
+    "step_retrying": "retrying",
+    "step_failed": "failed",
+    "step_unknown": "unknown",
+    "step_exhausted": "exhausted",
     "step_cannot_decode": "cannot_decode",
-}  # fmt: skip
+}
 INTERNAL_ERRORS = (
-    "engine_died", "shard_damaged", "commit_failed", "audit_failed", "lease_expired", "shard_lost",
-)  # fmt: skip
+    "engine_died",
+    "shard_damaged",
+    "commit_failed",
+    "audit_failed",
+    "lease_expired",
+    "shard_lost",
+)
 TYPE = CONTENT_TYPE_LATEST
 MOST_BEGUN = 100_000
 """Attempts of which it is known when they began."""

@@ -32,9 +32,13 @@ TAGS = {
     "definitions": "The definitions that the service has.",
 }
 ALWAYS = (
-    "MalformedRequest", "NotFound", "TooManyRequests", "InternalError", "TooManyConnections",
+    "MalformedRequest",
+    "NotFound",
+    "TooManyRequests",
+    "InternalError",
+    "TooManyConnections",
     "InvalidRequest",
-)  # fmt: skip
+)
 """Problems that any call may have."""
 WITH_TOKEN = ("Unauthorized", "Forbidden", "Closed", "StoreUnavailable")
 WITH_BODY = (
@@ -52,7 +56,8 @@ routes = Routes("definitions")
     "getOpenApi",
     answers={
         200: Answer(
-            "The document.", media_type="application/json",
+            "The document.",
+            media_type="application/json",
             headers={"ETag": "changes with the document"},
         )
     },
@@ -130,10 +135,15 @@ def problem_of(status: int, names: list[str]) -> dict[str, Any]:
 def parameters_of(operation: Operation) -> list[dict[str, Any]]:
     """The parameters of an operation, those of its path first."""
     found: list[dict[str, Any]] = [
-        {"name": name, "in": "path", "required": True, "schema": {"type": "string"},
-         "example": {"key": "order-1", "step": "car"}.get(name, "a1-car-run-1")}
+        {
+            "name": name,
+            "in": "path",
+            "required": True,
+            "schema": {"type": "string"},
+            "example": {"key": "order-1", "step": "car"}.get(name, "a1-car-run-1"),
+        }
         for name in re.findall(r"{(\w+)}", operation.path)
-    ]  # fmt: skip
+    ]
     for place, fields in (("query", operation.query), ("header", operation.headers)):
         for name, field in fields.items():
             schema = dict(field.schema())

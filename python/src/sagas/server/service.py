@@ -301,10 +301,16 @@ class Service:
         )
 
     async def start(
-        self, who: Who, size: int, saga: Saga, key: str, given: Any,
-        labels: Labels | None = None, deadline: float | None = None,
+        self,
+        who: Who,
+        size: int,
+        saga: Saga,
+        key: str,
+        given: Any,
+        labels: Labels | None = None,
+        deadline: float | None = None,
         traceparent: str | None = None,
-    ) -> Run:  # fmt: skip
+    ) -> Run:
         """Starts a saga, of which `size` bytes were sent. Raises what `Store.start` raises, and
         `StoreUnavailable` where that takes too long; of a key's saga that is not theirs to see
         nothing is told. Raises `Problem` where the token has too many open sagas."""

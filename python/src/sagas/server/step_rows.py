@@ -66,9 +66,13 @@ class StepTable:
     """
 
     def __init__(
-        self, unfolding: Unfolding, steps: Sequence[StepView], tolds: Sequence[Told],
-        choices: Mapping[str, Choice], items: Mapping[str, str],
-    ) -> None:  # fmt: skip
+        self,
+        unfolding: Unfolding,
+        steps: Sequence[StepView],
+        tolds: Sequence[Told],
+        choices: Mapping[str, Choice],
+        items: Mapping[str, str],
+    ) -> None:
         self._unfolding, self._steps, self._tolds = unfolding, steps, tolds
         self._choices, self._items = choices, items
         self.blocks = unfolding.groups.blocks(len(steps), unfolding.names)
@@ -138,18 +142,28 @@ class StepTable:
     def _step(self, number: int, depth: int) -> StepRow:
         step = self._steps[number]
         return StepRow(
-            step.name, self._tolds[number], self._needs([number]), step.attempts, step,
-            self._items.get(step.name), depth=depth,
-        )  # fmt: skip
+            step.name,
+            self._tolds[number],
+            self._needs([number]),
+            step.attempts,
+            step,
+            self._items.get(step.name),
+            depth=depth,
+        )
 
     def _group(self, group: Group, depth: int) -> StepRow:
         steps = [self._steps[step] for step in group.steps]
         return StepRow(
-            group.title, counted([self._tolds[step] for step in group.steps]),
-            self._needs(group.steps), sum(step.attempts for step in steps),
-            href=self._unfolding.link(group), is_open=group.name in self._unfolding.names,
-            note=errors(steps), decision=self._decisions(steps), depth=depth,
-        )  # fmt: skip
+            group.title,
+            counted([self._tolds[step] for step in group.steps]),
+            self._needs(group.steps),
+            sum(step.attempts for step in steps),
+            href=self._unfolding.link(group),
+            is_open=group.name in self._unfolding.names,
+            note=errors(steps),
+            decision=self._decisions(steps),
+            depth=depth,
+        )
 
     def _decisions(self, steps: list[StepView]) -> str:
         """What the plan decided of a group's steps, and what that costs."""

@@ -49,9 +49,13 @@ class Pool:
     are shared by those for whom they work."""
 
     def __init__(
-        self, kind: str, all: list[Pool], computing: set[str], readers: Sequence[Reader] = (),
+        self,
+        kind: str,
+        all: list[Pool],
+        computing: set[str],
+        readers: Sequence[Reader] = (),
         count: int = 1,
-    ) -> None:  # fmt: skip
+    ) -> None:
         count = len(readers) or count
         self._threads = ThreadPoolExecutor(count, f"sagas-{kind}")
         self._queue: FairQueue[Job] = FairQueue(count, computing)

@@ -73,9 +73,12 @@ class Serving:
     """A server at work, which ends streams and long waits when it is asked to stop."""
 
     def __init__(
-        self, server: uvicorn.Server, service: Service, connections: Connections,
+        self,
+        server: uvicorn.Server,
+        service: Service,
+        connections: Connections,
         overdue: Callable[[], None] | None,
-    ) -> None:  # fmt: skip
+    ) -> None:
         self._server, self._service, self._connections = server, service, connections
         self._overdue, self._deadline = overdue, list[asyncio.TimerHandle]()
 
@@ -140,17 +143,22 @@ class Serving:
 
 
 async def run(
-    settings: Settings, listening: socket.socket, opened: Callable[[], None],
+    settings: Settings,
+    listening: socket.socket,
+    opened: Callable[[], None],
     overdue: Callable[[], None] | None = None,
-) -> None:  # fmt: skip
+) -> None:
     """Serves at a socket until it is asked to stop; `opened` is called once it answers. Raises
     what `Store` raises.
 
     `overdue` is called in a thread where a stop takes longer than all of its parts may."""
     connections = Connections(
-        most_connections(settings.places.connections), settings.head_time, settings.send_time,
-        settings.places, settings.trusted_proxies,
-    )  # fmt: skip
+        most_connections(settings.places.connections),
+        settings.head_time,
+        settings.send_time,
+        settings.places,
+        settings.trusted_proxies,
+    )
     app, service = application(settings, connections)
     await service.begin()
     try:

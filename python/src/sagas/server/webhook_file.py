@@ -98,9 +98,12 @@ def _read_one(entry: Any, allow_local: bool) -> Webhook:
         raise ValueError(f"unknown type {beyond[0]!r}; the types are {', '.join(TYPES)}")
     some = entry.get("definitions")
     return Webhook(
-        name, url, _secret(entry.get("secret")), types,
+        name,
+        url,
+        _secret(entry.get("secret")),
+        types,
         None if some is None else _texts(some, "definitions"),
-    )  # fmt: skip
+    )
 
 
 def _url(told: Any) -> str:

@@ -35,9 +35,15 @@ GONE = 410
 """The status by which a receiver says that it wants nothing more of this."""
 MOST_SAID = 200
 TOLD = (
-    "saga_ended", "saga_stuck", "saga_undo_failed", "saga_unused_report",
-    "step_suspended", "step_exhausted", "step_unknown", "step_cannot_decode",
-)  # fmt: skip
+    "saga_ended",
+    "saga_stuck",
+    "saga_undo_failed",
+    "saga_unused_report",
+    "step_suspended",
+    "step_exhausted",
+    "step_unknown",
+    "step_cannot_decode",
+)
 """Events behind whose commits there may be something to post."""
 logger = logging.getLogger("sagas.webhooks")
 

@@ -47,9 +47,7 @@ Row = tuple[Any, ...]
 
 def _without(row: Row) -> Row:
     """A row in which values that are elsewhere are absent."""
-    return tuple(
-        ABSENT if isinstance(cell, str) and Reference.of(cell) else cell for cell in row
-    )  # fmt: skip
+    return tuple(ABSENT if isinstance(cell, str) and Reference.of(cell) else cell for cell in row)
 
 
 def referred(rows: Iterable[Row]) -> list[str]:

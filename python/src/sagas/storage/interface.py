@@ -21,7 +21,7 @@ from concurrent.futures import Executor
 from typing import TYPE_CHECKING, Any, Optional, Protocol
 
 from sagas.base.errors import InvalidStore
-from sagas.core.batch import (  # fmt: skip
+from sagas.core.batch import (
     Batch,
     Born,
     Grant,

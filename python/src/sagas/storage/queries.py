@@ -118,11 +118,13 @@ its sagas is open, so those of closed ones are not looked at. In this order too.
 an index, and leaves this out. The table has the name `s`.
 """
 PHASES = {
-    "open": f"phase IS NULL{IN_OPEN_LOGS}", "completed": f"phase = 'ended' AND NOT {PLANNED}",
-    "recovered": f"{PLANNED} AND note IS NULL", "undo_failed": f"{UNDO_FAILED} AND note IS NULL",
+    "open": f"phase IS NULL{IN_OPEN_LOGS}",
+    "completed": f"phase = 'ended' AND NOT {PLANNED}",
+    "recovered": f"{PLANNED} AND note IS NULL",
+    "undo_failed": f"{UNDO_FAILED} AND note IS NULL",
     "stuck": "phase = 'stuck' AND note IS NULL",
     "resolved": f"(phase = 'stuck' OR ({PLANNED})) AND note IS NOT NULL",
-}  # fmt: skip
+}
 """What a list may be asked for. `completed`: all went well; `recovered`: ended by a plan, since a
 step
 had failed or they were aborted; `undo_failed`: those of these of which a compensation failed for

@@ -50,9 +50,18 @@ class Session:
     """
 
     __slots__ = (
-        "epoch", "timeline", "present", "words", "sends", "hears", "tells", "wholes", "digest",
-        "told", "most",
-    )  # fmt: skip
+        "epoch",
+        "timeline",
+        "present",
+        "words",
+        "sends",
+        "hears",
+        "tells",
+        "wholes",
+        "digest",
+        "told",
+        "most",
+    )
 
     def __init__(self, run: str, line: Line, digest: int) -> None:
         shard, self.epoch, self.timeline = line

@@ -103,9 +103,15 @@ class Schedules:
         self._link = link
 
     def put(
-        self, name: str, saga: tuple[str, int], input: str, labels: str, timing: Timing, now: float,
+        self,
+        name: str,
+        saga: tuple[str, int],
+        input: str,
+        labels: str,
+        timing: Timing,
+        now: float,
         payloads: Payloads = PLAIN,
-    ) -> None:  # fmt: skip
+    ) -> None:
         """Declare one, or change it; as it is, it keeps its next time. Raises `NotSerializable`
         and `MissingCodec`."""
         stored = payloads.encode(input)

@@ -103,9 +103,16 @@ class Simulation:
     """One saga, from its start to its end."""
 
     def __init__(
-        self, key: str, text: str, kind: Kind, scenario: Scenario, clock: Clock,
-        children: Children, name: str = "test", shape: str | None = None,
-    ) -> None:  # fmt: skip
+        self,
+        key: str,
+        text: str,
+        kind: Kind,
+        scenario: Scenario,
+        clock: Clock,
+        children: Children,
+        name: str = "test",
+        shape: str | None = None,
+    ) -> None:
         self._kind, self._scenario, self._clock = kind, scenario, clock
         self._children, self._followed = children, set[Attempt]()
         identity = ShardIdentity(0, name, ShardDefinitions([kind]))

@@ -52,18 +52,26 @@ def pages(
 
 
 @routes.get(
-    "/attention", "listAttention", may=May.LOOK,
-    query=filters.SAGAS | filters.MORE | {
+    "/attention",
+    "listAttention",
+    may=May.LOOK,
+    query=filters.SAGAS
+    | filters.MORE
+    | {
         "kind": Field(Choice(KINDS), "of this kind", default=None),
         "step": Field(Text(most=32), "of this step", default=None),
-        "order": Field(Choice(("oldest", "newest")), "which are first, of each kind",
-            default="oldest"),
-        "after": Field(Text(most=90, pattern=rf"({KIND})\.{filters.POSITION}\.-?[0-9]{{1,4}}"),
-            "`next` of the page before", default=None),
+        "order": Field(
+            Choice(("oldest", "newest")), "which are first, of each kind", default="oldest"
+        ),
+        "after": Field(
+            Text(most=90, pattern=rf"({KIND})\.{filters.POSITION}\.-?[0-9]{{1,4}}"),
+            "`next` of the page before",
+            default=None,
+        ),
         "limit": filters.LIMIT,
     },
     answers={200: Answer("A page.", answers.ATTENTION)},
-)  # fmt: skip
+)
 async def listed(call: Call) -> Response:
     """List what needs a person.
 

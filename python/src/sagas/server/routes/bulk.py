@@ -94,7 +94,10 @@ async def warnings_of(call: Call, of: Filter) -> list[str]:
 
 
 async def carried_out(
-    call: Call, of: Filter, question: Question[tuple[int, list[Target]]], deed: Deed,
+    call: Call,
+    of: Filter,
+    question: Question[tuple[int, list[Target]]],
+    deed: Deed,
     undoing: int = 0,
 ) -> Response:
     """Counts; then, where it is no dry run and the count is still the same, does it to each.
@@ -186,9 +189,13 @@ def declare(name: str, body: Record, verb: str, told: str) -> Handler:
     handler.__doc__ = told
     answer = Answer("What the filter selects, and what was done.", answers.BULK)
     return routes.post(
-        f"/{name}", f"{name}Many", may=May.OPERATE, body=body, answers={200: answer},
+        f"/{name}",
+        f"{name}Many",
+        may=May.OPERATE,
+        body=body,
+        answers={200: answer},
         problems=("CountChanged",),
-    )(handler)  # fmt: skip
+    )(handler)
 
 
 BEHIND = (
@@ -196,24 +203,33 @@ BEHIND = (
     "most 1,000 are changed at once, the oldest first; repeat it while `left` is not 0."
 )
 abort = declare(
-    "abort", record("AbortMany", SAGAS, {"note": NOTE}), "abort",
+    "abort",
+    record("AbortMany", SAGAS, {"note": NOTE}),
+    "abort",
     "Abort the open sagas of a filter.\n\nThose that were asked before, and those that undo "
     f"children, are left out. {BEHIND}",
-)  # fmt: skip
+)
 resolve = declare(
-    "resolve", record("ResolveMany", HEALED, {"note": NEEDED_NOTE}), "resolve",
+    "resolve",
+    record("ResolveMany", HEALED, {"note": NEEDED_NOTE}),
+    "resolve",
     f"Mark the sagas of a filter as resolved.\n\n{BEHIND}",
-)  # fmt: skip
+)
 retry = declare(
-    "retry", record("RetryMany", STEPS, {"note": NOTE}), "retry",
+    "retry",
+    record("RetryMany", STEPS, {"note": NOTE}),
+    "retry",
     f"Attempt a step of each saga of a filter again.\n\n{BEHIND}",
-)  # fmt: skip
+)
 complete = declare(
     "complete",
     record("CompleteMany", STEPS, {"result": Field(Anything()), "note": NOTE}),
-    "done", f"Report that a step of each saga of a filter is done.\n\n{BEHIND}",
-)  # fmt: skip
+    "done",
+    f"Report that a step of each saga of a filter is done.\n\n{BEHIND}",
+)
 fail = declare(
-    "fail", record("FailMany", STEPS, {"error": ERROR, "note": NOTE}), "failed",
+    "fail",
+    record("FailMany", STEPS, {"error": ERROR, "note": NOTE}),
+    "failed",
     f"Report that a step of each saga of a filter failed permanently.\n\n{BEHIND}",
-)  # fmt: skip
+)

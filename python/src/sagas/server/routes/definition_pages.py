@@ -37,9 +37,13 @@ async def listed(call: Call) -> Response:
     none = dict.fromkeys(COUNTED, 0)
     found = {name: counts.get(name, none) for name in sorted({*counts, *service.names(who)})}
     return shows(
-        call.request, "definitions.html", here="definitions", live="/ui/events", since=since,
+        call.request,
+        "definitions.html",
+        here="definitions",
+        live="/ui/events",
+        since=since,
         counts=found,
-    )  # fmt: skip
+    )
 
 
 @routes.get("/ui/definitions/{name}", query={"unfold": FIELD})
@@ -114,9 +118,12 @@ class Row:
 
 
 def rows_of(
-    call: Call, saga: Saga, declared: list[DeclaredStep], at: dict[str, AtStep],
+    call: Call,
+    saga: Saga,
+    declared: list[DeclaredStep],
+    at: dict[str, AtStep],
     unfolding: Unfolding,
-) -> list[Row]:  # fmt: skip
+) -> list[Row]:
     """The rows of the table, which are the boxes of the picture."""
     blocks = unfolding.groups.blocks(len(declared), unfolding.names)
     name_of = {

@@ -42,9 +42,11 @@ def step_of(one: DeclaredStep) -> dict[str, Any]:
 
 
 @routes.get(
-    "/definitions", "listDefinitions", may=May.LOOK,
+    "/definitions",
+    "listDefinitions",
+    may=May.LOOK,
     answers={200: Answer("Each version of each definition.", answers.DEFINITIONS)},
-)  # fmt: skip
+)
 async def listed(call: Call) -> Response:
     """List definitions.
 

@@ -15,9 +15,12 @@ routes = Routes("sagas", "/v1")
 
 
 @routes.get(
-    "/sagas/{key}/log", "getHistory", may=May.LOOK, problems=("NoSuchSaga",),
+    "/sagas/{key}/log",
+    "getHistory",
+    may=May.LOOK,
+    problems=("NoSuchSaga",),
     answers={200: Answer("Its events, in their order.", answers.HISTORY)},
-)  # fmt: skip
+)
 async def log(call: Call) -> Response:
     """Get the history of a saga.
 
@@ -29,9 +32,12 @@ async def log(call: Call) -> Response:
 
 
 @routes.get(
-    "/sagas/{key}/timeline", "getTimeline", may=May.LOOK, problems=("NoSuchSaga",),
+    "/sagas/{key}/timeline",
+    "getTimeline",
+    may=May.LOOK,
+    problems=("NoSuchSaga",),
     answers={200: Answer("Its attempts, in the order of their begins.", TIMELINE)},
-)  # fmt: skip
+)
 async def timeline(call: Call) -> Response:
     """Get when each attempt of a saga was queued, ran, waited and backed off.
 

@@ -155,9 +155,13 @@ async def deed(call: Call) -> Response:
     kind, verb = form.get("kind", ""), form.get("verb", "")
     if verb not in VERBS.get(kind, {}):
         return shows(
-            request, "fault.html", 422, title="No action selected", back="/ui",
+            request,
+            "fault.html",
+            422,
+            title="No action selected",
+            back="/ui",
             text="Select sagas in the inbox, then select an action.",
-        )  # fmt: skip
+        )
     found = await call.service.look(wanted_of(request, form, kind).question())
     waits = form.get("waits")
     choose = functools.partial(selected, found, fields)
@@ -166,9 +170,13 @@ async def deed(call: Call) -> Response:
     selection = await call.service.threads.pages.do(choose)
     if not selection.entries:
         return shows(
-            request, "fault.html", 422, title="Nothing is selected", back=f"/ui?kind={kind}",
+            request,
+            "fault.html",
+            422,
+            title="Nothing is selected",
+            back=f"/ui?kind={kind}",
             text="Nothing was selected, or all of it has changed since. Select groups or sagas.",
-        )  # fmt: skip
+        )
     if waits is None:
         return asked_again(request, form, selection)
     if fault := fault_of(form):

@@ -31,10 +31,13 @@ async def live(call: Call) -> Response:
 
 
 @routes.get(
-    "/health/ready", "isReady",
-    answers={200: Answer("It takes requests.", answers.READY),
-             503: Answer("It takes none, with the reason.", answers.READY)},
-)  # fmt: skip
+    "/health/ready",
+    "isReady",
+    answers={
+        200: Answer("It takes requests.", answers.READY),
+        503: Answer("It takes none, with the reason.", answers.READY),
+    },
+)
 async def ready(call: Call) -> Response:
     """Whether it takes requests.
 
@@ -44,9 +47,11 @@ async def ready(call: Call) -> Response:
 
 
 @routes.get(
-    "/metrics", "getMetrics", may=May.MEASURE,
+    "/metrics",
+    "getMetrics",
+    may=May.MEASURE,
     answers={200: Answer("Prometheus's text format.", media_type="text/plain")},
-)  # fmt: skip
+)
 async def metrics(call: Call) -> Response:
     """Get figures for Prometheus.
 
@@ -61,10 +66,13 @@ async def metrics(call: Call) -> Response:
 
 
 @routes.post(
-    "/v1/sagas/{key}/resolve", "resolveSaga", may=May.OPERATE, body=RESOLVE,
+    "/v1/sagas/{key}/resolve",
+    "resolveSaga",
+    may=May.OPERATE,
+    body=RESOLVE,
     answers={200: Answer("It is resolved.", answers.RESOLVED)},
     problems=("NoSuchSaga", "StepNotWaiting"),
-)  # fmt: skip
+)
 async def resolve(call: Call) -> Response:
     """Mark a saga as resolved.
 
@@ -76,10 +84,13 @@ async def resolve(call: Call) -> Response:
 
 
 @routes.post(
-    "/v1/sagas/{key}/steps/{step}/compensate", "compensateStep", may=May.OPERATE, body=WHY,
+    "/v1/sagas/{key}/steps/{step}/compensate",
+    "compensateStep",
+    may=May.OPERATE,
+    body=WHY,
     answers={200: Answer("It is compensated, by another saga.", answers.COMPENSATED)},
     problems=("NoSuchSaga", "StepNotWaiting"),
-)  # fmt: skip
+)
 async def compensate(call: Call) -> Response:
     """Have a step compensated that was reported before it began, and not used.
 
@@ -93,9 +104,11 @@ async def compensate(call: Call) -> Response:
 
 
 @routes.get(
-    "/v1/queues", "listQueues", may=May.WORK,
+    "/v1/queues",
+    "listQueues",
+    may=May.WORK,
     answers={200: Answer("By step, over all nodes.", answers.QUEUES)},
-)  # fmt: skip
+)
 async def queues(call: Call) -> Response:
     """List what waits for workers.
 

@@ -28,12 +28,15 @@ routes = Routes("pages", is_page=True)
 OUTCOME = Choice(("done", "failed", "retry"))
 UNDO = {"undo": Field(Flag(), default=False)}
 ABORT = {
-    "title": "Abort this saga?", "verb": "Abort it", "danger": True, "note_title": "Why (a note)",
+    "title": "Abort this saga?",
+    "verb": "Abort it",
+    "danger": True,
+    "note_title": "Why (a note)",
     "text": (
         "No further step of it starts. Steps that are done are undone or kept, whichever costs "
         "least. This cannot be undone."
     ),
-}  # fmt: skip
+}
 FAULTS = {
     "json": "The result is not valid JSON. Write a text in quotation marks, or choose “a text”.",
     "number": "The result is not a number.",
@@ -44,28 +47,32 @@ NO_CHILD = (
     "undo, enter null as the key."
 )
 RESOLVE = {
-    "title": "Mark it as resolved?", "verb": "Mark as resolved",
-    "note_title": "What was done about it (a note)", "note_needed": True,
+    "title": "Mark it as resolved?",
+    "verb": "Mark as resolved",
+    "note_title": "What was done about it (a note)",
+    "note_needed": True,
     "text": (
         "No step runs because of this. It records that a person repaired what the saga could "
         "not, and takes the saga off the inbox."
     ),
-}  # fmt: skip
+}
 COMPENSATE: dict[str, Any] = {
-    "verb": "Compensate it", "note_title": "A note",
+    "verb": "Compensate it",
+    "note_title": "A note",
     "text": (
         "Another saga calls the compensation, with the result that was reported before the step "
         "began. This cannot be undone."
     ),
-}  # fmt: skip
+}
 
 REMOVE: dict[str, Any] = {
-    "verb": "Remove it", "danger": True,
+    "verb": "Remove it",
+    "danger": True,
     "text": (
         "It starts no more sagas, and its times are forgotten. Sagas that it started stay. This "
         "cannot be undone. The service's log has your name and the time."
     ),
-}  # fmt: skip
+}
 
 
 def asked(
@@ -100,52 +107,65 @@ def step_words(step: str, outcome: str, undo: bool, approval: bool) -> dict[str,
     which = f"undoing {step}" if undo else step
     if outcome == "retry":
         return {
-            "title": f"Retry {which}?", "verb": "Retry it",
+            "title": f"Retry {which}?",
+            "verb": "Retry it",
             "note_title": "What was repaired (a note)",
             "text": "It is called at once, with the same idempotency key.",
-        }  # fmt: skip
+        }
     if approval and outcome == "done":
         return {
-            "title": f"Approve {step}?", "verb": "Approve", "note_title": "A note",
+            "title": f"Approve {step}?",
+            "verb": "Approve",
+            "note_title": "A note",
             "asks_result": True,
             "text": "The saga continues. Steps that need this one get its result.",
-        }  # fmt: skip
+        }
     if approval:
         return {
-            "title": f"Refuse {step}?", "verb": "Refuse", "danger": True, "note_title": "A note",
+            "title": f"Refuse {step}?",
+            "verb": "Refuse",
+            "danger": True,
+            "note_title": "A note",
             "asks_why": True,
             "text": (
                 "The step fails permanently, and the saga follows a plan of least cost. This "
                 "cannot be undone."
             ),
-        }  # fmt: skip
+        }
     if outcome == "done":
         return {
-            "title": f"Report that {which} is done?", "verb": "It is done",
+            "title": f"Report that {which} is done?",
+            "verb": "It is done",
             "note_title": "A note",
             "asks_result": not undo,
             "text": (
                 "The saga continues with it. Report this only if its effect is there: sagas cannot "
                 "check it."
             ),
-        }  # fmt: skip
+        }
     if undo:
         return {
-            "title": f"Report that {which} had no effect?", "verb": "It had no effect",
-            "danger": True, "note_title": "A note", "asks_why": True,
+            "title": f"Report that {which} had no effect?",
+            "verb": "It had no effect",
+            "danger": True,
+            "note_title": "A note",
+            "asks_why": True,
             "text": (
                 f"The compensation fails permanently, and the effect of {step} stays until a "
                 "person repairs it. This cannot be undone."
             ),
-        }  # fmt: skip
+        }
     return {
-        "title": f"Report that {which} had no effect?", "verb": "It had no effect",
-        "danger": True, "note_title": "A note", "asks_why": True,
+        "title": f"Report that {which} had no effect?",
+        "verb": "It had no effect",
+        "danger": True,
+        "note_title": "A note",
+        "asks_why": True,
         "text": (
             "The step fails permanently, and the saga follows a plan of least cost. Report this "
             "only if its effect is not there: no compensation undoes an effect that you deny."
         ),
-    }  # fmt: skip
+    }
 
 
 @routes.get("/ui/sagas/{key}/abort")
@@ -279,9 +299,11 @@ async def step_said(call: Call) -> Response:
     session, form = await sent(call.request)
     view = await seen(call)
     again = functools.partial(
-        step_asked, call, view,
+        step_asked,
+        call,
+        view,
         **{word: form.get(word) for word in ("type", "note", "result", "failed")},
-    )  # fmt: skip
+    )
     if view is not None and (fault := moved_on(call, view, form.get("waits", ""))):
         return await again(409, fault=fault)
     if call.path["outcome"] == "failed" and not form.get("failed", "").strip():

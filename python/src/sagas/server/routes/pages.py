@@ -182,10 +182,20 @@ async def listed(call: Call) -> Response:
     ]
     is_first = before is None and after is None
     return shows(
-        request, "list.html", here="sagas", tabs=tabs, given=given, fault=fault, counts=counts,
-        sagas=found, newer=newer, older=older, url=url, since=since,
+        request,
+        "list.html",
+        here="sagas",
+        tabs=tabs,
+        given=given,
+        fault=fault,
+        counts=counts,
+        sagas=found,
+        newer=newer,
+        older=older,
+        url=url,
+        since=since,
         live="/ui/events" if is_first else None,
-    )  # fmt: skip
+    )
 
 
 def filter_of(given: dict[str, Any], who: Who) -> Filter:

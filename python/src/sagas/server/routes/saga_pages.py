@@ -55,7 +55,7 @@ async def saga(call: Call) -> Response:
 
 def told_of(
     view: SagaView, approvals_of: Callable[[str, str], set[str]], now: float, unfold: str | None
-) -> dict[str, Any]:  # fmt: skip
+) -> dict[str, Any]:
     """What the template of a saga asks for. `approvals_of`: of a saga's name and definition."""
     drawn, tolds = len(view.steps) <= MOST_DRAWN, picture.told_of(view)
     asks = [one for one in view.held if one.asks]

@@ -155,16 +155,27 @@ def there(view: SagaView | None, key: str) -> SagaView:
 
 
 @routes.post(
-    "/sagas", "startSaga", may=May.START, body=START, headers=TRACE,
+    "/sagas",
+    "startSaga",
+    may=May.START,
+    body=START,
+    headers=TRACE,
     answers={
         201: Answer("It was started.", answers.STARTED, headers={"Location": "where it is"}),
         200: Answer("The key has this very saga already.", answers.STARTED),
     },
     problems=(
-        "NoSuchDefinition", "KeyConflict", "InvalidKey", "InvalidLabel", "InvalidInput",
-        "NotSerializable", "TooLarge", "QuotaExceeded", "OwnerUnavailable",
+        "NoSuchDefinition",
+        "KeyConflict",
+        "InvalidKey",
+        "InvalidLabel",
+        "InvalidInput",
+        "NotSerializable",
+        "TooLarge",
+        "QuotaExceeded",
+        "OwnerUnavailable",
     ),
-)  # fmt: skip
+)
 async def start(call: Call) -> Response:
     """Start a saga.
 
@@ -184,16 +195,22 @@ async def start(call: Call) -> Response:
 
 
 @routes.get(
-    "/sagas", "listSagas", may=May.LOOK,
-    query=filters.SAGAS | filters.MORE | {
-        "phase": Field(Choice((*answers.PHASES, "undo_failed")),
+    "/sagas",
+    "listSagas",
+    may=May.LOOK,
+    query=filters.SAGAS
+    | filters.MORE
+    | {
+        "phase": Field(
+            Choice((*answers.PHASES, "undo_failed")),
             "`undo_failed`: recovered ones with a compensation that failed permanently",
-            default=None),
+            default=None,
+        ),
         "after": Field(CURSOR, "`next` of the page before", default=None),
         "limit": LIMIT,
     },
     answers={200: Answer("A page.", answers.PAGE)},
-)  # fmt: skip
+)
 async def listed(call: Call) -> Response:
     """List sagas, newest first.
 
@@ -218,11 +235,13 @@ async def get(call: Call) -> Response:
 
 
 @routes.get(
-    "/sagas/{key}/wait", "waitForSaga", may=May.LOOK,
+    "/sagas/{key}/wait",
+    "waitForSaga",
+    may=May.LOOK,
     query={"seconds": Field(Number(0.0, LONGEST), "how long at most", default=30.0)},
     answers={200: SAGA},
     problems=("NoSuchSaga", "Unauthorized", "RightsChanged", "TooManyWaits"),
-)  # fmt: skip
+)
 async def wait(call: Call) -> Response:
     """Wait until a saga is over.
 
@@ -239,10 +258,13 @@ async def wait(call: Call) -> Response:
 
 
 @routes.post(
-    "/sagas/{key}/abort", "abortSaga", may=May.START, body=WHY,
+    "/sagas/{key}/abort",
+    "abortSaga",
+    may=May.START,
+    body=WHY,
     answers={200: Answer("Whether it was aborted now.", answers.ABORTED)},
     problems=("NoSuchSaga", "NotAbortable", "OwnerUnavailable"),
-)  # fmt: skip
+)
 async def abort(call: Call) -> Response:
     """Abort a saga.
 
@@ -255,10 +277,13 @@ async def abort(call: Call) -> Response:
 
 
 @routes.post(
-    "/sagas/{key}/what-if", "whatIf", may=May.LOOK, body=SUPPOSE,
+    "/sagas/{key}/what-if",
+    "whatIf",
+    may=May.LOOK,
+    body=SUPPOSE,
     answers={200: Answer("The plan, which nobody goes by.", answers.WHAT_IF)},
     problems=("NoSuchSaga", "SagaOver", "NotAbortable"),
-)  # fmt: skip
+)
 async def what_if(call: Call) -> Response:
     """Compute what an abort, or a failure of a step, would cost now.
 
@@ -284,10 +309,13 @@ async def what_if(call: Call) -> Response:
 
 
 @routes.get(
-    "/sagas/{key}/picture.svg", "getPicture", may=May.LOOK, problems=("NoSuchSaga",),
+    "/sagas/{key}/picture.svg",
+    "getPicture",
+    may=May.LOOK,
+    problems=("NoSuchSaga",),
     query={"unfold": unfolding.FIELD},
     answers={200: Answer("A picture.", media_type="image/svg+xml")},
-)  # fmt: skip
+)
 async def picture(call: Call) -> Response:
     """Get a saga as a picture.
 
@@ -304,11 +332,19 @@ async def picture(call: Call) -> Response:
 
 
 @routes.get(
-    "/sagas/{key}/certificate", "getCertificate", may=May.LOOK, problems=("NoSuchSaga", "NoPlan"),
+    "/sagas/{key}/certificate",
+    "getCertificate",
+    may=May.LOOK,
+    problems=("NoSuchSaga", "NoPlan"),
     query={"form": Field(Choice(("json", "text")), "of the answer", default="json")},
-    answers={200: Answer("Definition, case and answer; with `form=text` as plain text.",
-        answers.CERTIFICATE, or_text=True)},
-)  # fmt: skip
+    answers={
+        200: Answer(
+            "Definition, case and answer; with `form=text` as plain text.",
+            answers.CERTIFICATE,
+            or_text=True,
+        )
+    },
+)
 async def certificate(call: Call) -> Response:
     """Get what `sagas check` needs to verify the plan.
 
@@ -349,13 +385,20 @@ async def decided(call: Call, outcome: str, value: Any) -> Response:
 
 
 @routes.post(
-    "/sagas/{key}/steps/{step}/complete", "completeStep", may=May.APPROVE, body=COMPLETE,
+    "/sagas/{key}/steps/{step}/complete",
+    "completeStep",
+    may=May.APPROVE,
+    body=COMPLETE,
     answers=DECIDED,
     problems=(
-        "NoSuchSaga", "StepNotWaiting", "ConflictingReport", "NotSerializable", "InvalidResult",
+        "NoSuchSaga",
+        "StepNotWaiting",
+        "ConflictingReport",
+        "NotSerializable",
+        "InvalidResult",
         "OwnerUnavailable",
     ),
-)  # fmt: skip
+)
 async def complete(call: Call) -> Response:
     """Report that a step is done.
 
@@ -367,9 +410,13 @@ async def complete(call: Call) -> Response:
 
 
 @routes.post(
-    "/sagas/{key}/steps/{step}/fail", "failStep", may=May.APPROVE, body=FAIL, answers=DECIDED,
+    "/sagas/{key}/steps/{step}/fail",
+    "failStep",
+    may=May.APPROVE,
+    body=FAIL,
+    answers=DECIDED,
     problems=("NoSuchSaga", "StepNotWaiting", "ConflictingReport", "OwnerUnavailable"),
-)  # fmt: skip
+)
 async def fail(call: Call) -> Response:
     """Report that a step failed permanently.
 
@@ -378,9 +425,13 @@ async def fail(call: Call) -> Response:
 
 
 @routes.post(
-    "/sagas/{key}/steps/{step}/retry", "retryStep", may=May.OPERATE, body=RETRY, answers=DECIDED,
+    "/sagas/{key}/steps/{step}/retry",
+    "retryStep",
+    may=May.OPERATE,
+    body=RETRY,
+    answers=DECIDED,
     problems=("NoSuchSaga", "StepNotWaiting", "OwnerUnavailable"),
-)  # fmt: skip
+)
 async def retry(call: Call) -> Response:
     """Attempt a step again.
 
@@ -390,13 +441,17 @@ async def retry(call: Call) -> Response:
 
 
 @routes.get(
-    "/events", "followEvents", may=May.LOOK, streams=True, problems=("TooManyStreams",),
+    "/events",
+    "followEvents",
+    may=May.LOOK,
+    streams=True,
+    problems=("TooManyStreams",),
     query={
         "key": Field(Text(most=512), "of one saga", default=None),
         "definition": Field(Text(most=64), "of one definition", default=None),
     },
     answers={200: Answer("Server-sent events.", media_type="text/event-stream")},
-)  # fmt: skip
+)
 async def events(call: Call) -> Response:
     """Follow what happens, as server-sent events.
 
@@ -414,7 +469,7 @@ def stream(
     since: Optional[str],
     still: Callable[[], bool],
     dashboard: bool = False,
-) -> Response:  # fmt: skip
+) -> Response:
     """The stream of the hub, behind the id `since` where the client names none, as long as it is
     `still` to be.
 

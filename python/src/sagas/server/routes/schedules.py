@@ -52,9 +52,11 @@ async def change(service: Service, who: Who, name: str, what: str) -> None:
 
 
 @routes.get(
-    "", "listSchedules", may=May.LOOK,
+    "",
+    "listSchedules",
+    may=May.LOOK,
     answers={200: Answer("By name.", answers.SCHEDULES)},
-)  # fmt: skip
+)
 async def listed(call: Call) -> Response:
     """List schedules.
 
@@ -75,10 +77,13 @@ def declare(what: str, told: str) -> Handler:
     if what == "remove":
         path, method = "/{name}", routes.delete
     return method(
-        path, f"{what}Schedule", may=May.OPERATE, parts={"name": NAME},
+        path,
+        f"{what}Schedule",
+        may=May.OPERATE,
+        parts={"name": NAME},
         answers={200: Answer("It is done.", answers.SCHEDULE_CHANGED)},
         problems=("NoSuchSchedule",),
-    )(handler)  # fmt: skip
+    )(handler)
 
 
 pause = declare("pause", "Pause a schedule.\n\nIt starts no more sagas until it is resumed.")

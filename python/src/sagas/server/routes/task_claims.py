@@ -106,9 +106,7 @@ def _is_too_deep(task: LeasedTask) -> bool:
     return any(is_deeper(text, MOST_WRITTEN) for text in _texts(task))
 
 
-async def _written(
-    call: Call, made: Callable[[Any], Any], found: Claimed, *path: str
-) -> Response:
+async def _written(call: Call, made: Callable[[Any], Any], found: Claimed, *path: str) -> Response:
     if not found.is_large:
         return Json(made(found.told()))
     told = found.told

@@ -70,9 +70,12 @@ async def _kept(
 
 
 @routes.post(
-    "/report", "reportTasks", may=May.WORK, body=REPORTS,
+    "/report",
+    "reportTasks",
+    may=May.WORK,
+    body=REPORTS,
     answers={200: Answer("Each has its own answer.", answers.REPORTED_TASKS)},
-)  # fmt: skip
+)
 async def report(call: Call) -> Response:
     """Report several tasks.
 

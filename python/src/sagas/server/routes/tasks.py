@@ -49,13 +49,16 @@ MORE = {"next": Field(Nullable(NEXT), "what is claimed with the report", default
 EXAMPLE = {"lease": "1.c0ffee"}
 HEARTBEAT = Record(
     "HeartbeatRequest",
-    LEASE | {"seconds": Field(
-        Number(0.5, LONGEST_LEASE), "for how long the lease holds from now", default=30.0
-    ),
-    "progress": Field(Nullable(Number(0.0, 1.0)), "how far the worker is", default=None),
-    "detail": Field(Nullable(Text(most=200)), "a text with it, for people", default=None)},
+    LEASE
+    | {
+        "seconds": Field(
+            Number(0.5, LONGEST_LEASE), "for how long the lease holds from now", default=30.0
+        ),
+        "progress": Field(Nullable(Number(0.0, 1.0)), "how far the worker is", default=None),
+        "detail": Field(Nullable(Text(most=200)), "a text with it, for people", default=None),
+    },
     example=EXAMPLE,
-)  # fmt: skip
+)
 COMPLETE = Record(
     "CompleteTaskRequest",
     LEASE | {"result": Field(Anything(), "what the step gives", default=None)} | MORE,
@@ -90,10 +93,13 @@ OWN = ("NoSuchTask", "InvalidLease", "LeaseLost", "OwnerUnavailable")
 
 
 @routes.post(
-    "/claim", "claimTasks", may=May.WORK, body=CLAIM_REQUEST,
+    "/claim",
+    "claimTasks",
+    may=May.WORK,
+    body=CLAIM_REQUEST,
     answers={200: Answer("The tasks.", answers.CLAIMED, example=CLAIMED_EXAMPLE)},
     problems=("Stopping", "RightsChanged", "TooManyWaits"),
-)  # fmt: skip
+)
 async def claim(call: Call) -> Response:
     """Claim tasks.
 
@@ -109,9 +115,12 @@ async def claim(call: Call) -> Response:
 
 
 @routes.post(
-    "/claim/end", "endClaims", may=May.WORK, body=END,
+    "/claim/end",
+    "endClaims",
+    may=May.WORK,
+    body=END,
     answers={200: Answer("They are answered.", ENDED, example={"ended": 1})},
-)  # fmt: skip
+)
 async def end(call: Call) -> Response:
     """End claims that wait.
 
@@ -121,9 +130,13 @@ async def end(call: Call) -> Response:
 
 
 @routes.post(
-    "/{attempt_id}/heartbeat", "heartbeat", may=May.WORK, body=HEARTBEAT, problems=OWN,
+    "/{attempt_id}/heartbeat",
+    "heartbeat",
+    may=May.WORK,
+    body=HEARTBEAT,
+    problems=OWN,
     answers={200: Answer("The lease holds.", answers.HELD)},
-)  # fmt: skip
+)
 async def heartbeat(call: Call) -> Response:
     """Keep a lease.
 
@@ -132,9 +145,13 @@ async def heartbeat(call: Call) -> Response:
     `InvalidLease` where this worker was not given the lease."""
     body = call.body
     kept = await call.service.store.workers.heartbeat(
-        call.path["attempt_id"], body["lease"], body["seconds"], holder=call.who.name,
-        progress=body["progress"], detail=body["detail"],
-    )  # fmt: skip
+        call.path["attempt_id"],
+        body["lease"],
+        body["seconds"],
+        holder=call.who.name,
+        progress=body["progress"],
+        detail=body["detail"],
+    )
     return Json({**times(until=kept.until), "cancelled": kept.cancelled})
 
 
@@ -151,18 +168,25 @@ async def _report(call: Call, **outcome: Any) -> Response:
     check_next(call, more)
     async with NextClaim(call, more) as claim:
         kept = await call.service.store.workers.report(
-            call.path["attempt_id"], body["lease"], holder=call.who.name,
-            stored=claim.stored, **outcome,
-        )  # fmt: skip
+            call.path["attempt_id"],
+            body["lease"],
+            holder=call.who.name,
+            stored=claim.stored,
+            **outcome,
+        )
         told = {"kept": True, "repeated": not kept}
         found = await claim.answer()
         return await answered(call, lambda next: {**told, "next": next}, found, "next")
 
 
 @routes.post(
-    "/{attempt_id}/complete", "completeTask", may=May.WORK, body=COMPLETE, answers=REPORTED,
+    "/{attempt_id}/complete",
+    "completeTask",
+    may=May.WORK,
+    body=COMPLETE,
+    answers=REPORTED,
     problems=(*OWN, "ConflictingReport", "NotSerializable"),
-)  # fmt: skip
+)
 async def complete(call: Call) -> Response:
     """Report that a task is done.
 
@@ -173,9 +197,13 @@ async def complete(call: Call) -> Response:
 
 
 @routes.post(
-    "/{attempt_id}/fail", "failTask", may=May.WORK, body=FAIL, answers=REPORTED,
+    "/{attempt_id}/fail",
+    "failTask",
+    may=May.WORK,
+    body=FAIL,
+    answers=REPORTED,
     problems=(*OWN, "ConflictingReport"),
-)  # fmt: skip
+)
 async def fail(call: Call) -> Response:
     """Report that a task had no effect.
 
@@ -184,9 +212,13 @@ async def fail(call: Call) -> Response:
 
 
 @routes.post(
-    "/{attempt_id}/unknown", "unknownTask", may=May.WORK, body=UNKNOWN, answers=REPORTED,
+    "/{attempt_id}/unknown",
+    "unknownTask",
+    may=May.WORK,
+    body=UNKNOWN,
+    answers=REPORTED,
     problems=(*OWN, "ConflictingReport"),
-)  # fmt: skip
+)
 async def unknown(call: Call) -> Response:
     """Report that the outcome is unknown.
 

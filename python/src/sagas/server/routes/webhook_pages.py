@@ -41,11 +41,19 @@ async def listed(call: Call) -> Response:
     state, webhook = call.query["state"], call.query["webhook"]
     found = await call.service.look(deliveries.listed(state, webhook, LISTED + 1))
     return shows(
-        call.request, "webhooks.html", here="webhooks", deliveries=found[:LISTED], most=LISTED,
-        more=len(found) > LISTED, states=(None, *STATES), looks=LOOKS, state=state,
-        webhook=webhook, url=url,
+        call.request,
+        "webhooks.html",
+        here="webhooks",
+        deliveries=found[:LISTED],
+        most=LISTED,
+        more=len(found) > LISTED,
+        states=(None, *STATES),
+        looks=LOOKS,
+        state=state,
+        webhook=webhook,
+        url=url,
         has_hooks=call.service.settings.webhooks is not None,
-    )  # fmt: skip
+    )
 
 
 @routes.post("/ui/webhooks/{id}/redeliver")

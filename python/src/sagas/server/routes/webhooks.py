@@ -59,14 +59,16 @@ async def again(service: Service, who: Who, id: str) -> Delivery:
 
 
 @routes.get(
-    "/webhooks/deliveries", "listDeliveries", may=May.OPERATE,
+    "/webhooks/deliveries",
+    "listDeliveries",
+    may=May.OPERATE,
     query={
         "state": Field(Choice(tuple(state.value for state in DeliveryState)), "", default=None),
         "webhook": Field(Text(most=64), "to this webhook", default=None),
         "limit": LIMIT,
     },
     answers={200: Answer("The latest, the newest first.", answers.DELIVERIES)},
-)  # fmt: skip
+)
 async def listed(call: Call) -> Response:
     """List deliveries of webhooks.
 
@@ -80,10 +82,13 @@ async def listed(call: Call) -> Response:
 
 
 @routes.post(
-    "/webhooks/deliveries/{id}/redeliver", "redeliver", may=May.OPERATE, body=AGAIN,
+    "/webhooks/deliveries/{id}/redeliver",
+    "redeliver",
+    may=May.OPERATE,
+    body=AGAIN,
     answers={200: Answer("It is pending again.", answers.DELIVERY)},
     problems=("NoSuchDelivery",),
-)  # fmt: skip
+)
 async def redeliver(call: Call) -> Response:
     """Post a delivery again.
 

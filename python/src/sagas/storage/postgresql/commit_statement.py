@@ -373,9 +373,7 @@ class Commit:
             for row in self.rows("offers")
         ]
         self._put("offers", offers)
-        cancelled = (
-            (why, id, array(others.get(id, ())).decode()) for id, why in ended.items()
-        )
+        cancelled = ((why, id, array(others.get(id, ())).decode()) for id, why in ended.items())
         self._put("cancelled", [*cancelled])
 
     def words(self, node: bytes) -> tuple[str, list[bytes | None]]:

@@ -136,8 +136,9 @@ REPORTS_WIRED = prepared.numbered(f"WITH {REPORTED} SELECT NULL, {SHARDS} FROM k
 BOTH_WIRED = prepared.numbered(
     f"WITH {CLOCK}, {UNREPORTED}, {REPORTED} "
     f"SELECT (SELECT {ROWS} FROM taken), (SELECT {SHARDS} FROM kept)",
-    *CLAIM_WORDS, *REPORT_WORDS,
-)  # fmt: skip
+    *CLAIM_WORDS,
+    *REPORT_WORDS,
+)
 """The rows of claims, and the shards of the reports that count."""
 FIND = "SELECT lease, outcome, value, reported FROM external_attempts WHERE attempt = %(attempt)s"
 OUTCOMES = (

@@ -165,9 +165,14 @@ class Lease:
     """This node's name, how long its lease holds as far as it knows, and what it takes over."""
 
     def __init__(
-        self, asker: Asker, name: str | None, seconds: float, version: str,
-        kinds: Sequence[str] = (), encodes: bool = False,
-    ) -> None:  # fmt: skip
+        self,
+        asker: Asker,
+        name: str | None,
+        seconds: float,
+        version: str,
+        kinds: Sequence[str] = (),
+        encodes: bool = False,
+    ) -> None:
         self.encodes = encodes  # by a codec
         self.name = name or f"{socket.gethostname()}-{os.getpid()}"
         self.node = f"{self.name}/{secrets.token_hex(4)}"
@@ -208,10 +213,16 @@ class Lease:
         own = self._turn % max(1, len(mine) // OWN) == 0
         before = self._passed()
         words = {
-            "own": own, "node": self.node, "name": self.name, "version": self.version,
-            "kinds": self._kinds, "lease": self.seconds, "left": before, "mine": mine,
+            "own": own,
+            "node": self.node,
+            "name": self.name,
+            "version": self.version,
+            "kinds": self._kinds,
+            "lease": self.seconds,
+            "left": before,
+            "mine": mine,
             "encodes": self.encodes,
-        }  # fmt: skip
+        }
         rows = await self._asker.ask(SAY + LOOK, enters=self._enters, **words)
         ((line, is_there, orphans, asks, left),) = rows
         self._look_at_left(left)

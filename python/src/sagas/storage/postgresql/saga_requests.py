@@ -82,9 +82,13 @@ async def give_back(asker: connections.Asker, node: str, start: int, why: str | 
 
 
 async def ask(
-    asker: connections.Asker, heard: notifications.News, row: SagaRow, what: str, value: str,
+    asker: connections.Asker,
+    heard: notifications.News,
+    row: SagaRow,
+    what: str,
+    value: str,
     payloads: Payloads,
-) -> Any:  # fmt: skip
+) -> Any:
     """Leaves a request for this very saga, or for the start that it is yet; tells the nodes, and
     waits for the answer. An abort of a start that no node has taken withdraws it instead.
 

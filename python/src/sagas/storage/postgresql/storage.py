@@ -50,11 +50,19 @@ class PostgreSQL(queries.Questions):
     blobs = None
 
     def __init__(
-        self, url: str, *, node: str | None = None, lease: float = 10.0, sagas: Sequence[str] = (),
-        kinds: Sequence[str] = (), version: str = "", most: int = 16,
-        transactions: MakesTransactions | None = None, record: str | None = None,
+        self,
+        url: str,
+        *,
+        node: str | None = None,
+        lease: float = 10.0,
+        sagas: Sequence[str] = (),
+        kinds: Sequence[str] = (),
+        version: str = "",
+        most: int = 16,
+        transactions: MakesTransactions | None = None,
+        record: str | None = None,
         encodes: bool = False,
-    ) -> None:  # fmt: skip
+    ) -> None:
         """`sagas`: the starts that it takes, each as saga/version, which is of those without a
         digest, or as saga/version/digest; `kinds`: its definitions, in the latter form.
         `transactions` gives what calls functions in transactions; `record`: a file; `encodes`:
