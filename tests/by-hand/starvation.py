@@ -7,9 +7,9 @@ small GET of one token: alone, and while the other token has ten what-ifs of the
 once, or twenty GETs of it. The callers are processes of their own. It fails if ten what-ifs make
 the median more than three times as long, or twenty GETs more than ten times.
 
-Measured on 2026-11-29, on four processors that other work kept busy (load 12 to 20). Before tokens
-had queues of their own: 103 times as long for what-ifs, 75 times for GETs. With them: 0.9 to 4.2
-times for what-ifs in seven runs, and 5 to 7 times for GETs.
+Measured on 2026-11-29 on four processors. Before tokens had queues of their own (load 12 to 20):
+103 times as long for what-ifs, 75 times for GETs. With queues, and with rests after long work (load
+2 to 4): 1.0 to 1.3 times for what-ifs in five runs, and 3.3 to 4.8 times for GETs.
 """
 
 from __future__ import annotations

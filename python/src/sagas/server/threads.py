@@ -16,7 +16,7 @@ from typing import Any, TypeVar
 
 from sagas.inspection.question import Question, StoreReader
 from sagas.server import renderer
-from sagas.server.fair_queue import MAKER, FairQueue
+from sagas.server.fair_queue import MAKER, ComputingTime, FairQueue
 from sagas.storage.interface import Reader
 
 T = TypeVar("T")
@@ -52,13 +52,14 @@ class Pool:
         self,
         kind: str,
         all: list[Pool],
-        computing: set[str],
+        computing: ComputingTime,
         readers: Sequence[Reader] = (),
         count: int = 1,
     ) -> None:
         count = len(readers) or count
         self._threads = ThreadPoolExecutor(count, f"sagas-{kind}")
         self._queue: FairQueue[Job] = FairQueue(count, computing)
+        self._timer: asyncio.TimerHandle | None = None
         self._all = all
         all.append(self)
         self._readers: SimpleQueue[StoreReader] = SimpleQueue()
@@ -72,25 +73,32 @@ class Pool:
     async def do(self, work: Callable[[], T]) -> T:
         """Do work in a thread, for whoever the running task works for."""
         answer: asyncio.Future[T] = asyncio.get_running_loop().create_future()
-        self._queue.put(MAKER.get(), (work, answer))
+        self._queue.put(MAKER.get(), (work, answer), time.monotonic())
         self._fill()
         return await answer
 
     def _fill(self) -> None:
-        """Begin what may be done now."""
-        while item := self._queue.take():
+        """Begin what may be done now, and look again when the next rest ends."""
+        while item := self._queue.take(time.monotonic()):
             name, (work, answer) = item
-            if answer.done():  # nobody waits for it any more
-                self._queue.done(name, 0.0, 0.0)
+            if answer.done():  # its caller no longer waits
+                self._queue.done(name, 0.0, 0.0, time.monotonic())
                 continue
             task = Timed(work)
             doing = answer.get_loop().run_in_executor(self._threads, task)
             doing.add_done_callback(functools.partial(self._settle, name, answer, task))
+        now = time.monotonic()
+        if (moment := self._queue.next_take(now)) is not None and self._timer is None:
+            self._timer = asyncio.get_running_loop().call_later(moment - now, self._rested)
+
+    def _rested(self) -> None:
+        self._timer = None
+        self._fill()
 
     def _settle(
         self, name: str, answer: asyncio.Future[Any], task: Timed, doing: asyncio.Future[Any]
     ) -> None:
-        self._queue.done(name, task.seconds, task.computed)
+        self._queue.done(name, task.seconds, task.computed, time.monotonic())
         if doing.cancelled():
             answer.cancel()
         elif answer.done():
@@ -116,6 +124,8 @@ class Pool:
 
     def close(self) -> None:
         """End the threads, once they have done what they were asked for, and the connections."""
+        if self._timer is not None:
+            self._timer.cancel()
         self._threads.shutdown(wait=True)
         while not self._readers.empty():
             self._readers.get().close()
@@ -131,7 +141,7 @@ class Threads:
     """
 
     def __init__(self, connect: Callable[[], Reader]) -> None:
-        all, computing = list[Pool](), set[str]()
+        all, computing = list[Pool](), ComputingTime()
         readers = [connect() for _ in range(READERS)]
         self.reads = Pool("look", all, computing, readers)
         self.answers = Pool("answer", all, computing, count=ANSWERERS)
