@@ -1,7 +1,9 @@
 """Hooks of mkdocs that make a site of the repository's pages.
 
-The README is the first page. Only the site's folders are pages. A link to a file of the repository
-that is outside of the site becomes the path of that file, so that the site has no dead links.
+The README is the first page, and the other pages at the top of the repository are part of the site.
+Below docs/, only the site's folders are pages. Lists that a script writes are read in the
+repository. A link to a file that is outside of the site becomes the path of that file, so that the
+site has no dead links.
 """
 
 from __future__ import annotations
@@ -28,6 +30,14 @@ PAGES = (
     "ARCHITECTURE.md",
     "CHANGING.md",
 )
+TOP_PAGES = ("README.md", "CHANGELOG.md", "CONTRIBUTING.md", "SECURITY.md")
+LISTS = (
+    "dev/mutants.md",
+    "dev/mutants-program.md",
+    "dev/architecture/modules.md",
+    "dev/architecture/modules-store.md",
+    "dev/architecture/modules-above.md",
+)
 # The pages of classes that show what those inherit.
 WITH_INHERITED = ("reference/store.md",)
 
@@ -47,6 +57,8 @@ LINK = re.compile(r"(!?)\[([^\]]*)\]\(([^)\s#]+)(#[^)\s]*)?\)")
 
 def is_of_site(uri: str) -> bool:
     """Whether a path below docs/ is part of the site."""
+    if uri in LISTS:
+        return False
     return uri in PAGES or (uri.split("/")[0] in FOLDERS and uri.endswith((".md", ".svg", ".png")))
 
 
@@ -62,19 +74,20 @@ def on_startup(**_: Any) -> None:
 
 
 def on_files(files: Files, config: Any, **_: Any) -> Files:
-    """Keep the files of the site, and add the README."""
+    """Keep the files of the site, and add the pages at the top of the repository."""
     pages = config["docs_dir"]
     kept = [
         one for one in files if not is_below(one.abs_src_path, pages) or is_of_site(one.src_uri)
     ]
-    kept.append(File("README.md", str(TOP), config["site_dir"], config["use_directory_urls"]))
+    place, is_folder = config["site_dir"], config["use_directory_urls"]
+    kept += [File(name, str(TOP), place, is_folder) for name in TOP_PAGES]
     return Files(kept)
 
 
 def uri_of(path: Path) -> str | None:
     """The path of a repository's file within the site, if it is part of the site."""
-    if path == TOP / "README.md":
-        return "README.md"
+    if path.parent == TOP and path.name in TOP_PAGES:
+        return path.name
     if path.is_relative_to(TOP / "docs"):
         uri = path.relative_to(TOP / "docs").as_posix()
         return uri if is_of_site(uri) else None
@@ -106,7 +119,7 @@ def with_inherited(directive: re.Match[str]) -> str:
 def on_page_markdown(markdown: str, page: Any, **_: Any) -> str:
     """Rewrite the links of a page, outside of its code."""
     uri = page.file.src_uri
-    source = TOP / uri if uri == "README.md" else TOP / "docs" / uri
+    source = TOP / uri if uri in TOP_PAGES else TOP / "docs" / uri
     parts = FENCE.split(markdown)
     for number in range(0, len(parts), 2):
         parts[number] = LINK.sub(lambda link: link_in_site(link, source, uri), parts[number])
