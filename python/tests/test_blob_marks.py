@@ -32,7 +32,7 @@ def wait_for_name(store: sagas.Store) -> Any:
 
 
 def blobs_of(store: sagas.Store) -> Any:
-    return store._access.inside.store.blobs
+    return store._access.coordinator.store.blobs
 
 
 async def asked(store: sagas.Store, key: str) -> None:
@@ -41,7 +41,7 @@ async def asked(store: sagas.Store, key: str) -> None:
 
 
 async def swept(store: sagas.Store) -> int:
-    database: Any = store._access.inside.store
+    database: Any = store._access.coordinator.store
     return int(await database.swept())
 
 
@@ -238,7 +238,7 @@ def test_a_value_that_is_not_given_parks_its_attempt_alone(
             for key in [*bad, "good"]:
                 await store.start(saga, key, LARGE)
                 await asked(store, key)
-            prefixes = await store._access.inside.store.read_stored(
+            prefixes = await store._access.coordinator.store.read_stored(
                 "SELECT a.value FROM attempts a JOIN sagas s ON s.id = a.id WHERE s.key <> ? AND a.step = 0",
                 "good",
             )

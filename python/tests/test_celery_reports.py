@@ -64,7 +64,7 @@ class Late:
         async with sagas.open(self.place, [self.saga]) as store:
             await store.start(self.saga, "k")
             await until(lambda: asked_of(store), 30)
-            external = store._inside.external
+            external = store._coordinator.external
             await until(lambda: not (external._is_looking or external._looks_again))
             yield store
 

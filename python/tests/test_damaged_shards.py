@@ -148,7 +148,7 @@ async def is_whole(store: sagas.Store) -> bool:
 
 def counted(store: sagas.Store) -> list[int]:
     """The shards that are loaded from now on."""
-    database: Any = store._inside.store
+    database: Any = store._coordinator.store
     loads, load = list[int](), database.load
 
     def noted(log: int, *words: Any) -> Any:

@@ -527,7 +527,7 @@ def test_a_time_while_the_saga_before_is_open(place: str, overlap: str) -> None:
             await store.schedule("n", kind, every=EVERY, overlap=overlap)
             for turn in (1, 2):
                 clock.now += EVERY.total_seconds()
-                store._inside.look()
+                store._coordinator.look()
                 if turn == 1 or overlap == "allow":
                     await until(lambda: len(keys(place)) == turn)
                 elif overlap == "skip":
@@ -564,7 +564,7 @@ def test_a_program_that_lacks_the_definition(place: str) -> None:
                 return (await store.schedules())[0].error
 
             await until(error)
-            store._inside.look()
+            store._coordinator.look()
             await asyncio.sleep(0)
             assert await error() == "no program has its saga 'simple' (version 1)"
         assert told == ["schedule_failed: n: no program has its saga 'simple' (version 1)"]

@@ -26,17 +26,19 @@ from sagas.storage.filters import Filter
 T = TypeVar("T")
 
 
-def name_of(saga: Saga | str | None) -> str | None:
+def definition_name(saga: Saga | str | None) -> str | None:
     """The name of a definition."""
     return saga.name if isinstance(saga, Saga) else saga
 
 
-def _page(of: Filter, after: Summary | int | None, limit: int) -> Question[builtins.list[Summary]]:
-    place = yield from pages.position(after)
-    return (yield from pages.page(of=of, after=place, newest=False, most=limit))
+def _page(
+    filter: Filter, after: Summary | int | None, limit: int
+) -> Question[builtins.list[Summary]]:
+    after_position = yield from pages.position(after)
+    return (yield from pages.page(of=filter, after=after_position, newest=False, most=limit))
 
 
-async def beside(name: str, work: Callable[[admin.Source], T]) -> T:
+async def over_own_connection(name: str, work: Callable[[admin.Source], T]) -> T:
     """Do something with a store over a connection of its own, in a thread.
 
     Raises:
@@ -99,8 +101,8 @@ class Batches:
             Closed: The store is closed.
         """
         pages.check(phase, after, limit)
-        of = Filter(phase, name_of(saga), checked(labels))
-        return await self._answer(_page(of, after, limit))
+        filter = Filter(phase, definition_name(saga), checked(labels))
+        return await self._answer(_page(filter, after, limit))
 
     async def count(
         self,
@@ -123,7 +125,9 @@ class Batches:
             Closed: The store is closed.
         """
         pages.check(phase, None, 1)
-        return await self._answer(lists.count(Filter(phase, name_of(saga), checked(labels))))
+        return await self._answer(
+            lists.count(Filter(phase, definition_name(saga), checked(labels)))
+        )
 
     async def definitions(self) -> builtins.list[DefinitionCount]:
         """Return how many sagas there are of each version of each definition.
@@ -185,9 +189,9 @@ class Batches:
             StoreUnavailable: The database does not answer; what was asked before is executed.
             Closed: The store is closed.
         """
-        told = {"by": by, "note": note}
-        found = Filter(saga=name_of(saga), labels=selecting(labels))
-        return await self._run(found, lambda batch: batch.abort(told, timeout))
+        command = {"by": by, "note": note}
+        selection = Filter(saga=definition_name(saga), labels=selecting(labels))
+        return await self._run(selection, lambda batch: batch.abort(command, timeout))
 
     async def resolve_all(
         self,
@@ -212,14 +216,14 @@ class Batches:
             InvalidLabel: As of `abort_all`.
         """
         arguments.text("note", note, "what was done about it")
-        found = Filter(saga=name_of(saga), labels=selecting(labels))
-        return await self._run(found, lambda batch: batch.resolve(note, by))
+        selection = Filter(saga=definition_name(saga), labels=selecting(labels))
+        return await self._run(selection, lambda batch: batch.resolve(note, by))
 
     async def _run(self, filter: Filter, work: Callable[[Batch], BatchResult]) -> BatchResult:
         """Do it in a thread; it ends behind its transaction where the caller is cancelled."""
         stop = threading.Event()
         job = asyncio.ensure_future(
-            beside(self._location(), lambda link: work(Batch(link, filter, stop)))
+            over_own_connection(self._location(), lambda link: work(Batch(link, filter, stop)))
         )
         try:
             result = await asyncio.shield(job)

@@ -22,7 +22,7 @@ from sagas.runtime import retries
 from sagas.runtime.children import ChildEnd
 
 
-class ChildCarrier:
+class ChildOperations:
     """What the runtime's children do by keys, as callers of a store do it."""
 
     def __init__(
@@ -37,29 +37,29 @@ class ChildCarrier:
 
     async def end(self, key: str) -> ChildEnd:
         """Wait until a saga has ended."""
-        over = await self._lookup.whole(key)
-        if isinstance(over, SagaInstance):
-            end = history.end_of_live(over)
-            return ChildEnd(end, over.id, over.kind, over.text, over.results)
-        inside = self._access.inside
-        known = await retries.until_answered(functools.partial(inside.store.known, over))
-        kind = inside.shelf.kind(known.definition)
+        ended = await self._lookup.whole(key)
+        if isinstance(ended, SagaInstance):
+            end = history.end_of_live(ended)
+            return ChildEnd(end, ended.id, ended.kind, ended.text, ended.results)
+        coordinator = self._access.coordinator
+        known = await retries.until_answered(functools.partial(coordinator.store.known, ended))
+        kind = coordinator.registry.kind(known.definition)
         results = {
             step: value or "null"
             for step, _, _, event, value, _ in known.results
             if event == "commit"
         }
         return ChildEnd(
-            history.end_of(kind, over, known.results), over.id, kind, over.input, results
+            history.end_of(kind, ended, known.results), ended.id, kind, ended.input, results
         )
 
     async def abort(self, key: str, by: str) -> None:
         """Abort a saga, unless it has ended."""
-        await self._commands.abort(key, self._commands.noted(key, "abort", by, None))
+        await self._commands.abort(key, self._commands.command_row(key, "abort", by, None))
 
     async def is_dropped(self, key: str, id: int, step: int) -> bool:
         """Whether a plan would undo a step of a saga, if all that is under way succeeds."""
-        store = self._access.inside.store
+        store = self._access.coordinator.store
         view = await AsyncStoreReader(store.read, store.read_long).ask(saga_questions.view(key))
         if view is None or view.id != id:
             return False

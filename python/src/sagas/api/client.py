@@ -106,7 +106,7 @@ class Client(Schedules):
         self._asker.late = self._look_at_hosts
         self._reader = AsyncStoreReader(self._read, self._read)
         self._opened = Opened("the client")
-        self._news: notifications.News | None = None
+        self._notifier: notifications.News | None = None
         self._record = RecordFile.of(told_path(arguments.record(record)), secrets.token_hex(4))
         self._kinds: dict[str, Kind] = {}
         check_blobs(blobs, LEAST)
@@ -168,8 +168,8 @@ class Client(Schedules):
         except BaseException:
             await self._asker.close()
             raise
-        self._news = notifications.News(self._url, lambda what: None)
-        self._asker.attach(self._news.listener)
+        self._notifier = notifications.News(self._url, lambda what: None)
+        self._asker.attach(self._notifier.listener)
 
     def _look_at_hosts(self) -> None:
         """A statement took too long: a server that was replaced may be waiting for its standby."""
@@ -179,7 +179,7 @@ class Client(Schedules):
     async def _choose_host(self) -> None:
         before = self._url.turn
         await self._url.choose(connections_module.address(self._url))
-        if self._url.turn != before and self._news is not None:
+        if self._url.turn != before and self._notifier is not None:
             await self._asker.renew(cuts=True)
 
     async def __aexit__(
@@ -194,10 +194,10 @@ class Client(Schedules):
         """Close its connections."""
         if self._opened.is_elsewhere:  # they are that process's to end
             return
-        heard, self._news = self._news, None
+        notifier, self._notifier = self._notifier, None
         try:
-            if heard:
-                await heard.close()
+            if notifier:
+                await notifier.close()
                 await self._asker.close()
         finally:
             self._starter.close()
@@ -206,14 +206,14 @@ class Client(Schedules):
                 self._record.close()
 
     @property
-    def _heard(self) -> notifications.News:
+    def _open_notifier(self) -> notifications.News:
         self._opened.check(self.path)
-        if self._news is None:
+        if self._notifier is None:
             raise Closed(
                 f"{self.path}: the client is not open. Use `async with sagas.Client(...) as "
                 "client`"
             )
-        return self._news
+        return self._notifier
 
     # -- sagas
 
@@ -246,14 +246,14 @@ class Client(Schedules):
             TypeError: The connection is not a `psycopg.AsyncConnection`.
             Closed: The client is closed.
         """
-        self._heard
+        self._open_notifier
         if connection is not None:
             caller_connection.check_kind(connection, plain=False)
-        words = self._starter.words(saga, key, input, labels, deadline, traceparent)
+        request = self._starter.start_request(saga, key, input, labels, deadline, traceparent)
         await self._starter.check_shape(saga, input)
         self._sagas[saga.name, saga.version] = saga
-        new = await self._starter.start(words, connection)
-        return ClientRun(self, key, words, new)
+        new = await self._starter.start(request, connection)
+        return ClientRun(self, key, request, new)
 
     async def wait(self, key: str, timeout: float | None = None) -> SagaResult:
         """Wait until a saga has ended. See `Store.wait`."""
@@ -266,19 +266,19 @@ class Client(Schedules):
             return await work
         return await timeouts.in_time(key, work, timeout, lambda: self.waits_for(key))
 
-    async def _wait(self, key: str, words: dict[str, Any] | None) -> SagaResult:
+    async def _wait(self, key: str, request: dict[str, Any] | None) -> SagaResult:
         turn, before = 0, None
         while True:
             row = await retries.until_answered(lambda: self._row(key))
-            if words:
-                client_start.check_same(words, [(row.saga, row.input)])
+            if request:
+                client_start.check_same(request, [(row.saga, row.input)])
             if row.phase is not None:
                 if self._record:
                     self._record.seen(row.id, "client")
                 return await self._end(row)
             pending.check_refused(row)
             turn, before = (turn + 1 if row.id == before else 0), row.id
-            await self._heard.of(row.id, turn)
+            await self._open_notifier.of(row.id, turn)
 
     async def abort(self, key: str) -> bool:
         """Abort a saga, and wait for its node's answer. See `Store.abort`.
@@ -325,10 +325,10 @@ class Client(Schedules):
         )
         await self._request(row, "retry", value)
 
-    async def _request(self, row: SagaRow, what: str, value: str) -> Any:
+    async def _request(self, row: SagaRow, command: str, value: str) -> Any:
         """Ask the node that has the saga, and return its answer. Raises what the answer names."""
         asker, payloads = self._asker, self._payloads
-        answer = await saga_requests.ask(asker, self._heard, row, what, value, payloads)
+        answer = await saga_requests.ask(asker, self._open_notifier, row, command, value, payloads)
         return operator_requests.told(answer)
 
     async def _report(
@@ -340,8 +340,10 @@ class Client(Schedules):
             await self._check_kept(row, name, kind, outcome)
             return
         await codec_note.agree(self._asker, self._payloads.codec is not None)
-        what, told = operator_commands.report_of(name, kind, outcome, early, self._payloads)
-        await self._request(row, what, serialization.write(told))
+        command, arguments = operator_commands.report_command(
+            name, kind, outcome, early, self._payloads
+        )
+        await self._request(row, command, serialization.write(arguments))
 
     async def _check_kept(self, row: SagaRow, step: str, kind: str, outcome: Outcome) -> None:
         """As `check_again`, of a saga that is over."""
@@ -364,15 +366,15 @@ class Client(Schedules):
         return self._payloads
 
     def _location(self) -> str:
-        self._heard
+        self._open_notifier
         return self._url
 
     async def resolve(self, key: str, note: str, *, by: str | None = None) -> None:
         """Mark a saga as seen to. See `Store.resolve`."""
         arguments.text("note", note, "what was done about it")
         note = serialization.clean(note)
-        told = serialization.write({"by": by, "note": note})
-        if not await self._ask(RESOLVE, key=key, note=note, told=told):
+        command = serialization.write({"by": by, "note": note})
+        if not await self._ask(RESOLVE, key=key, note=note, told=command):
             row = await self._row(key)
             unused = await self._ask(queries.named(attention.UNUSED, "id"), id=row.id)
             attention.is_to_resolve(row, note, bool(unused))
@@ -384,8 +386,8 @@ class Client(Schedules):
 
         A node that has the definition does it.
         """
-        told = {"step": step if isinstance(step, str) else step.name, "by": by, "note": note}
-        await self._request(await self._row(key), "compensate", serialization.write(told))
+        arguments = {"step": step if isinstance(step, str) else step.name, "by": by, "note": note}
+        await self._request(await self._row(key), "compensate", serialization.write(arguments))
 
     async def plan(self, key: str) -> Plan | None:
         """Return a saga's last plan. See `Store.plan`."""
@@ -401,23 +403,23 @@ class Client(Schedules):
         """Return what a saga waits for, as the database has it. See `Store.waits_for`."""
         row = await self._row(key)
         if row.id < 0:
-            left = await self._ask(LEFT_BY, id=-row.id)
-            is_left = left and left[0][1]
-            return [pending.left_by(row.saga, *left[0]) if is_left else pending.NOT_BEGUN]
+            holders = await self._ask(LEFT_BY, id=-row.id)
+            is_left = holders and holders[0][1]
+            return [pending.left_by(row.saga, *holders[0]) if is_left else pending.NOT_BEGUN]
         rows = await self._read(WAITS, row.id)
         if not rows:
             return []
         known = await self._known(row)
         return pending.of_rows(self._kind(row, known.definition).names, rows)
 
-    async def _ask(self, query: str, **words: Any) -> builtins.list[Row]:
-        self._heard
-        return await self._asker.read(query, **words)
+    async def _ask(self, query: str, **parameters: Any) -> builtins.list[Row]:
+        self._open_notifier
+        return await self._asker.read(query, **parameters)
 
-    async def _read(self, query: str, *words: Any) -> builtins.list[Row]:
+    async def _read(self, query: str, *parameters: Any) -> builtins.list[Row]:
         """Rows of a question with a `?` for each word."""
-        self._heard
-        text, cells = queries.for_postgresql(query), serialization.cleaned(words)
+        self._open_notifier
+        text, cells = queries.for_postgresql(query), serialization.cleaned(parameters)
         rows = await self._asker.rows(text, *cells)
         return rows if self._blobs is None else await self._blobs.rows(rows)
 
@@ -434,8 +436,8 @@ class Client(Schedules):
 
     async def _known(self, row: SagaRow) -> Known:
         """What the store has of a saga. Raises `NoSuchSaga` where it was let go meanwhile."""
-        words = queries.known_words(row.id, history=False)
-        return queries.known(await self._read(*words), row.key)
+        query = queries.known_words(row.id, history=False)
+        return queries.known(await self._read(*query), row.key)
 
     def _kind(self, row: SagaRow, text: str) -> Kind:
         """The saga of a definition's text: as this client started it, where it did."""

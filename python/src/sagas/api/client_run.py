@@ -25,7 +25,7 @@ class ClientRun:
     def __init__(
         self, client: Client, key: str, words: dict[str, Any] | None = None, new: bool = False
     ) -> None:
-        self._client, self.key, self._words, self.new = client, key, words, new
+        self._client, self.key, self._request, self.new = client, key, words, new
 
     async def wait(self, timeout: float | None = None) -> SagaResult:
         """Wait until the saga has ended. See `Client.wait`.
@@ -33,7 +33,7 @@ class ClientRun:
         Raises:
             KeyConflict: At the moment of the start a node began the key with another input.
         """
-        work = self._client._wait(self.key, self._words)
+        work = self._client._wait(self.key, self._request)
         return await self._client._in_time(self.key, work, timeout)
 
     async def abort(self) -> bool:

@@ -40,7 +40,7 @@ SELECT %(key)s::text, %(saga)s::text, %(version)s::integer, %(input)s::text, %(d
 WHERE %(encodes)s OR NOT EXISTS (SELECT 1 FROM sagas.secrets WHERE name = 'codec')
 ON CONFLICT (key) DO NOTHING RETURNING id
 """
-THERE = """
+EXISTING = """
 SELECT saga, input, NULL::text FROM sagas.sagas WHERE key = %(key)s
 UNION ALL SELECT saga, input, CASE WHEN refused IS NULL THEN digest ELSE '' END
 FROM sagas.pending_starts
@@ -54,25 +54,29 @@ WHERE key = %(key)s AND version = %(version)s AND node IS NULL RETURNING id
 taken again."""
 NOTED = "SELECT 1 FROM sagas.secrets WHERE name = 'codec'"
 BACK = "DELETE FROM sagas.pending_starts WHERE id = ANY(%(own)s::bigint[])"
-TELL = f"SELECT pg_notify('{notifications.CHANNEL}', '{notifications.STARTS}')"
+NOTIFY = f"SELECT pg_notify('{notifications.CHANNEL}', '{notifications.STARTS}')"
 """In the caller's transaction, which only its commit ends. One of the client's own is told of
 behind its commit: a commit that tells holds a lock over the whole server, also while it waits for
 a standby."""
 UNSURE = "It is unknown whether the saga was started. Start it again, with the same key"
 
 
-def is_renewed(words: dict[str, Any], rows: list[Row]) -> bool:
+def has_other_definition(request: dict[str, Any], rows: list[Row]) -> bool:
     """Whether the start that is there is of another definition than this one of the same key."""
-    digest = words["digest"]
+    digest = request["digest"]
     known = (None, digest) if digest is not None else (None,)
-    return any(there not in known for _, _, there in rows if there == "" or digest is not None)
+    return any(
+        stored_digest not in known
+        for _, _, stored_digest in rows
+        if stored_digest == "" or digest is not None
+    )
 
 
-def check_same(words: dict[str, Any], rows: list[Row]) -> None:
+def check_same(request: dict[str, Any], rows: list[Row]) -> None:
     """Raises `KeyConflict` where another saga or input has the key."""
     for saga, text, *_ in rows:
         error = relocation.conflict(
-            words["key"], words["of"], words["input"], saga, text, words["payloads"]
+            request["key"], request["of"], request["input"], saga, text, request["payloads"]
         )
         if error:
             raise error
@@ -82,78 +86,78 @@ class Written(NamedTuple):
     """What a start did: whether its row is there, and whether the nodes are to be told."""
 
     is_new: bool
-    tells: bool
+    must_notify: bool
 
 
-def check_written(words: dict[str, Any], noted: list[Row]) -> None:
+def check_written(request: dict[str, Any], noted: list[Row]) -> None:
     """Raises `MissingCodec` where nothing was written because values have to be encoded."""
-    if noted and not words["encodes"]:
-        raise codec_note.missing(words["path"])
+    if noted and not request["encodes"]:
+        raise codec_note.missing(request["path"])
 
 
-async def start(link: Connection, words: dict[str, Any]) -> Written:
+async def start(link: Connection, request: dict[str, Any]) -> Written:
     """A row, and then a look whether another has the key: in this order, so that no start of the
     same key can pass unseen. What is there may be of a commit that no standby has yet.
     """
-    own = await caller_connection.rows(link, START, words)
+    own = await caller_connection.rows(link, START, request)
     rows = await caller_connection.rows(
-        link, THERE, {"key": words["key"], "own": [id for (id,) in own]}
+        link, EXISTING, {"key": request["key"], "own": [id for (id,) in own]}
     )
     if rows and own:
         await psycopg.AsyncCursor(link).execute(BACK, {"own": [id for (id,) in own]})
-    check_same(words, rows)
+    check_same(request, rows)
     if not (own or rows):
-        check_written(words, await caller_connection.rows(link, NOTED, words))
-    if renewed := is_renewed(words, rows):
-        await caller_connection.rows(link, RENEW, words)
+        check_written(request, await caller_connection.rows(link, NOTED, request))
+    if renewed := has_other_definition(request, rows):
+        await caller_connection.rows(link, RENEW, request)
     if not own:
         await psycopg.AsyncCursor(link).execute(replication.REPLICATED)
     is_new = bool(own) and not rows
     return Written(is_new, is_new or renewed)
 
 
-def start_now(link: psycopg.Connection[Any], words: dict[str, Any]) -> Written:
+def start_now(link: psycopg.Connection[Any], request: dict[str, Any]) -> Written:
     """As `start`, where it stands."""
-    own = caller_connection.rows_now(link, START, words)
+    own = caller_connection.rows_now(link, START, request)
     rows = caller_connection.rows_now(
-        link, THERE, {"key": words["key"], "own": [id for (id,) in own]}
+        link, EXISTING, {"key": request["key"], "own": [id for (id,) in own]}
     )
     if rows and own:
         psycopg.Cursor(link).execute(BACK, {"own": [id for (id,) in own]})
-    check_same(words, rows)
+    check_same(request, rows)
     if not (own or rows):
-        check_written(words, caller_connection.rows_now(link, NOTED, words))
-    if renewed := is_renewed(words, rows):
-        caller_connection.rows_now(link, RENEW, words)
+        check_written(request, caller_connection.rows_now(link, NOTED, request))
+    if renewed := has_other_definition(request, rows):
+        caller_connection.rows_now(link, RENEW, request)
     if not own:
         psycopg.Cursor(link).execute(replication.REPLICATED)
     is_new = bool(own) and not rows
     return Written(is_new, is_new or renewed)
 
 
-class StartTeller:
+class StartNotifier:
     """Tells the nodes of starts that are committed. Those that come while it does are told of
     together; a node looks by itself as well, each second.
     """
 
     def __init__(self, asker: connections.Asker) -> None:
-        self._asker, self._has_more, self._tells = asker, False, False
+        self._asker, self._has_more, self._is_sending = asker, False, False
 
-    def tell(self) -> None:
+    def notify(self) -> None:
         """There is a start."""
         self._has_more = True
-        if not self._tells:
-            self._tells = True
-            self._asker.spawn(self._tell())
+        if not self._is_sending:
+            self._is_sending = True
+            self._asker.spawn(self._send())
 
-    async def _tell(self) -> None:
+    async def _send(self) -> None:
         try:
             while self._has_more:
                 self._has_more = False
                 with contextlib.suppress(StoreUnavailable):
                     await self._asker.ask(notifications.SAY, words=[notifications.STARTS])
         finally:
-            self._tells = False
+            self._is_sending = False
 
 
 def shape_check(saga: Saga, input: Any) -> Callable[[], object] | None:
@@ -168,15 +172,17 @@ def shape_check(saga: Saga, input: Any) -> Callable[[], object] | None:
 class ClientStarter:
     """Writes starts, in transactions of its own or of the callers."""
 
-    def __init__(self, asker: connections.Asker, path: str, most: int, payloads: Payloads) -> None:
+    def __init__(
+        self, asker: connections.Asker, path: str, max_connections: int, payloads: Payloads
+    ) -> None:
         self._payloads, self._tracer = payloads, tracing.tracer()
-        self._asker, self._path, self._most = asker, path, most
+        self._asker, self._path, self._max_connections = asker, path, max_connections
         self._digests: WeakKeyDictionary[Saga, str | None] = WeakKeyDictionary()
-        self._teller, self._declared = StartTeller(asker), DeclaredCalls(most)
+        self._notifier, self._declared = StartNotifier(asker), DeclaredCalls(max_connections)
         self._checked: WeakSet[caller_connection.Given] = WeakSet()
         """connections that were given, and are to the store's database"""
 
-    def words(
+    def start_request(
         self,
         saga: Saga,
         key: str,
@@ -188,21 +194,26 @@ class ClientStarter:
         """What a start writes, and of which saga. Of one without steps no digest: it says only
         which saga is meant."""
         arguments.key(key)
-        told = json.dumps(dict(checked(labels)))
+        labels_text = json.dumps(dict(checked(labels)))
         validation.check_given(saga)
         if saga.has_children:
             children.check_key(key, saga)
         if saga not in self._digests:  # its definition is whole by now
             self._digests[saga] = digest_of(definition_text.declared(saga)) if saga.parts else None
-        about = {"key": key, "saga": saga.name, "version": saga.version, "of": saga}
+        request = {"key": key, "saga": saga.name, "version": saga.version, "of": saga}
         plain = serialization.write_value(input, "input")
         text = self._payloads.encode(plain)
-        about |= {"payloads": self._payloads, "path": self._path}
-        about["encodes"] = self._payloads.codec is not None
-        about["traceparent"] = tracing.of_start(self._tracer, traceparent)
-        at = deadline_at(saga.deadline if deadline is None else deadline, time.time())
+        request |= {"payloads": self._payloads, "path": self._path}
+        request["encodes"] = self._payloads.codec is not None
+        request["traceparent"] = tracing.of_start(self._tracer, traceparent)
+        deadline_time = deadline_at(saga.deadline if deadline is None else deadline, time.time())
         digest = self._digests[saga]
-        return about | {"input": text, "digest": digest, "labels": told, "deadline": at}
+        return request | {
+            "input": text,
+            "digest": digest,
+            "labels": labels_text,
+            "deadline": deadline_time,
+        }
 
     async def check_shape(self, saga: Saga, input: Any) -> None:
         """Raise what a start would be refused for by the nodes, if the steps of a saga come from
@@ -210,44 +221,44 @@ class ClientStarter:
         if (check := shape_check(saga, input)) is not None:
             await self._declared.call(saga.name, check)
 
-    async def start(self, words: dict[str, Any], connection: Connection | None) -> bool:
+    async def start(self, request: dict[str, Any], connection: Connection | None) -> bool:
         """Writes a start; whether the row is there."""
         if connection is None:
-            return await self._alone(words)
+            return await self._alone(request)
         store = [] if connection in self._checked else await self.database()
         with caller_connection.faults(connection, self._path):
             if store:
-                found = await caller_connection.rows(connection, caller_connection.HERE, {})
-                caller_connection.check_database(connection, found, store, self._path)
+                databases = await caller_connection.rows(connection, caller_connection.HERE, {})
+                caller_connection.check_database(connection, databases, store, self._path)
             async with caller_connection.savepoint(connection):
-                written = await start(connection, words)
-                if written.tells:
-                    await psycopg.AsyncCursor(connection).execute(TELL)
+                written = await start(connection, request)
+                if written.must_notify:
+                    await psycopg.AsyncCursor(connection).execute(NOTIFY)
         self._checked.add(connection)
         return written.is_new
 
     def start_now(
-        self, words: dict[str, Any], connection: psycopg.Connection[Any], ask: AskDatabase
+        self, request: dict[str, Any], connection: psycopg.Connection[Any], ask: AskDatabase
     ) -> bool:
         """As `start`, in the transaction of a plain connection, in this thread."""
         store = [] if connection in self._checked else ask(self.database())
         with caller_connection.faults(connection, self._path):
             if store:
-                found = caller_connection.rows_now(connection, caller_connection.HERE, {})
-                caller_connection.check_database(connection, found, store, self._path)
+                databases = caller_connection.rows_now(connection, caller_connection.HERE, {})
+                caller_connection.check_database(connection, databases, store, self._path)
             with caller_connection.savepoint_now(connection):
-                written = start_now(connection, words)
-                if written.tells:
-                    psycopg.Cursor(connection).execute(TELL)
+                written = start_now(connection, request)
+                if written.must_notify:
+                    psycopg.Cursor(connection).execute(NOTIFY)
         self._checked.add(connection)
         return written.is_new
 
-    async def _alone(self, words: dict[str, Any]) -> bool:
+    async def _alone(self, request: dict[str, Any]) -> bool:
         """A start in a transaction of its own. Connections that the server has ended meanwhile are
         tried past, all that there may be: a start that is made twice is one, by its key."""
-        for left in reversed(range(self._most + 1)):
+        for left in reversed(range(self._max_connections + 1)):
             try:
-                return await self._asker.whole(self._begin(words))
+                return await self._asker.whole(self._begin(request))
             except StoreUnavailable as error:
                 if isinstance(error.__cause__, (TimeoutError, psycopg.errors.QueryCanceled)):
                     raise StoreUnavailable(f"{error}. {UNSURE}") from error.__cause__
@@ -255,11 +266,11 @@ class ClientStarter:
                     raise
         raise AssertionError
 
-    async def _begin(self, words: dict[str, Any]) -> bool:
+    async def _begin(self, request: dict[str, Any]) -> bool:
         async with self._asker.connection() as link, link.transaction():
-            written = await start(link, words)
-        if written.tells:
-            self._teller.tell()
+            written = await start(link, request)
+        if written.must_notify:
+            self._notifier.notify()
         return written.is_new
 
     def close(self) -> None:

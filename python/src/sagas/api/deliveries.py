@@ -20,12 +20,12 @@ class Deliveries:
     which the store was opened; each raises `StoreUnavailable` and `Closed`.
     """
 
-    def __init__(self, access: StoreAccess, shelf: Shelf) -> None:
-        self._access, self._shelf = access, shelf
+    def __init__(self, access: StoreAccess, registry: Shelf) -> None:
+        self._access, self._registry = access, registry
 
     @property
     def _table(self) -> table.Deliveries:
-        return self._access.inside.store.external.deliveries
+        return self._access.coordinator.store.external.deliveries
 
     def announce(self, hooks: Callable[[str], Hooks]) -> None:
         """Have deliveries stored. Without this call there are none.
@@ -33,7 +33,7 @@ class Deliveries:
         Args:
             hooks: Returns the webhooks that are told of a saga's name, by type.
         """
-        self._shelf.announce(hooks)
+        self._registry.announce(hooks)
 
     async def claim(self, webhook: str, limit: int, lease: float) -> builtins.list[Claimed]:
         """Claim deliveries that are due, the longest due first.
@@ -43,14 +43,14 @@ class Deliveries:
             limit: Maximum number.
             lease: Seconds for which nobody else claims them.
         """
-        words = {"webhook": webhook, "most": limit, "lease": lease}
-        rows = await self._table.change(table.CLAIM, **words)
-        found = [Claimed(*row) for row in rows]
-        if record := self._access.inside.store.record:
-            for one in found:
-                if one.type in ENDS:
-                    record.seen(one.saga, "webhook")
-        return found
+        parameters = {"webhook": webhook, "most": limit, "lease": lease}
+        rows = await self._table.change(table.CLAIM, **parameters)
+        claimed = [Claimed(*row) for row in rows]
+        if record := self._access.coordinator.store.record:
+            for delivery in claimed:
+                if delivery.type in ENDS:
+                    record.seen(delivery.saga, "webhook")
+        return claimed
 
     async def settle(self, id: str, attempts: int, posted: Posted) -> bool:
         """Store how a post went.
@@ -63,8 +63,8 @@ class Deliveries:
         Returns:
             False if it was claimed again meanwhile, and nothing was stored.
         """
-        words = posted._asdict() | {"id": id, "attempts": attempts}
-        return bool(await self._table.change(table.SETTLE, **words))
+        parameters = posted._asdict() | {"id": id, "attempts": attempts}
+        return bool(await self._table.change(table.SETTLE, **parameters))
 
     async def due(self, webhook: str) -> float | None:
         """Return in how many seconds the next one of a webhook is due; None if none is pending."""
@@ -77,5 +77,5 @@ class Deliveries:
 
     async def forget(self, delivered: float, failed: float) -> int:
         """Delete old ones, by the seconds since what they tell of. Return how many."""
-        words = {"delivered": delivered, "failed": failed}
-        return len(await self._table.change(table.FORGET, **words))
+        parameters = {"delivered": delivered, "failed": failed}
+        return len(await self._table.change(table.FORGET, **parameters))

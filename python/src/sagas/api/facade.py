@@ -27,20 +27,22 @@ def blocking(
     """Make a method that does the same without async: it waits for the loop's thread."""
 
     @functools.wraps(method)
-    def call(self: Facade[A], /, *args: P.args, **words: P.kwargs) -> T:
-        return self._loop.do(method(self._inner, *args, **words))
+    def call(self: Facade[A], /, *args: P.args, **kwargs: P.kwargs) -> T:
+        return self._loop.do(method(self._inner, *args, **kwargs))
 
     return call
 
 
-def asked(method: Callable[Concatenate[A, P], T]) -> Callable[Concatenate[Facade[A], P], T]:
+def blocking_plain(
+    method: Callable[Concatenate[A, P], T]
+) -> Callable[Concatenate[Facade[A], P], T]:
     """The same of a plain method, which is called in the loop's thread."""
 
     @functools.wraps(method)
-    def call(self: Facade[A], /, *args: P.args, **words: P.kwargs) -> T:
-        async def ask() -> T:
-            return method(self._inner, *args, **words)
+    def call(self: Facade[A], /, *args: P.args, **kwargs: P.kwargs) -> T:
+        async def run() -> T:
+            return method(self._inner, *args, **kwargs)
 
-        return self._loop.do(ask())
+        return self._loop.do(run())
 
     return call

@@ -24,11 +24,11 @@ class Loop:
     hear while it does not run.
     """
 
-    def __init__(self, where: str, what: str, remedy: str) -> None:
-        self.where, self._closed = where, f"{what} {remedy}"
-        self._opened = Opened(what)
+    def __init__(self, path: str, subject: str, remedy: str) -> None:
+        self.path, self._closed = path, f"{subject} {remedy}"
+        self._opened = Opened(subject)
         self._loop: asyncio.AbstractEventLoop | None = None
-        self._asked: set[concurrent.futures.Future[Any]] = set()
+        self._pending: set[concurrent.futures.Future[Any]] = set()
         self._guard = threading.Lock()
 
     @property
@@ -40,7 +40,7 @@ class Loop:
         """Starts the thread. Raises `RuntimeError` where it runs, and `Closed` where it does in
         the process that this one was forked from.
         """
-        self._opened.begin(self.where)
+        self._opened.begin(self.path)
         self._loop = asyncio.new_event_loop()
         self._thread = threading.Thread(
             target=self._loop.run_forever, name="sagas-loop", daemon=True
@@ -57,7 +57,7 @@ class Loop:
         loop.call_soon_threadsafe(loop.stop)
         self._thread.join()
         loop.close()
-        for future in [*self._asked]:
+        for future in [*self._pending]:
             future.cancel()
         self._opened.end()
 
@@ -71,15 +71,15 @@ class Loop:
             if loop and threading.current_thread() is not self._thread:
                 with current_step.blocking():
                     future = asyncio.run_coroutine_threadsafe(work, loop)
-                self._asked.add(future)
+                self._pending.add(future)
         if loop is None:
             work.close()
-            self._opened.check(self.where)
+            self._opened.check(self.path)
             raise self._is_closed()
         if threading.current_thread() is self._thread:
             work.close()
             raise RuntimeError(
-                f"{self.where}: the call would wait for its own event loop. Make the function "
+                f"{self.path}: the call would wait for its own event loop. Make the function "
                 "a plain def, or use the async API"
             )
         try:
@@ -92,10 +92,10 @@ class Loop:
             future.cancel()
             raise
         finally:
-            self._asked.discard(future)
+            self._pending.discard(future)
 
     def _is_closed(self) -> Closed:
-        return Closed(f"{self.where}: {self._closed}")
+        return Closed(f"{self.path}: {self._closed}")
 
     def in_time(
         self,
@@ -110,10 +110,10 @@ class Loop:
         except TimeoutError:
             if timeout is None:
                 raise
-        found: list[str] = []
+        waited_for: list[str] = []
         with contextlib.suppress(Exception):  # the loop may be held up
-            found = self.do(waits(), SOON)
-        raise pending.still_open(key, timeout, found)
+            waited_for = self.do(waits(), SOON)
+        raise pending.still_open(key, timeout, waited_for)
 
 
 async def _finish(loop: asyncio.AbstractEventLoop) -> None:

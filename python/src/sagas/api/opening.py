@@ -103,26 +103,24 @@ def open(
           undone    charge
           failed    send: sagas.Fail: sold out
     """
-    words = locals()
-    store = Store(**words)
-    store.opened_with = words
+    options = locals()
+    store = Store(**options)
+    store.opened_with = options
     return store
 
 
 def _without_async(make: Callable[P, Store]) -> Callable[P, SyncStore]:
     @functools.wraps(make)
-    def open_sync(*args: P.args, **words: P.kwargs) -> SyncStore:
-        return SyncStore(make(*args, **words))
+    def open_sync(*args: P.args, **kwargs: P.kwargs) -> SyncStore:
+        return SyncStore(make(*args, **kwargs))
 
     signature = inspect.signature(make)
-    told = (make.__doc__ or "").partition("\n")[2].partition("Example:")[0].rstrip()
-    told = told.replace("`async with`", "`with`")
+    details = (make.__doc__ or "").partition("\n")[2].partition("Example:")[0].rstrip()
+    details = details.replace("`async with`", "`with`")
     vars(open_sync)["__signature__"] = signature.replace(return_annotation="SyncStore")
     open_sync.__annotations__ = {**make.__annotations__, "return": "SyncStore"}
     open_sync.__name__ = open_sync.__qualname__ = "open_sync"
-    open_sync.__doc__ = (
-        f'Open a store without async: `with sagas.open_sync("trips.db", [trip]) as store`.\n{told}'
-    )
+    open_sync.__doc__ = f'Open a store without async: `with sagas.open_sync("trips.db", [trip]) as store`.\n{details}'
     return open_sync
 
 

@@ -28,10 +28,10 @@ class Operators(Questions):
         self._reports = UnusedReports(access, self._lookup)
 
     def _stored(self) -> Payloads:
-        return self._access.inside.shelf.payloads
+        return self._access.coordinator.registry.payloads
 
     def _location(self) -> str:
-        self._access.here()
+        self._access.coordinator_here()
         return self._name
 
     async def abort(self, key: str, *, by: str | None = None, note: str | None = None) -> bool:
@@ -54,8 +54,8 @@ class Operators(Questions):
             StoreUnavailable: The database does not answer.
             Closed: The store is closed.
         """
-        self._access.here()
-        return await self._commands.abort(key, self._commands.noted(key, "abort", by, note))
+        self._access.coordinator_here()
+        return await self._commands.abort(key, self._commands.command_row(key, "abort", by, note))
 
     async def complete(
         self,
@@ -102,12 +102,12 @@ class Operators(Questions):
             StoreUnavailable: The database does not answer.
             Closed: The store is closed.
         """
-        self._access.here()
+        self._access.coordinator_here()
         outcome, name = reported(result, None), step if isinstance(step, str) else step.name
-        kept = self._access.inside.shelf.payloads.encode_value(json.loads(outcome.value))
-        words = operator_commands.words_of(name, "undo" if undo else "run", early)
-        asked = self._commands.noted(key, "complete", by, note, **words, result=kept)
-        await self._commands.report(key, name, outcome, undo, asked, early=early)
+        kept = self._access.coordinator.registry.payloads.encode_value(json.loads(outcome.value))
+        step_fields = operator_commands.step_arguments(name, "undo" if undo else "run", early)
+        command = self._commands.command_row(key, "complete", by, note, **step_fields, result=kept)
+        await self._commands.report(key, name, outcome, undo, command, early=early)
 
     async def fail(
         self,
@@ -130,11 +130,11 @@ class Operators(Questions):
         Raises:
             TypeError: `error` is not a text.
         """
-        self._access.here()
+        self._access.coordinator_here()
         outcome, name = reported(None, error), step if isinstance(step, str) else step.name
-        words = operator_commands.words_of(name, "undo" if undo else "run", early)
-        asked = self._commands.noted(key, "fail", by, note, **words, error=error)
-        await self._commands.report(key, name, outcome, undo, asked, early=early)
+        step_fields = operator_commands.step_arguments(name, "undo" if undo else "run", early)
+        command = self._commands.command_row(key, "fail", by, note, **step_fields, error=error)
+        await self._commands.report(key, name, outcome, undo, command, early=early)
 
     async def compensate(
         self, key: str, step: Step[Any] | str, *, by: str | None = None, note: str | None = None
@@ -161,11 +161,11 @@ class Operators(Questions):
             StoreUnavailable: The database does not answer.
             Closed: The store is closed.
         """
-        self._access.here()
+        self._access.coordinator_here()
         name = step if isinstance(step, str) else step.name
-        told = serialization.write({"by": by, "note": note, "step": name})
-        asked = key, "compensate", told, self._access.inside.clock()
-        await self._reports.compensate(key, name, asked)
+        value = serialization.write({"by": by, "note": note, "step": name})
+        command = key, "compensate", value, self._access.coordinator.clock()
+        await self._reports.compensate(key, name, command)
 
     async def resolve(self, key: str, note: str, *, by: str | None = None) -> None:
         """Mark a saga as seen to: stuck, with a failed compensation or unused report.

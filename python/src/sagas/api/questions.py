@@ -31,12 +31,12 @@ class Questions(Schedules):
         self._access = access
 
     async def _answer(self, question: Question[T]) -> T:
-        store = self._access.here().store
+        store = self._access.coordinator_here().store
         return await AsyncStoreReader(store.read, store.read_long).ask(question)
 
     async def _row(self, key: str) -> SagaRow:
         """The saga with this key. Raises `NoSuchSaga`, also of a start that no node has begun."""
-        row = await self._access.here().store.find(key)
+        row = await self._access.coordinator_here().store.find(key)
         if row is None or row.id < 0:
             raise NoSuchSaga(f"no saga has the key {key!r}")
         return row
@@ -53,7 +53,7 @@ class Questions(Schedules):
             Closed: The store is closed.
         """
         arguments.count("limit", limit)
-        kind_of = self._access.here().shelf.kind
+        kind_of = self._access.coordinator_here().registry.kind
         return await self._answer(lists.stuck_results(kind_of, limit))
 
     async def unknown(self, *, limit: int = 1000) -> builtins.list[UnknownAttempt]:
@@ -81,8 +81,8 @@ class Questions(Schedules):
         Raises:
             Closed: The store is closed.
         """
-        inside = self._access.inside
-        return active_attempts(inside.sagas.by_key.get(key), inside.clock())
+        coordinator = self._access.coordinator
+        return active_attempts(coordinator.sagas.by_key.get(key), coordinator.clock())
 
     async def log(self, key: str) -> builtins.list[HistoryEvent]:
         """Return a saga's events so far, in order.
@@ -95,7 +95,7 @@ class Questions(Schedules):
             StoreUnavailable: The database does not answer.
             Closed: The store is closed.
         """
-        read = self._access.inside.shelf.payloads.read
+        read = self._access.coordinator.registry.payloads.read
         return await self._answer(one_saga.log(await self._row(key), read))
 
     async def plan(self, key: str) -> Plan | None:
@@ -128,8 +128,8 @@ class Questions(Schedules):
             Closed: The store is closed.
         """
         row = await self._row(key)
-        if (found := await self._answer(one_saga.plan(row))) is not None:
-            return await asyncio.to_thread(found.draw, unfold=unfold)
+        if (last_plan := await self._answer(one_saga.plan(row))) is not None:
+            return await asyncio.to_thread(last_plan.draw, unfold=unfold)
         text = await self._answer(one_saga.definition(row.id))
         return folded_drawing.fold(await asyncio.to_thread(program.draw, text), text, {*unfold})
 
@@ -144,23 +144,23 @@ class Questions(Schedules):
             StoreUnavailable: The database does not answer.
             Closed: The store is closed.
         """
-        return await self._access.here().shards.auditor.all_shards()
+        return await self._access.coordinator_here().shards.auditor.all_shards()
 
     def holds(self) -> bool:
         """Return whether this node still has its lease, as far as it knows."""
-        return self._access.inside.store.holds()
+        return self._access.coordinator.store.holds()
 
     @property
     def commits(self) -> int:
         """How many transactions this program has written."""
-        return self._access.inside.store.commits
+        return self._access.coordinator.store.commits
 
     def _now(self) -> float:
         return self.now()
 
     def now(self) -> float:
         """Return the store's wall time, in seconds since 1970."""
-        return self._access.inside.clock()
+        return self._access.coordinator.clock()
 
     def reader(self) -> Reader:
         """Open another connection, for a thread that only reads.
@@ -169,4 +169,4 @@ class Questions(Schedules):
             StoreUnavailable: The database does not answer.
             Closed: The store is closed.
         """
-        return self._access.inside.store.reader()
+        return self._access.coordinator.store.reader()

@@ -30,11 +30,14 @@ async def check_again(
     step, kind = action
     if step not in names:
         raise step_reports.over(row)
-    place = names.index(step)
-    first, why = step_reports.first_of(await read(step_reports.RESULTS, row.id), place, kind), None
+    step_index = names.index(step)
+    first, why = (
+        step_reports.first_of(await read(step_reports.RESULTS, row.id), step_index, kind),
+        None,
+    )
     if first is None:
         why = step_reports.UNUSED
-        first = step_reports.early_of(await read(step_reports.EARLY, row.id, place, kind))
+        first = step_reports.early_of(await read(step_reports.EARLY, row.id, step_index, kind))
     if first is None:
         raise step_reports.over(row)
     step_reports.check(row.key, step, first, outcome, why, payloads)

@@ -6,7 +6,7 @@ import builtins
 from collections.abc import Awaitable, Iterable
 from typing import Any
 
-from sagas.api.batches import name_of
+from sagas.api.batches import definition_name
 from sagas.api.operators import Operators
 from sagas.base.errors import ConflictingReport, InvalidResult, NoSuchSaga, StepNotWaiting
 from sagas.core.outcomes import Outcome, reported
@@ -51,10 +51,10 @@ class RetryCalls(Operators):
             StoreUnavailable: The database does not answer.
             Closed: The store is closed.
         """
-        self._access.here()
+        self._access.coordinator_here()
         name, kind = step if isinstance(step, str) else step.name, "undo" if undo else "run"
-        asked = self._commands.noted(key, "retry", by, note, step=name, kind=kind)
-        await self._commands.retry(key, name, undo, asked)
+        command = self._commands.command_row(key, "retry", by, note, step=name, kind=kind)
+        await self._commands.retry(key, name, undo, command)
 
     async def retry_all(
         self,
@@ -113,9 +113,9 @@ class RetryCalls(Operators):
             InvalidResult: A step starts a child, and this is not the result of one. The others are
                 reported.
         """
-        words = {"by": by, "note": note, "result": result}
+        details = {"by": by, "note": note, "result": result}
         return await self._each(
-            self._exhausted(saga, step, labels, limit), reported(result, None), words
+            self._exhausted(saga, step, labels, limit), reported(result, None), details
         )
 
     async def fail_all(
@@ -139,48 +139,53 @@ class RetryCalls(Operators):
         Raises:
             TypeError: `error` is not a text.
         """
-        words = {"by": by, "note": note, "error": error}
+        details = {"by": by, "note": note, "error": error}
         return await self._each(
-            self._exhausted(saga, step, labels, limit), reported(None, error), words
+            self._exhausted(saga, step, labels, limit), reported(None, error), details
         )
 
     async def _each(
-        self, waits: Awaitable[builtins.list[Waits]], outcome: Outcome | None, words: dict[str, Any]
+        self,
+        waits: Awaitable[builtins.list[Waits]],
+        outcome: Outcome | None,
+        details: dict[str, Any],
     ) -> int:
         """Answer those that wait; by a retry where there is no outcome."""
-        what = "retry" if outcome is None else "fail" if "error" in words else "complete"
-        by, note, count = words.pop("by"), words.pop("note"), 0
-        wrong: InvalidResult | None = None
-        for one in await waits:
-            kind = "undo" if one.undo else "run"
-            asked = self._commands.noted(one.key, what, by, note, step=one.step, kind=kind, **words)
-            about = one.key, one.step
+        command = "retry" if outcome is None else "fail" if "error" in details else "complete"
+        by, note, count = details.pop("by"), details.pop("note"), 0
+        invalid: InvalidResult | None = None
+        for wait in await waits:
+            kind = "undo" if wait.undo else "run"
+            request = self._commands.command_row(
+                wait.key, command, by, note, step=wait.step, kind=kind, **details
+            )
+            about = wait.key, wait.step
             try:
                 if outcome is None:
-                    await self._commands.retry(*about, one.undo, asked, one.id)
+                    await self._commands.retry(*about, wait.undo, request, wait.id)
                 else:
                     await self._commands.report(
-                        *about, outcome, one.undo, asked, one.id, early=False
+                        *about, outcome, wait.undo, request, wait.id, early=False
                     )
                 count += 1
             except (StepNotWaiting, ConflictingReport, NoSuchSaga):  # somebody else was faster
                 continue
             except InvalidResult as error:
-                wrong = wrong or error
-        if wrong is not None:
-            raise wrong
+                invalid = invalid or error
+        if invalid is not None:
+            raise invalid
         return count
 
     def _sagas(self) -> Iterable[Saga]:
-        return self._access.inside.shelf.sagas.values()
+        return self._access.coordinator.registry.sagas.values()
 
     async def _exhausted(
         self, saga: Saga | str | None, step: str | None, labels: Labels | None, limit: int
     ) -> builtins.list[Waits]:
         arguments.count("limit", limit)
-        within = Filter(saga=name_of(saga), labels=selecting(labels))
+        within = Filter(saga=definition_name(saga), labels=selecting(labels))
         waits = lists.waits(limit, why=Suspension.EXHAUSTED.value, within=within, step=step)
-        if not (found := await self._answer(waits)):
+        if not (waiting := await self._answer(waits)):
             names = [name for saga in self._sagas() for name, _ in saga.declared_steps]
             await self._unmatched(within, step, names)
-        return found
+        return waiting

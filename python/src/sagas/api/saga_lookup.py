@@ -32,17 +32,17 @@ class SagaLookup:
         """The saga with this key, as far as it is driven here and the key is known to be its
         own.
         """
-        while (live := self._access.inside.sagas.by_key.get(key)) and live.is_doubtful:
+        while (live := self._access.coordinator.sagas.by_key.get(key)) and live.is_doubtful:
             with contextlib.suppress(SagasError):  # its start hears of it
-                await self._access.inside.sagas.started(live)
+                await self._access.coordinator.sagas.started(live)
         return live
 
     async def find(self, key: str) -> SagaRow | None:
         """Looks whether a key that is to be started is there, where that takes a while."""
-        inside = self._access.inside
-        finding = self.finding.setdefault(key, inside.loop.create_future())
+        coordinator = self._access.coordinator
+        finding = self.finding.setdefault(key, coordinator.loop.create_future())
         try:
-            row = await inside.store.find(key)
+            row = await coordinator.store.find(key)
             if row is not None:
                 self.guessing.told(was_there=True)
             return row
@@ -53,7 +53,7 @@ class SagaLookup:
 
     async def row(self, key: str, of: int | None = None) -> SagaRow:
         """The row of a saga; `of`: its id, where no later one of its key is meant."""
-        row = await self._access.inside.store.find(key)
+        row = await self._access.coordinator.store.find(key)
         if row is None or (of is not None and row.id != of):
             which = "" if row is None else " that this was asked of"
             raise NoSuchSaga(f"no saga has the key {key!r}{which}")
@@ -64,20 +64,20 @@ class SagaLookup:
         if timeout is not None:
             work = self.until_ended(key)
             return timeouts.in_time(key, work, timeout, lambda: self.waits_for(key))
-        inside = self._access.here()
-        if caller := current_step.waiter(inside.executor.calls.running):
-            return inside.waits.during(caller, key, self.until_ended(key))
+        coordinator = self._access.coordinator_here()
+        if caller := current_step.waiter(coordinator.executor.calls.running):
+            return coordinator.waits.guard(caller, key, self.until_ended(key))
         return self.until_ended(key)
 
     async def until_ended(self, key: str) -> SagaResult:
         """As `wait`, for callers that limit the time themselves."""
-        inside = self._access.here()
-        live = inside.sagas.by_key.get(key)
+        coordinator = self._access.coordinator_here()
+        live = coordinator.sagas.by_key.get(key)
         if live is not None and live.is_doubtful:
             live = await self.live(key)
         if live is not None:  # as most are: it is driven here
             try:
-                await inside.sagas.ends.wait(live)
+                await coordinator.sagas.ends.wait(live)
                 if live.is_whole:
                     return history.end_of_live(live)
             except Moved:
@@ -88,9 +88,9 @@ class SagaLookup:
         return await retries.until_answered(functools.partial(self._end_of, over))
 
     async def _end_of(self, row: SagaRow) -> SagaResult:
-        inside = self._access.inside
-        known = await inside.store.known(row)
-        kind = inside.shelf.kind(known.definition)
+        coordinator = self._access.coordinator
+        known = await coordinator.store.known(row)
+        kind = coordinator.registry.kind(known.definition)
         return history.end_of(kind, row, known.results, known.shape)
 
     async def whole(self, key: str) -> SagaInstance | SagaRow:
@@ -105,32 +105,32 @@ class SagaLookup:
 
     async def over(self, key: str) -> SagaInstance | SagaRow:
         """Waits until a saga is over: one that was driven here, or its row."""
-        turn, inside = 0, self._access.here()
+        turn, coordinator = 0, self._access.coordinator_here()
         while True:
             live = await self.live(key)
             if live is None:
                 row = await retries.until_answered(lambda: self.row(key))
                 if row.phase is not None:
-                    if record := inside.store.record:
+                    if record := coordinator.store.record:
                         record.seen(row.id, "wake")
                     return row
                 pending.check_refused(row)
-                if key not in self._access.inside.sagas.by_key:
-                    await inside.store.news(row.id, turn)
+                if key not in self._access.coordinator.sagas.by_key:
+                    await coordinator.store.news(row.id, turn)
                     turn += 1
             else:
                 try:
-                    await inside.sagas.ends.wait(live)
+                    await coordinator.sagas.ends.wait(live)
                     return live
                 except Moved:
                     pass
-            inside = self._access.inside
+            coordinator = self._access.coordinator
 
     async def waits_for(self, key: str) -> builtins.list[str]:
         """What a saga waits for that is driven here, or that no node has begun yet, in words; of
         others nothing.
         """
-        live = self._access.inside.sagas.by_key.get(key)
-        if live is None and (row := await self._access.inside.store.find(key)) and row.id < 0:
+        live = self._access.coordinator.sagas.by_key.get(key)
+        if live is None and (row := await self._access.coordinator.store.find(key)) and row.id < 0:
             return [pending.NOT_BEGUN]
         return pending.of_live(live)

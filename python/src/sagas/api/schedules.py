@@ -9,7 +9,7 @@ import json
 import time
 from typing import Any, TypeVar
 
-from sagas.api.batches import Batches, beside
+from sagas.api.batches import Batches, over_own_connection
 from sagas.base.logger import logger
 from sagas.definition import serialization, timing, validation
 from sagas.definition.labels import Labels, checked
@@ -85,12 +85,14 @@ class Schedules(Batches):
         """
         timing.check_name(name)
         validation.check_given(saga)
-        when = timing.timing(cron, every, timezone, catch_up, max, overlap)
-        having = json.dumps(dict(checked(labels)))
+        times = timing.timing(cron, every, timezone, catch_up, max, overlap)
+        labels_text = json.dumps(dict(checked(labels)))
         location, text = self._location(), serialization.write_value(input, "input")
         await self._check_input(saga, text)
-        words = (saga.name, saga.version), text, having, when, self._now(), self._stored()
-        await beside(location, lambda link: schedules_module.Schedules(link).put(name, *words))
+        declared = (saga.name, saga.version), text, labels_text, times, self._now(), self._stored()
+        await over_own_connection(
+            location, lambda link: schedules_module.Schedules(link).put(name, *declared)
+        )
 
     async def schedules(self) -> builtins.list[Schedule]:
         """Return the schedules, by name.
@@ -99,8 +101,8 @@ class Schedules(Batches):
             StoreUnavailable: The database does not answer.
             Closed: The store is closed.
         """
-        found, decode = await self._answer(lists.schedules()), self._stored().decode_value
-        return [dataclasses.replace(one, input=decode(one.input)) for one in found]
+        stored, decode = await self._answer(lists.schedules()), self._stored().decode_value
+        return [dataclasses.replace(schedule, input=decode(schedule.input)) for schedule in stored]
 
     async def pause_schedule(self, name: str) -> None:
         """Start no more sagas of a schedule, until it is resumed.
@@ -118,11 +120,11 @@ class Schedules(Batches):
             Closed: The store is closed.
         """
         now = self._now()
-        said = await beside(
+        message = await over_own_connection(
             self._location(), lambda link: schedules_module.Schedules(link).pause(name, now)
         )
-        if said is not None:
-            logger.warning("schedule %r: %s", name, said)
+        if message is not None:
+            logger.warning("schedule %r: %s", name, message)
 
     async def resume_schedule(self, name: str) -> None:
         """Start sagas of a paused schedule again. See `Store.pause_schedule`.
@@ -130,10 +132,12 @@ class Schedules(Batches):
         It goes on with the next time: those of its pause are not started.
         """
         now = self._now()
-        await beside(
+        await over_own_connection(
             self._location(), lambda link: schedules_module.Schedules(link).resume(name, now)
         )
 
     async def remove_schedule(self, name: str) -> None:
         """Delete a schedule. Its sagas stay. See `Store.pause_schedule`."""
-        await beside(self._location(), lambda link: schedules_module.Schedules(link).remove(name))
+        await over_own_connection(
+            self._location(), lambda link: schedules_module.Schedules(link).remove(name)
+        )

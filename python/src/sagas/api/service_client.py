@@ -43,7 +43,7 @@ from sagas.definition.start_options import Deadline, deadline_at
 from sagas.definition.step import Step
 
 ANSWER = 20.0  # seconds that one request may take
-MOST_WAIT = 30.0  # seconds that the service keeps one request
+MAX_WAIT = 30.0  # seconds that the service keeps one request
 BEYOND = 15.0  # seconds that an answer may take beyond that
 LATE = 10.0  # seconds for which a request is repeated at least
 
@@ -140,12 +140,12 @@ class ServiceClient:
         if isinstance(saga, Saga) and version is None:
             version = saga.version
         body: dict[str, Any] = {"definition": _name("saga", saga), "key": key, "input": input}
-        words = {
+        options = {
             "labels": dict(checked(labels)) or None,
             "deadline": _seconds_to(deadline),
             "version": version,
         }
-        body |= {word: value for word, value in words.items() if value is not None}
+        body |= {name: value for name, value in options.items() if value is not None}
         headers = tracing.headers(self._tracer, traceparent)
         return ServiceRun(self, self._ask("/v1/sagas", body, headers=headers))
 
@@ -183,21 +183,21 @@ class ServiceClient:
             ServiceRefused: The service refuses the token.
             ServiceUnavailable: No service answered in time.
         """
-        most = float("inf") if timeout is None else arguments.time("timeout", timeout)
-        until = time.monotonic() + most
+        limit = float("inf") if timeout is None else arguments.time("timeout", timeout)
+        until = time.monotonic() + limit
         while True:
             left = max(0.0, until - time.monotonic())
-            seconds = min(MOST_WAIT, left)
-            told = self._ask(
+            seconds = min(MAX_WAIT, left)
+            reply = self._ask(
                 f"{_path(key, 'wait')}?seconds={seconds:.3f}",
                 None,
                 seconds + BEYOND,
                 max(LATE, min(left, self.timeout)) + seconds,
             )
-            if told["over"]:
-                return saga_of(self._values.saga(told))
+            if reply["over"]:
+                return saga_of(self._values.saga(reply))
             if time.monotonic() >= until:
-                raise still_open(key, most, waits_of(told))
+                raise still_open(key, limit, waits_of(reply))
 
     def abort(self, key: str, *, note: str | None = None) -> bool:
         """Abort a saga: no further step starts, and what costs least is undone.
@@ -215,7 +215,7 @@ class ServiceClient:
             ServiceRefused: The service refuses the token.
             ServiceUnavailable: No service answered in time. Repeat the call.
         """
-        done: bool = self._ask(_path(key, "abort"), _given(note=note))["aborted"]
+        done: bool = self._ask(_path(key, "abort"), _without_none(note=note))["aborted"]
         return done
 
     def complete(
@@ -286,8 +286,8 @@ class ServiceClient:
         early: bool,
         note: str | None,
     ) -> None:
-        words = _given(note=note) | {"undo": undo, "early": early}
-        self._ask(_path(key, "steps", _name("step", step), verb), body | words)
+        options = _without_none(note=note) | {"undo": undo, "early": early}
+        self._ask(_path(key, "steps", _name("step", step), verb), body | options)
 
     # -- questions
 
@@ -324,7 +324,7 @@ class ServiceClient:
             ServiceRefused: The service refuses the token, or the filter.
             ServiceUnavailable: No service answered in time.
         """
-        query = _given(
+        query = _without_none(
             limit=arguments.count("page_size", page_size),
             phase=phase,
             search=search,
@@ -338,11 +338,11 @@ class ServiceClient:
 
     def _pages(self, query: dict[str, Any]) -> Iterator[ServiceSummary]:
         while True:
-            told = self._ask(f"/v1/sagas?{urllib.parse.urlencode(query, doseq=True)}")
-            yield from map(summary_of, told["sagas"])
-            if told["next"] is None:
+            reply = self._ask(f"/v1/sagas?{urllib.parse.urlencode(query, doseq=True)}")
+            yield from map(summary_of, reply["sagas"])
+            if reply["next"] is None:
                 return
-            query["after"] = told["next"]
+            query["after"] = reply["next"]
 
     def events(
         self,
@@ -366,7 +366,7 @@ class ServiceClient:
         """
         if key is not None:
             arguments.key(key, or_child=True)
-        query = _given(key=key, definition=None if saga is None else _name("saga", saga))
+        query = _without_none(key=key, definition=None if saga is None else _name("saga", saga))
         path = f"/v1/events?{urllib.parse.urlencode(query)}"
         stream = ServiceEvents(self._service, path, last_event_id, self.timeout)
         self._streams.add(stream)
@@ -422,22 +422,24 @@ def _path(key: str, *rest: str) -> str:
     return "/".join(["/v1/sagas", *(urllib.parse.quote(part, safe="") for part in (key, *rest))])
 
 
-def _name(word: str, value: Saga | Step[Any] | str) -> str:
+def _name(parameter: str, value: Saga | Step[Any] | str) -> str:
     name = value.name if isinstance(value, (Saga, Step)) else value
-    arguments.text(word, name, f"the name of a {word}")
+    arguments.text(parameter, name, f"the name of a {parameter}")
     return name
 
 
-def _given(**words: Any) -> dict[str, Any]:
-    return {word: value for word, value in words.items() if value is not None}
+def _without_none(**options: Any) -> dict[str, Any]:
+    return {name: value for name, value in options.items() if value is not None}
 
 
-def _moment(word: str, value: datetime.datetime | float | None) -> float | None:
+def _moment(parameter: str, value: datetime.datetime | float | None) -> float | None:
     if isinstance(value, datetime.datetime):
         if value.tzinfo is None:
-            raise TypeError(f"{word}={value!r}: must have a time zone, for example datetime.UTC")
+            raise TypeError(
+                f"{parameter}={value!r}: must have a time zone, for example datetime.UTC"
+            )
         return value.timestamp()
-    return None if value is None else arguments.time(word, value)
+    return None if value is None else arguments.time(parameter, value)
 
 
 def _seconds_to(deadline: Deadline | None) -> float | None:

@@ -27,7 +27,7 @@ logger = logging.getLogger("sagas.worker")
 NO_HEADERS: Mapping[str, str] = {}
 REPEAT = 408, 429, 500, 502, 503, 504
 """Statuses of requests that are repeated."""
-FIRST_PAUSE, MOST_PAUSE = 0.1, 5.0  # seconds between tries to reach the service
+FIRST_PAUSE, MAX_PAUSE = 0.1, 5.0  # seconds between tries to reach the service
 
 
 class ServiceRefused(SagasError):
@@ -71,7 +71,9 @@ class ServiceConnection:
     def __init__(
         self, url: str | Sequence[str], token: str | None, patience: float, stop: threading.Event
     ) -> None:
-        self._urls = deque(address_of(one) for one in ([url] if isinstance(url, str) else url))
+        self._urls = deque(
+            address_of(address) for address in ([url] if isinstance(url, str) else url)
+        )
         if not self._urls:
             raise ValueError("no service is given. Write, for example, http://127.0.0.1:8080")
         if token and not (token.isascii() and token.isprintable()):
@@ -81,7 +83,7 @@ class ServiceConnection:
         self._lock = threading.Lock()
         self._idle: list[tuple[tuple[str, int], http.client.HTTPConnection]] = []
         self._all: weakref.WeakSet[http.client.HTTPConnection] = weakref.WeakSet()
-        self._lacks = self.heard = self._ended = False
+        self._is_unreachable = self.has_answered = self._ended = False
         self._unknown_steps: set[str] = set()  # those of which was told that nobody has them
 
     @property
@@ -97,7 +99,7 @@ class ServiceConnection:
             if self._urls[0] == url:
                 self._urls.rotate(-1)
 
-    def until_told(
+    def ask_until_answered(
         self, path: str, body: dict[str, Any], seconds: float | None = None, giving_up: bool = False
     ) -> dict[str, Any] | None:
         """Asks until the service answers: it may be about to start again. One try takes at most so
@@ -108,11 +110,11 @@ class ServiceConnection:
         while True:
             url = self.url
             try:
-                found = self.ask(url, path, body, within)
-                self._lacks, self.heard = False, True
-                for step in (found.get("next") or found).get("unknown_steps", ()):
-                    self._say_unknown(url, step)
-                return found
+                reply = self.ask(url, path, body, within)
+                self._is_unreachable, self.has_answered = False, True
+                for step in (reply.get("next") or reply).get("unknown_steps", ()):
+                    self._warn_unknown(url, step)
+                return reply
             except ServiceRefused as refusal:
                 if refusal.status not in REPEAT:
                     raise
@@ -124,14 +126,14 @@ class ServiceConnection:
             self.turn_from(url)
             if giving_up and self._stop.is_set():
                 return None
-            if not self._lacks:
+            if not self._is_unreachable:
                 logger.warning("%s does not answer: %s. Retrying", url, text)
-            self._lacks = True
+            self._is_unreachable = True
             logger.info("%s: %s", path, text)
             time.sleep(pause * random.uniform(0.5, 1.0))
-            pause = min(MOST_PAUSE, 2 * pause)
+            pause = min(MAX_PAUSE, 2 * pause)
 
-    def try_to_tell(self, path: str, body: dict[str, Any], seconds: float) -> bool:
+    def try_once(self, path: str, body: dict[str, Any], seconds: float) -> bool:
         """Asks once, whatever comes of it. Whether it is of use to ask again: a service may refuse
         it.
         """
@@ -171,7 +173,7 @@ class ServiceConnection:
                     "been carried out. Repeat it"
                 ) from error
             stop.wait(rest)
-            pause = min(MOST_PAUSE, 2 * pause)
+            pause = min(MAX_PAUSE, 2 * pause)
         raise Closed("the client is closed. Make another one")
 
     def ask(
@@ -190,15 +192,15 @@ class ServiceConnection:
         link, path = self._link(url, seconds), urllib.parse.urlsplit(url).path + path
         was_open = link.sock is not None
         kind = {} if data is None else {"Content-Type": "application/json"}
-        told = {**self._headers, **kind, **headers}
+        all_headers = {**self._headers, **kind, **headers}
         try:
             try:
-                status, text = self._answer(link, path, data, told)
+                status, text = self._answer(link, path, data, all_headers)
             except ConnectionError:
                 if not was_open:
                     raise
                 link.close()
-                status, text = self._answer(link, path, data, told)
+                status, text = self._answer(link, path, data, all_headers)
         except Exception as error:
             link.close()
             if isinstance(error, (OSError, ValueError)):
@@ -210,8 +212,8 @@ class ServiceConnection:
             self._idle.append(((url, os.getpid()), link))
         if status >= 300:
             raise refusal_of(status, text)
-        found: dict[str, Any] = json.loads(text)
-        return found
+        reply: dict[str, Any] = json.loads(text)
+        return reply
 
     def opened(self, url: str, path: str, headers: dict[str, str], seconds: float) -> OpenAnswer:
         """An answer that is read later, over a connection of its own. Raises as `ask`."""
@@ -249,7 +251,7 @@ class ServiceConnection:
         for _, link in idle:
             link.close()
 
-    def _say_unknown(self, url: str, step: str) -> None:
+    def _warn_unknown(self, url: str, step: str) -> None:
         """No task of such a step will ever come: said once of each."""
         with self._lock:
             new = step not in self._unknown_steps
@@ -267,8 +269,8 @@ class ServiceConnection:
         mine = url, os.getpid()  # behind a fork, those of the parent are not used
         with self._lock:
             while self._idle:
-                of, link = self._idle.pop()
-                if of == mine:
+                owner, link = self._idle.pop()
+                if owner == mine:
                     break
                 link.close()
             else:
@@ -330,10 +332,10 @@ def refusal_of(status: int, text: bytes) -> ServiceRefused:
     """What is raised of an answer: problem details, or what a proxy says."""
     shown = text[:10_000].decode(errors="replace")
     try:
-        told = json.loads(text)
-        name = str(told["type"]).rpartition(":")[2]
-        text_of = f"{status} {name}: {told['detail']}"
-        return ServiceRefused(status, text_of, name, told.get("field"))
+        problem = json.loads(text)
+        name = str(problem["type"]).rpartition(":")[2]
+        text_of = f"{status} {name}: {problem['detail']}"
+        return ServiceRefused(status, text_of, name, problem.get("field"))
     except (ValueError, KeyError, TypeError):
         return ServiceRefused(status, f"{status}: {shown}")
 

@@ -83,13 +83,13 @@ class ServiceEvents:
                 self.open()
             except Closed:
                 break
-            found, self._first = self._first or self._read(), None
-            if found is None:
+            fields, self._first = self._first or self._read(), None
+            if fields is None:
                 self._drop()
                 self._closed.wait(FIRST_PAUSE)
-            elif "event" in found and "data" in found:
-                told = json.loads(found["data"])
-                return event_of(found["event"], self._last or "", told, time.time())
+            elif "event" in fields and "data" in fields:
+                data = json.loads(fields["data"])
+                return event_of(fields["event"], self._last or "", data, time.time())
         self._drop()
         raise StopIteration
 
@@ -112,16 +112,16 @@ class ServiceEvents:
     def _read(self) -> dict[str, str] | None:
         """The fields up to the next empty line; None: the stream has ended, or broke."""
         assert self._answer
-        found: dict[str, str] = {}
+        fields: dict[str, str] = {}
         try:
             while line := self._answer.response.readline():
                 text = line.rstrip(b"\r\n").decode(errors="replace")
                 if not text:
-                    self._last = found.get("id", self._last)
-                    return found
+                    self._last = fields.get("id", self._last)
+                    return fields
                 name, _, value = text.partition(":")
                 value = value.removeprefix(" ")
-                found[name] = f"{found[name]}\n{value}" if name in found else value
+                fields[name] = f"{fields[name]}\n{value}" if name in fields else value
         except (OSError, ValueError, http.client.HTTPException):
             pass  # it is opened anew, unless it was closed
         return None

@@ -23,12 +23,12 @@ class ServiceValues:
         check_blobs(blobs, LEAST)
         self._payloads, self._blobs = checked(codec, blobs is not None), blobs
 
-    def saga(self, told: Mapping[str, Any]) -> Mapping[str, Any]:
+    def saga(self, reply: Mapping[str, Any]) -> Mapping[str, Any]:
         """Return what a service says of a saga, with its values. Raises `CannotDecode`."""
         if not self._payloads.reads:
-            return told
-        results = {step: self.read(value) for step, value in told["results"].items()}
-        return {**told, "input": self.read(told["input"]), "results": results}
+            return reply
+        results = {step: self.read(value) for step, value in reply["results"].items()}
+        return {**reply, "input": self.read(reply["input"]), "results": results}
 
     def read(self, value: Any) -> Any:
         """Return a value. Raises `CannotDecode`."""
@@ -37,12 +37,12 @@ class ServiceValues:
             return value
         text = json.dumps(value, separators=(",", ":"))
         if self._blobs is not None and (reference := Reference.of(text)):
-            text = self._got(reference.key)
+            text = self._fetched(reference.key)
         if self._payloads.codec is None and text.startswith('{"$codec":'):
             return json.loads(text)
         return json.loads(self._payloads.decode(text))
 
-    def _got(self, key: str) -> str:
+    def _fetched(self, key: str) -> str:
         assert self._blobs
         try:
             if inspect.iscoroutinefunction(self._blobs.get):
@@ -59,18 +59,18 @@ class ServiceValues:
 
 def _awaited(function: Any, key: str) -> Any:
     """Call a coroutine function in a loop of its own: the caller's thread may have one."""
-    found: list[Any] = []
+    result: list[Any] = []
 
     def work() -> None:
         try:
-            found.extend((asyncio.run(function(key)), None))
+            result.extend((asyncio.run(function(key)), None))
         except Exception as error:
-            found.extend((None, error))
+            result.extend((None, error))
 
     thread = threading.Thread(target=work, name="sagas-blobs")
     thread.start()
     thread.join()
-    value, error = found
+    value, error = result
     if error is not None:
         raise error
     return value

@@ -144,28 +144,28 @@ class ServiceEvent(Event):
     id: str = ""
 
 
-def saga_of(told: Mapping[str, Any]) -> ServiceSaga:
+def saga_of(reply: Mapping[str, Any]) -> ServiceSaga:
     """A saga, of what the service says of it."""
-    return ServiceSaga(**_fields(ServiceSaga, told), saga=told["definition"])
+    return ServiceSaga(**_fields(ServiceSaga, reply), saga=reply["definition"])
 
 
-def summary_of(told: Mapping[str, Any]) -> ServiceSummary:
+def summary_of(reply: Mapping[str, Any]) -> ServiceSummary:
     """An entry of a list, of what the service says of it."""
-    return ServiceSummary(**_fields(ServiceSummary, told), saga=told["definition"])
+    return ServiceSummary(**_fields(ServiceSummary, reply), saga=reply["definition"])
 
 
-def event_of(name: str, id: str, told: Mapping[str, Any], now: float) -> ServiceEvent:
+def event_of(name: str, id: str, reply: Mapping[str, Any], now: float) -> ServiceEvent:
     """An event; one without a time has that at which it is heard."""
-    words: dict[str, Any] = {"at": now, **_fields(ServiceEvent, told), "name": name, "id": id}
-    return ServiceEvent(**words)
+    fields: dict[str, Any] = {"at": now, **_fields(ServiceEvent, reply), "name": name, "id": id}
+    return ServiceEvent(**fields)
 
 
-def waits_of(told: Mapping[str, Any]) -> list[str]:
+def waits_of(reply: Mapping[str, Any]) -> list[str]:
     """What a saga that is not over waits for, in words."""
     return [
-        f"{'the compensation of ' if one['undo'] else ''}{one['step']} waits for "
-        f"{WAITS_FOR.get(one['why'], one['why'])}"
-        for one in told["waits"]
+        f"{'the compensation of ' if wait['undo'] else ''}{wait['step']} waits for "
+        f"{WAITS_FOR.get(wait['why'], wait['why'])}"
+        for wait in reply["waits"]
     ]
 
 
@@ -175,7 +175,7 @@ def error_of(name: str, text: str) -> SagasError | None:
     return kind(text.partition(": ")[2] or text) if kind else None
 
 
-def _fields(kind: type[Any], told: Mapping[str, Any]) -> dict[str, Any]:
+def _fields(kind: type[Any], reply: Mapping[str, Any]) -> dict[str, Any]:
     """What this release knows of an answer: a later service may say more."""
     names = {field.name for field in dataclasses.fields(kind)}
-    return {name: value for name, value in told.items() if name in names}
+    return {name: value for name, value in reply.items() if name in names}

@@ -11,8 +11,8 @@ from collections.abc import Callable, Iterable, Mapping
 from types import TracebackType
 from typing import TYPE_CHECKING, Any
 
-from sagas.api.batches import beside
-from sagas.api.children import ChildCarrier
+from sagas.api.batches import over_own_connection
+from sagas.api.children import ChildOperations
 from sagas.api.deliveries import Deliveries
 from sagas.api.retry_calls import RetryCalls
 from sagas.api.run import Run
@@ -89,8 +89,8 @@ class Store(RetryCalls):
             "engine_processes": engine_processes,
             "threads": threads,
         }
-        for word, number in counts.items():
-            arguments.count(word, number)
+        for name, number in counts.items():
+            arguments.count(name, number)
         arguments.calls("clock", clock, "that returns seconds since 1970, like time.time")
         if on_event is not None:
             arguments.calls("on_event", on_event, "that takes an Event")
@@ -102,10 +102,10 @@ class Store(RetryCalls):
         check_blobs(blobs, blob_threshold)
         self._blobs = blobs, blob_threshold
         self._record = arguments.record(record)
-        self._shelf = Shelf(sagas, payloads.checked(codec, blobs is not None))
-        self._words = {**counts, "idle": arguments.time("idle", idle), "clock": clock}
+        self._registry = Shelf(sagas, payloads.checked(codec, blobs is not None))
+        self._options = {**counts, "idle": arguments.time("idle", idle), "clock": clock}
         self._tracer = tracing.tracer()
-        self._words |= {"context": context, "tracer": self._tracer}
+        self._options |= {"context": context, "tracer": self._tracer}
         self._shutdown_timeout = (
             None
             if shutdown_timeout is None
@@ -115,11 +115,11 @@ class Store(RetryCalls):
         super().__init__(
             StoreAccess("PostgreSQL" if factory.is_url(self._name) else self._name), self._name
         )
-        self._starter = Starter(self._access, self._lookup, self._shelf, accept_new)
+        self._starter = Starter(self._access, self._lookup, self._registry, accept_new)
         self._reports.starter = self._starter
-        self._requests: operator_commands.Requests | None = None
+        self._requests: operator_commands.RequestExecutor | None = None
         self.workers = Workers(self._access)
-        self.deliveries = Deliveries(self._access, self._shelf)
+        self.deliveries = Deliveries(self._access, self._registry)
         self.leased = False
 
     @property
@@ -130,12 +130,12 @@ class Store(RetryCalls):
     @property
     def sagas(self) -> builtins.list[Saga]:
         """The definitions that it was opened with."""
-        return [*self._shelf.declared]
+        return [*self._registry.declared]
 
     @property
     def codec(self) -> Codec | None:
         """What encodes its values; None if nothing does."""
-        return self._shelf.payloads.codec
+        return self._registry.payloads.codec
 
     async def __aenter__(self) -> Store:
         """Open it: take the lock, and go on with each saga that is not over.
@@ -156,19 +156,21 @@ class Store(RetryCalls):
         return self
 
     async def _open(self) -> None:
-        for saga in self._shelf.sagas.values():
+        for saga in self._registry.sagas.values():
             for warning in saga.warnings():
                 logger.warning("%s", warning)
-        where = program_module.path(self._program)
-        most: Any = self._words["concurrency"]
+        program_path = program_module.path(self._program)
+        limit: Any = self._options["concurrency"]
         database = factory.make(
-            self._name, self._shelf, self._node, self._lease, most, transactions, self._record
+            self._name, self._registry, self._node, self._lease, limit, transactions, self._record
         )
-        database = BlobDatabase.over(database, *self._blobs, self._shelf.payloads)
+        database = BlobDatabase.over(database, *self._blobs, self._registry.payloads)
         self._access.path = database.path
-        words: dict[str, Any] = {"program": where, "teller": self._teller, **self._words}
-        coordinator = self._access.coordinator = Coordinator(database, self._shelf, **words)
-        coordinator.executor.children.carrier = ChildCarrier(
+        options: dict[str, Any] = {"program": program_path, "teller": self._teller, **self._options}
+        coordinator = self._access.opened_coordinator = Coordinator(
+            database, self._registry, **options
+        )
+        coordinator.executor.children.operations = ChildOperations(
             self._access, self._lookup, self._starter, self._commands
         )
         coordinator.external.leased = coordinator.executor.machine.leased = self.leased
@@ -177,14 +179,16 @@ class Store(RetryCalls):
         except BaseException:
             await coordinator.close(0.0)
             raise
-        self._requests = operator_commands.Requests(coordinator, self._commands, self._reports)
+        self._requests = operator_commands.RequestExecutor(
+            coordinator, self._commands, self._reports
+        )
         coordinator.listeners.append(self._requests.look)
         if self._starter.accepts_new:
-            coordinator.listeners.append(coordinator.starts().look)
+            coordinator.listeners.append(coordinator.start_reader().look)
             scheduler = Scheduler(coordinator, self._start_scheduled, self._advance)
             coordinator.listeners.append(scheduler.look)
             coordinator.spawn(scheduler.run())
-        steps = [step for saga in self._shelf.sagas.values() for step in saga.all_steps]
+        steps = [step for saga in self._registry.sagas.values() for step in saga.all_steps]
         if any(step.early_unused == "compensate" for step in steps):
             coordinator.sagas.unused = self._reports.look
             coordinator.spawn(self._reports.run())
@@ -241,8 +245,8 @@ class Store(RetryCalls):
         if self._requests:
             self._requests.stop()
         try:
-            if self._access.coordinator:
-                await self._access.coordinator.close(seconds)
+            if self._access.opened_coordinator:
+                await self._access.opened_coordinator.close(seconds)
         finally:
             if self._is_over:
                 self._access.opened.end()
@@ -250,23 +254,23 @@ class Store(RetryCalls):
     @property
     def _is_over(self) -> bool:
         """Whether it is closed: a call of `close` that was cancelled may go on."""
-        coordinator = self._access.coordinator
+        coordinator = self._access.opened_coordinator
         return coordinator is None or coordinator.is_over
 
     def _replies(self, key: str) -> None:
         """A service is about to answer that a saga is started: its record says so first."""
-        inside = self._inside
-        if acknowledgements := inside.executor.calls.acknowledgements:
-            acknowledgements.replied(inside.sagas.by_key.get(key))
+        coordinator = self._coordinator
+        if acknowledgements := coordinator.executor.calls.acknowledgements:
+            acknowledgements.replied(coordinator.sagas.by_key.get(key))
 
     @property
-    def _inside(self) -> Coordinator:
-        return self._access.inside
+    def _coordinator(self) -> Coordinator:
+        return self._access.coordinator
 
     @property
     def _refusal(self) -> asyncio.Future[InvalidStore]:
         """Why it cannot execute anything, and will not be able to."""
-        return self._inside.refusal
+        return self._coordinator.refusal
 
     async def serve(self) -> None:
         """Wait for SIGTERM or SIGINT, in a program that only executes sagas.
@@ -278,17 +282,17 @@ class Store(RetryCalls):
                 make them. Then nothing is executed.
             Closed: The store is not open.
         """
-        loop, refusal = self._inside.loop, self._refusal
-        asked: asyncio.Future[None] = loop.create_future()
+        loop, refusal = self._coordinator.loop, self._refusal
+        stop: asyncio.Future[None] = loop.create_future()
 
-        def ask() -> None:
-            if not asked.done():
-                asked.set_result(None)
+        def request_stop() -> None:
+            if not stop.done():
+                stop.set_result(None)
 
         for number in (signal.SIGTERM, signal.SIGINT):
-            loop.add_signal_handler(number, ask)
+            loop.add_signal_handler(number, request_stop)
         try:
-            ends: list[asyncio.Future[Any]] = [asked, refusal]
+            ends: list[asyncio.Future[Any]] = [stop, refusal]
             await asyncio.wait(ends, return_when=asyncio.FIRST_COMPLETED)
         finally:
             for number in (signal.SIGTERM, signal.SIGINT):
@@ -362,17 +366,19 @@ class Store(RetryCalls):
         return Run(self, key, new)
 
     async def _check_input(self, saga: Saga, text: str) -> None:
-        fitted = await self._inside.declared.fit(self._shelf, saga, text)
+        fitted = await self._coordinator.declared.fit(self._registry, saga, text)
         if fitted.wrong:
             raise fitted.wrong
 
-    async def _start_scheduled(self, one: Schedule, key: str) -> None:
-        saga = self._shelf.sagas[one.saga, one.version]
-        given = self._shelf.payloads.decode_value(one.input)
-        await self._starter.start(saga, key, given, one.labels, None)
+    async def _start_scheduled(self, schedule: Schedule, key: str) -> None:
+        saga = self._registry.sagas[schedule.saga, schedule.version]
+        given = self._registry.payloads.decode_value(schedule.input)
+        await self._starter.start(saga, key, given, schedule.labels, None)
 
-    async def _advance(self, one: Schedule, *to: Any) -> None:
-        await beside(self._name, lambda link: Schedules(link).advance(one, *to))
+    async def _advance(self, schedule: Schedule, *change: Any) -> None:
+        await over_own_connection(
+            self._name, lambda link: Schedules(link).advance(schedule, *change)
+        )
 
     async def get(self, key: str) -> Run | None:
         """Return the saga with this key; None if there is none, or no node began it yet.
@@ -384,11 +390,11 @@ class Store(RetryCalls):
             StoreUnavailable: The database does not answer.
             Closed: The store is closed.
         """
-        inside = self._access.here()
-        live = inside.sagas.by_key.get(key)
+        coordinator = self._access.coordinator_here()
+        live = coordinator.sagas.by_key.get(key)
         if live and live.committed:
             return Run(self, key)
-        row = await inside.store.find(key)
+        row = await coordinator.store.find(key)
         return Run(self, key) if row and row.id >= 0 else None
 
     async def wait(self, key: str, timeout: float | None = None) -> SagaResult:
@@ -432,9 +438,9 @@ class Store(RetryCalls):
             WouldWaitForever: The call is made in a step.
             Closed: The store is closed.
         """
-        if caller := current_step.waiter(self._inside.executor.calls.running):
+        if caller := current_step.waiter(self._coordinator.executor.calls.running):
             raise WouldWaitForever(
                 f"step {caller.name!r} of saga {caller.instance.key!r} waits until no saga is "
                 "open, but its own is. Wait for that outside of a step"
             )
-        await self._inside.settled()
+        await self._coordinator.settled()

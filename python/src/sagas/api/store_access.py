@@ -16,38 +16,38 @@ class StoreAccess:
     def __init__(self, path: str) -> None:
         self.path = path
         self.opened = Opened("the store")
-        self.coordinator: Coordinator | None = None
+        self.opened_coordinator: Coordinator | None = None
 
     @property
-    def inside(self) -> Coordinator:
+    def coordinator(self) -> Coordinator:
         """The coordinator. Raises `Closed` where the store is not open."""
-        if self.coordinator is None:
+        if self.opened_coordinator is None:
             raise Closed(
                 f"{self.path}: the store is not open. Use `async with sagas.open(...) as store`"
             )
-        if self.coordinator.forks != private.forks:
+        if self.opened_coordinator.forks != private.forks:
             self.opened.check(self.path)
-        if self.coordinator.closed:
-            raise self.coordinator.closed
-        return self.coordinator
+        if self.opened_coordinator.closed:
+            raise self.opened_coordinator.closed
+        return self.opened_coordinator
 
-    def here(self) -> Coordinator:
+    def coordinator_here(self) -> Coordinator:
         """The coordinator, for a call that waits in the store's loop.
 
         Raises `Closed`, and `RuntimeError` in another loop."""
-        inside = self.coordinator
-        if inside is None or inside.closed or inside.forks != private.forks:
-            inside = self.inside  # raises
-        if asyncio.get_running_loop() is not inside.loop:
+        coordinator = self.opened_coordinator
+        if coordinator is None or coordinator.closed or coordinator.forks != private.forks:
+            coordinator = self.coordinator  # raises
+        if asyncio.get_running_loop() is not coordinator.loop:
             raise RuntimeError(
                 f"{self.path}: the store was opened in another event loop. Make the call "
                 "there, or use sagas.open_sync, for any thread"
             )
-        return inside
+        return coordinator
 
 
-def transactions(*words: Any) -> Any:
+def transactions(*arguments: Any) -> Any:
     """What calls functions in transactions of PostgreSQL. It needs psycopg."""
     from sagas.runtime.transactional_steps import Transactions
 
-    return Transactions(*words)
+    return Transactions(*arguments)

@@ -9,7 +9,7 @@ from types import TracebackType
 from typing import TYPE_CHECKING, Any
 
 from sagas.base.errors import InvalidStore
-from sagas.api.facade import Facade, asked, blocking
+from sagas.api.facade import Facade, blocking_plain, blocking
 from sagas.api.loop_thread import Loop
 from sagas.api.run import Run
 from sagas.api.store import Store
@@ -70,7 +70,7 @@ class SyncStore(Facade[Store]):
         except BaseException:
             self._loop.end()
             raise
-        self._loop.where = self._inner.path  # it has the database's name by now
+        self._loop.path = self._inner.path  # it has the database's name by now
         return self
 
     if not TYPE_CHECKING:  # a checker says so by itself
@@ -112,19 +112,19 @@ class SyncStore(Facade[Store]):
             raise RuntimeError(
                 "serve() must be called in the main thread, which receives the signals"
             )
-        told = threading.Event()
+        stop = threading.Event()
         before = {
-            number: signal.signal(number, lambda *_: told.set())
+            number: signal.signal(number, lambda *_: stop.set())
             for number in (signal.SIGTERM, signal.SIGINT)
         }
 
         async def watch() -> asyncio.Future[InvalidStore]:
-            self._inner._refusal.add_done_callback(lambda _: told.set())
+            self._inner._refusal.add_done_callback(lambda _: stop.set())
             return self._inner._refusal
 
         try:
             refusal = self._loop.do(watch())
-            told.wait()
+            stop.wait()
             if refusal.done():
                 raise refusal.result()
         finally:
@@ -153,8 +153,12 @@ class SyncStore(Facade[Store]):
             >>> first.new, again.new
             (True, False)
         """
-        words: dict[str, Any] = {"labels": labels, "deadline": deadline, "traceparent": traceparent}
-        return SyncRun(self, self._loop.do(self._inner.start(saga, key, input, **words)))
+        options: dict[str, Any] = {
+            "labels": labels,
+            "deadline": deadline,
+            "traceparent": traceparent,
+        }
+        return SyncRun(self, self._loop.do(self._inner.start(saga, key, input, **options)))
 
     def get(self, key: str) -> SyncRun | None:
         """Return the saga with this key, or None. See `Store.get`."""
@@ -181,7 +185,7 @@ class SyncStore(Facade[Store]):
         inner = self._inner
         try:
             self._loop.do(
-                inner.wait_idle() if timeout is None else inner._inside.settled(), timeout
+                inner.wait_idle() if timeout is None else inner._coordinator.settled(), timeout
             )
         except TimeoutError as error:
             raise error if timeout is None else TimeoutError(
@@ -210,7 +214,7 @@ class SyncStore(Facade[Store]):
     stuck = blocking(Store.stuck)
     attention = blocking(Store.attention)
     unknown = blocking(Store.unknown)
-    active_attempts = asked(Store.active_attempts)
+    active_attempts = blocking_plain(Store.active_attempts)
     log = blocking(Store.log)
     plan = blocking(Store.plan)
     draw = blocking(Store.draw)

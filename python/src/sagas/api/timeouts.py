@@ -32,9 +32,9 @@ async def in_time(
             raise
     try:
         async with asyncio.timeout(SOON):
-            found = await waits()
+            waited_for = await waits()
     except TimeoutError:
-        found = ["its store does not answer"]
+        waited_for = ["its store does not answer"]
     except SagasError as error:
-        found = [str(error)]
-    raise still_open(key, timeout, found)
+        waited_for = [str(error)]
+    raise still_open(key, timeout, waited_for)

@@ -50,18 +50,18 @@ class UnusedReports:
 
     def __init__(self, access: StoreAccess, lookup: SagaLookup) -> None:
         self._access, self._lookup = access, lookup
-        self._news = asyncio.Event()
+        self._changed = asyncio.Event()
 
     async def compensate(self, key: str, step: str, request: Wanted, of: int | None = None) -> None:
         """Have the compensation of a step called whose report was not used."""
         row = await self._ended(key, of)
-        inside = self._access.inside
-        known = await inside.store.known(row)
-        kind = inside.shelf.kind(known.definition)
+        coordinator = self._access.coordinator
+        known = await coordinator.store.known(row)
+        kind = coordinator.registry.kind(known.definition)
         if step not in kind.names:
             raise StepNotWaiting(f"saga {key!r} has no step {step!r}{meant(step, kind.names)}")
         number = kind.names.index(step)
-        rows = await inside.store.read(step_reports.EARLY, row.id, number, Action.RUN.value)
+        rows = await coordinator.store.read(step_reports.EARLY, row.id, number, Action.RUN.value)
         reason, text = rows[0] if rows else (None, None)
         if reason == EarlyReason.UNDONE and report_undos.fault(kind.steps[number]) is None:
             return
@@ -72,7 +72,7 @@ class UnusedReports:
             raise StepNotWaiting(f"{where}: the saga is resolved already")
         declared = kind.steps[number]
         if kind.saga is None or declared is None:
-            if inside.store.shared:
+            if coordinator.store.shared:
                 await self._hand_over(row, step, request)
                 return
             raise StepNotWaiting(
@@ -81,15 +81,17 @@ class UnusedReports:
             )
         if fault := report_undos.fault(declared):
             raise StepNotWaiting(f"{where}: {fault}. Undo it by hand, and resolve the saga")
-        saga = inside.shelf.report_undo(kind.saga, declared)
+        saga = coordinator.registry.report_undo(kind.saga, declared)
         given = await self._input(row, known, kind, number, text or "null")
-        labels = {str(name): str(value) for name, value in await inside.store.read(LABELS, row.id)}
+        labels = {
+            str(name): str(value) for name, value in await coordinator.store.read(LABELS, row.id)
+        }
         options = StartOptions(labels, parent=row.id)
         await self.starter.start_child(saga, children.key_of(key, step, undo=True), given, options)
-        batch = Batch(-1, inside.clock())
+        batch = Batch(-1, coordinator.clock())
         batch.more.undone.append((row.id, number))
         batch.answer(request, "true")
-        await inside.kept(batch)
+        await coordinator.kept(batch)
 
     async def _hand_over(self, row: SagaRow, step: str, request: Wanted) -> None:
         """Ask the nodes that have the definition. What was asked here by a row is theirs to
@@ -97,9 +99,11 @@ class UnusedReports:
         """
         if isinstance(request, int):
             raise Moved(f"saga {row.key!r}")
-        inside = self._access.inside
+        coordinator = self._access.coordinator
         value = serialization.write({"step": step}) if request is None else request[2]
-        answer = await inside.store.ask(row, "compensate", value, inside.shelf.payloads)
+        answer = await coordinator.store.ask(
+            row, "compensate", value, coordinator.registry.payloads
+        )
         operator_requests.told(answer)
 
     async def _ended(self, key: str, of: int | None) -> SagaRow:
@@ -107,7 +111,7 @@ class UnusedReports:
         live = await self._lookup.live(key)
         if live is not None and live.over:
             with contextlib.suppress(Moved):
-                await self._access.inside.sagas.ends.wait(live)
+                await self._access.coordinator.sagas.ends.wait(live)
         row = await self._lookup.row(key, of)
         if row.phase is None:
             raise StepNotWaiting(
@@ -121,15 +125,15 @@ class UnusedReports:
     ) -> dict[str, Any]:
         """The input of the saga that undoes a report. It is the same whoever makes it."""
         decode, name = kind.payloads.decode, kind.names[step]
-        store = self._access.inside.store
+        store = self._access.coordinator.store
         ((shard,),) = await store.read(NAME, row.id // SHARD_CAPACITY)
         token = tokens.saga_token(shard, row.id % SHARD_CAPACITY)
         given = decode(await stored_values.input_of(store, row.id, row.input))
         values = ShapeValues() if known.shape is None else ShapeValues.read(decode(known.shape))
-        place = kind.place(name, values, given)
-        done = {at: value for at, _, _, event, value, _ in known.results if event == "commit"}
-        below = [at for at in kind.below[step] if at in done]
-        results = {kind.names[at]: decode(done[at] or "null") for at in below}
+        location = kind.place(name, values, given)
+        done = {index: value for index, _, _, event, value, _ in known.results if event == "commit"}
+        below = [index for index in kind.below[step] if index in done]
+        results = {kind.names[index]: decode(done[index] or "null") for index in below}
         task: Task[Any] = Task(
             Told(
                 kind.name,
@@ -138,18 +142,18 @@ class UnusedReports:
                 True,
                 1,
                 token,
-                place.input if place else given,
+                location.input if location else given,
                 results,
                 decode(text),
-                place=place,
+                place=location,
             )
         )
         plain = task.plain
-        told = None
-        if place is not None:
-            words = ("shape", "declared_step", "index", "item_key", "item")
-            told = {word: plain[word] for word in words} | {"step": name}
-            told["given"] = serialization.read(given_values.text_of(task))
+        location_data = None
+        if location is not None:
+            fields = ("shape", "declared_step", "index", "item_key", "item")
+            location_data = {name: plain[name] for name in fields} | {"step": name}
+            location_data["given"] = serialization.read(given_values.text_of(task))
         return {
             "key": row.key,
             "token": token,
@@ -157,32 +161,32 @@ class UnusedReports:
             "step": name,
             "input": plain["input"],
             "results": plain["results"] | {name: plain["result"]},
-            "place": told,
+            "place": location_data,
         }
 
     # -- unasked
 
     def look(self) -> None:
         """A saga has ended without a report."""
-        self._news.set()
+        self._changed.set()
 
     async def run(self) -> None:
         """Undo the reports of steps with `early_unused="compensate"`, until the store is closed."""
-        inside = self._access.inside
-        while not inside.closed:
-            self._news.clear()
+        coordinator = self._access.coordinator
+        while not coordinator.closed:
+            self._changed.clear()
             with contextlib.suppress(SagasError):  # the next look finds them
                 await self._undo_all()
             with contextlib.suppress(TimeoutError):
                 async with asyncio.timeout(PAUSE):
-                    await self._news.wait()
+                    await self._changed.wait()
 
     async def _undo_all(self) -> None:
-        inside = self._access.inside
-        for key, id, number in await inside.store.read(LEFT):
+        coordinator = self._access.coordinator
+        for key, id, number in await coordinator.store.read(LEFT):
             try:
                 row = await self._lookup.row(str(key), int(id))
-                kind = inside.shelf.kind((await inside.store.known(row)).definition)
+                kind = coordinator.registry.kind((await coordinator.store.known(row)).definition)
                 declared = kind.steps[int(number)]
                 if declared is not None and declared.early_unused == "compensate":
                     await self.compensate(row.key, kind.names[int(number)], None, row.id)

@@ -25,7 +25,7 @@ from sagas.definition.tracing import Tracer
 
 logger = logging.getLogger("sagas.worker")
 Function = Callable[[Task[Any]], Any]
-MOST_TEXT = 4000
+MAX_TEXT = 4000
 KINDS = {
     "complete": OutcomeKind.SUCCEEDED,
     "fail": OutcomeKind.FAILED,
@@ -46,7 +46,7 @@ class WorkerStep:
 
 
 @dataclasses.dataclass(slots=True, eq=False)
-class Held:
+class HeldTask:
     """A task that a worker has; until half of its lease is over it may be begun, so that its
     first heartbeat comes in time. `unheard`: no service heard its last one.
     """
@@ -55,25 +55,25 @@ class Held:
     lease: str
     task: Task[Any]
     until: float
-    lost: bool = False
-    unheard: bool = False
-    unstorable: bool = False
+    is_lost: bool = False
+    is_unanswered: bool = False
+    is_unstorable: bool = False
 
 
 @contextlib.contextmanager
-def lifespan(given: Any, shared: Context) -> Iterator[None]:
+def lifespan(source: Any, shared: Context) -> Iterator[None]:
     """A worker's context, while the worker runs. Raises `TypeError` where it is an async one, which
     functions in threads have no loop for.
     """
-    if not context.is_factory(given):
-        if given is not None:
-            shared.put(given)
+    if not context.is_factory(source):
+        if source is not None:
+            shared.put(source)
         yield
         return
-    manager = context.made(given)
+    manager = context.made(source)
     if not isinstance(manager, contextlib.AbstractContextManager):
         raise TypeError(
-            f"context={shown(given)}: returned {type(manager).__name__}, but a worker has no event "
+            f"context={shown(source)}: returned {type(manager).__name__}, but a worker has no event "
             "loop. Return a plain context manager (@contextlib.contextmanager)"
         )
     with manager as value:
@@ -81,35 +81,35 @@ def lifespan(given: Any, shared: Context) -> Iterator[None]:
         yield
 
 
-def word_of(task: Task[Any]) -> str:
+def step_name(task: Task[Any]) -> str:
     """What a worker asks for: `trip/car`, or `trip/car/undo`."""
     return f"{task.saga}/{task.declared_step}{'/undo' if task.is_compensation else ''}"
 
 
-def task_of(told: dict[str, Any], shared: Context) -> Task[Any]:
+def task_of(reply: dict[str, Any], shared: Context) -> Task[Any]:
     """What a function is handed, of what the service told."""
-    undo, step = told["undo"], told["step"]
-    saga_token = told["idempotency_key"].removesuffix(f"-{step}-{'undo' if undo else 'run'}")
-    results = {name: serialization.write(value) for name, value in told["results"].items()}
-    result = serialization.write(told["result"]) if undo else None
+    undo, step = reply["undo"], reply["step"]
+    saga_token = reply["idempotency_key"].removesuffix(f"-{step}-{'undo' if undo else 'run'}")
+    results = {name: serialization.write(value) for name, value in reply["results"].items()}
+    result = serialization.write(reply["result"]) if undo else None
     task: Task[Any] = Task(
         Told(
-            told["definition"],
-            told["key"],
+            reply["definition"],
+            reply["key"],
             step,
             undo,
-            told["attempt"],
+            reply["attempt"],
             saga_token,
-            serialization.write(told["input"]),
+            serialization.write(reply["input"]),
             results,
             result,
-            deadline=told.get("deadline"),
-            traceparent=told.get("traceparent"),
+            deadline=reply.get("deadline"),
+            traceparent=reply.get("traceparent"),
             context=shared,
-            place=None if told.get("shape") is None else ToldPlace(told),
+            place=None if reply.get("shape") is None else ToldPlace(reply),
         )
     )
-    if reason := told.get("cancelled"):
+    if reason := reply.get("cancelled"):
         task.cancelled.set(reason)
     return task
 
@@ -133,10 +133,10 @@ def outcome(
     if tracer is None:
         return _outcome(manner, task)[:2]
     with tracer.attempt(task, manner.function) as span:
-        verb, told, error = _outcome(manner, task)
-        kind = OutcomeKind.FAILED_PERMANENTLY if told.get("final") else KINDS[verb]
-        span.ended(kind.value, told.get("error", ""), error)
-    return verb, told
+        verb, reply, error = _outcome(manner, task)
+        kind = OutcomeKind.FAILED_PERMANENTLY if reply.get("final") else KINDS[verb]
+        span.ended(kind.value, reply.get("error", ""), error)
+    return verb, reply
 
 
 def _outcome(
@@ -151,10 +151,10 @@ def _outcome(
         return "unknown", {"error": "cancelled, since the saga was aborted"}, None
     except BaseException as error:  # sys.exit() too is only the function's: its thread goes on
         kind = outcomes.classify(error, manner.unknown)
-        told: dict[str, Any] = {"error": outcomes.described(error)[:MOST_TEXT]}
+        reply: dict[str, Any] = {"error": outcomes.described(error)[:MAX_TEXT]}
         if kind is outcomes.PERMANENT:
-            told["final"] = True
-        return ("unknown" if kind is outcomes.UNKNOWN else "fail"), told, error
+            reply["final"] = True
+        return ("unknown" if kind is outcomes.UNKNOWN else "fail"), reply, error
     try:
         return "complete", {"result": json.loads(serialization.write_value(result))}, None
     except NotSerializable as error:
@@ -164,4 +164,4 @@ def _outcome(
 
 def unstorable(why: str) -> dict[str, Any]:
     """What is told of a result that cannot be stored: the step is done all the same."""
-    return {"result": {"unstorable": why[:MOST_TEXT]}}
+    return {"result": {"unstorable": why[:MAX_TEXT]}}

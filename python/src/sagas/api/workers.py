@@ -52,8 +52,8 @@ class Workers:
             StoreUnavailable: The leases could not be written, and nothing was claimed.
             Closed: The store is closed.
         """
-        inside = self._access.inside
-        return await inside.external.claim([*steps], limit, wait, lease, worker, holder)
+        coordinator = self._access.coordinator
+        return await coordinator.external.claim([*steps], limit, wait, lease, worker, holder)
 
     async def heartbeat(
         self,
@@ -89,9 +89,9 @@ class Workers:
             StoreUnavailable: The database does not answer.
             Closed: The store is closed.
         """
-        told = None if progress is None else checked(progress, detail)
-        external = self._access.inside.external
-        return await external.heartbeat(attempt_id, lease, holder, seconds, told)
+        reported_progress = None if progress is None else checked(progress, detail)
+        external = self._access.coordinator.external
+        return await external.heartbeat(attempt_id, lease, holder, seconds, reported_progress)
 
     async def give_back(self, tasks: Iterable[LeasedTask], *, holder: str = "") -> None:
         """Give back tasks that are not performed, so that others may claim them at once.
@@ -106,7 +106,7 @@ class Workers:
             InvalidLease: A lease was not issued for its task to this holder.
             Closed: The store is closed.
         """
-        await self._access.inside.external.give_back(tasks, holder)
+        await self._access.coordinator.external.give_back(tasks, holder)
 
     async def set_aside(self, task: LeasedTask, why: str, *, holder: str = "") -> None:
         """Set a claimed task aside whose values cannot be read or written.
@@ -123,7 +123,7 @@ class Workers:
             InvalidLease: The lease was not issued for this task to this holder.
             Closed: The store is closed.
         """
-        await self._access.inside.external.set_aside(task, holder, why)
+        await self._access.coordinator.external.set_aside(task, holder, why)
 
     async def report(
         self,
@@ -170,7 +170,7 @@ class Workers:
             outcome = outcomes.unknown(unknown)
         else:
             outcome = reported(result, error, final)
-        external = self._access.inside.external
+        external = self._access.coordinator.external
         return await external.report(attempt_id, lease, holder, outcome, stored)
 
     async def queues(self) -> builtins.list[Queue]:
@@ -180,13 +180,13 @@ class Workers:
             StoreUnavailable: The database does not answer.
             Closed: The store is closed.
         """
-        return await self._access.inside.external.queues()
+        return await self._access.coordinator.external.queues()
 
     @property
     def takeovers(self) -> int:
         """How many tasks another worker claimed because their leases ended."""
-        return self._access.inside.external.takeovers
+        return self._access.coordinator.external.takeovers
 
     def peers(self) -> Peers | None:
         """Return how this node asks other nodes; None over a file."""
-        return self._access.inside.store.peers()
+        return self._access.coordinator.store.peers()

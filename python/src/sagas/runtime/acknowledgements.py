@@ -24,12 +24,12 @@ class Acknowledgements:
     """
 
     def __init__(self, record: RecordFile) -> None:
-        self._record, self._told, self._sessions = record, record.told, record.sessions
+        self._record, self._acknowledge, self._sessions = record, record.told, record.sessions
         self._aborts: dict[SagaInstance, dict[Abort, Rest]] = {}
         self._called: Rest | None = None  # that calls rested on last
         self._woken: Rest | None = None  # the same of those who were woken
         # who waits until a report is in the store: without them, none is noted
-        self._kept: Mapping[Attempt, object] = {}
+        self._report_waiters: Mapping[Attempt, object] = {}
 
     @classmethod
     def of(cls, store: Database) -> Acknowledgements | None:
@@ -40,9 +40,9 @@ class Acknowledgements:
         """Hear of callers before they are notified: those that wait for sagas, and those that wait
         until a report is in the store.
         """
-        sagas.starts.told, sagas.ends.told = self.started, self.ended
+        sagas.starts.before_notify, sagas.ends.before_notify = self.started, self.ended
         sagas.answered = self.aborted
-        kept.told, self._kept = self.reported, kept.futures
+        kept.before_notify, self._report_waiters = self.reported, kept.futures
 
     # -- noted
 
@@ -64,28 +64,28 @@ class Acknowledgements:
         if effects.ended:
             for saga in effects.ended:
                 saga.end_rest = rest
-        if self._kept:
+        if self._report_waiters:
             for attempt in effects.reported:
                 attempt.rest = rest
         if effects.rare is not NOTHING_RARE:
             for abort in effects.rare.aborted:
                 self._aborts.setdefault(abort.saga, {})[abort] = rest
 
-    def recovered(self, found: Recovery) -> None:
+    def recovered(self, recovery: Recovery) -> None:
         """A shard was recovered: what continues rests on what the store has."""
-        batch = found.effects.batch
+        batch = recovery.effects.batch
         rest = self._record.session(batch.log, batch.epoch), batch.first
-        self.over(found.gone)
-        self.over(found.restored)
-        for saga in found.restored:
+        self.over(recovery.gone)
+        self.over(recovery.restored)
+        for saga in recovery.restored:
             saga.rest = rest
-        for attempt in found.forgotten:  # its saga may be restored
+        for attempt in recovery.forgotten:  # its saga may be restored
             attempt.rest = None
-        for attempt in found.resumed:
+        for attempt in recovery.resumed:
             attempt.rest = rest
-        for abort in found.aborted:
+        for abort in recovery.aborted:
             self._aborts.setdefault(abort.saga, {})[abort] = rest
-        self.decided(found.effects, rest)
+        self.decided(recovery.effects, rest)
 
     def lost(self, effects: Effects) -> None:
         """They are not in the store. What is acknowledged of them all the same is because of what
@@ -120,10 +120,10 @@ class Acknowledgements:
             rest = None
         if rest is None:
             if shard := attempt.instance.shard:
-                self._told((self._record.session(shard.number, shard.epoch), BEYOND), "call")
+                self._acknowledge((self._record.session(shard.number, shard.epoch), BEYOND), "call")
         elif rest is not self._called:
             self._called = rest
-            self._told(rest, "call")
+            self._acknowledge(rest, "call")
 
     def started(self, saga: SagaInstance) -> None:
         """A caller is about to be notified that a saga is started."""
@@ -145,10 +145,10 @@ class Acknowledgements:
     def _wake(self, rest: Rest | None) -> None:
         if rest is not None and rest is not self._woken:
             self._woken = rest
-            self._told(rest, "wake")
+            self._acknowledge(rest, "wake")
 
     def replied(self, saga: SagaInstance | None) -> None:
         """A service is about to answer that a saga is started; None if it is over by now."""
         rest: Rest | None = getattr(saga, "rest", None)
         if rest is not None:
-            self._told(rest, "reply")
+            self._acknowledge(rest, "reply")

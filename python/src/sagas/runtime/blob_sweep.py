@@ -25,7 +25,7 @@ async def sweep(database: BlobDatabase) -> None:
     """Delete orphans at the opening, and then each day; until it is cancelled. Each hour it is
     looked whose the values are.
     """
-    loop, blobs, said = asyncio.get_running_loop(), database.blobs, ""
+    loop, blobs, warned_name = asyncio.get_running_loop(), database.blobs, ""
     due = loop.time()
     while True:
         try:
@@ -36,9 +36,9 @@ async def sweep(database: BlobDatabase) -> None:
                 due = loop.time() + (DAY if blobs.other is None else 0)
                 if count:
                     logger.info("deleted %s without a row", number(count, "blob"))
-            if blobs.other is not None and blobs.other.name != said:
-                said = blobs.other.name
-                logger.warning(COPY, database.path, said)
+            if blobs.other is not None and blobs.other.name != warned_name:
+                warned_name = blobs.other.name
+                logger.warning(COPY, database.path, warned_name)
         except SagasError as error:
             logger.warning("blobs without a row could not be deleted: %s", error)
         await asyncio.sleep(HOUR)

@@ -26,7 +26,7 @@ from sagas.runtime import invocation
 from sagas.runtime.acknowledgements import Acknowledgements
 from sagas.runtime.current_step import CALLED
 from sagas.runtime.dispatcher import Dispatcher
-from sagas.runtime.executor_host import Host
+from sagas.runtime.executor_host import CoordinatorForExecutor
 from sagas.runtime.fleet_limits import Fleet, Gate
 
 QUIET = 1.0
@@ -35,7 +35,7 @@ FORKED = 70
 """The exit status of a child that a function forked, and that came back here."""
 
 
-class Ends(Protocol):
+class CallListener(Protocol):
     """What is told how a function ended."""
 
     closing: bool
@@ -52,7 +52,7 @@ class Ends(Protocol):
     def lost(self, attempt: Attempt, fault: Lost) -> None:
         """Nobody knows whether its transaction was committed."""
 
-    def tell(self, attempt: Attempt, name: str, detail: str | None = None) -> None:
+    def emit(self, attempt: Attempt, name: str, detail: str | None = None) -> None:
         """Tell an event of it."""
 
 
@@ -70,8 +70,8 @@ class Calls:
 
     def __init__(
         self,
-        ends: Ends,
-        host: Host,
+        listener: CallListener,
+        coordinator: CoordinatorForExecutor,
         slots: Slots,
         fleet: Fleet,
         threads: Threads,
@@ -80,26 +80,33 @@ class Calls:
         fill: Callable[[Attempt], Awaitable[None]],
     ) -> None:
         self._fill = fill
-        self._ends, self._store, self._slots, self._fleet = ends, host.store, slots, fleet
+        self._listener, self._store, self._slots, self._fleet = (
+            listener,
+            coordinator.store,
+            slots,
+            fleet,
+        )
         self._threads, self._remote = threads, remote
-        self._teller, self._clock = host.teller, host.clock
+        self._teller, self._clock = coordinator.teller, coordinator.clock
         self._forks, self._tracer = private.forks, tracer
-        self.acknowledgements = Acknowledgements.of(host.store)
+        self.acknowledgements = Acknowledgements.of(coordinator.store)
         self._called = self.acknowledgements.called if self.acknowledgements else None
         self.running: dict[Attempt, asyncio.Task[None] | None] = {}
-        self._alone = Dispatcher(self, host, self.running)
-        self._inside = Dispatcher(self, host, self.running, host.store.inside)
-        self._has_inside = host.store.inside is not None
+        self._dispatcher = Dispatcher(self, coordinator, self.running)
+        self._transaction_dispatcher = Dispatcher(
+            self, coordinator, self.running, coordinator.store.inside
+        )
+        self._has_transactions = coordinator.store.inside is not None
         self._holders: set[tuple[str, str, str]] = set()  # told that they held the loop
 
     def coming(self) -> int:
         """How many functions are about to be called, which may end at once."""
-        return self._alone.waiting + self._inside.waiting
+        return self._dispatcher.waiting + self._transaction_dispatcher.waiting
 
     async def settled(self) -> None:
         """Wait until all simple functions are called that are to be."""
-        await self._alone.settled()
-        await self._inside.settled()
+        await self._dispatcher.settled()
+        await self._transaction_dispatcher.settled()
 
     # -- call
 
@@ -114,8 +121,8 @@ class Calls:
             attempt.start()
             work = self._call(attempt)
         else:
-            work = self._pass(attempt, gate)
-        self.running[attempt] = self._alone.start(work)
+            work = self._call_limited(attempt, gate)
+        self.running[attempt] = self._dispatcher.start(work)
 
     def start_simple(self, attempts: Sequence[Attempt]) -> None:
         """Call simple functions; each has a slot."""
@@ -125,24 +132,28 @@ class Calls:
             return
         self.running.update(dict.fromkeys(attempts))
         start_all(attempts)
-        inside = [one for one in attempts if one.action.inside] if self._has_inside else ()
+        inside = (
+            [attempt for attempt in attempts if attempt.action.inside]
+            if self._has_transactions
+            else ()
+        )
         if not inside:
-            self._alone.call(attempts)
+            self._dispatcher.call(attempts)
             return
         if len(inside) < len(attempts):
-            self._alone.call([one for one in attempts if not one.action.inside])
-        self._inside.call(inside)
+            self._dispatcher.call([attempt for attempt in attempts if not attempt.action.inside])
+        self._transaction_dispatcher.call(inside)
 
-    async def _pass(self, attempt: Attempt, gate: Gate) -> None:
+    async def _call_limited(self, attempt: Attempt, gate: Gate) -> None:
         """It is called if it gets a place of its step; else it waits without that and a slot."""
         granted = await gate.ask(attempt)
-        if granted and attempt.state is QUEUED and not self._ends.closing:
+        if granted and attempt.state is QUEUED and not self._listener.closing:
             attempt.start()
             await self._call(attempt)
             return
         del self.running[attempt]
         self._leave(attempt)
-        if attempt.state is QUEUED and not self._ends.closing:
+        if attempt.state is QUEUED and not self._listener.closing:
             gate.hold(attempt, first=True)
 
     async def _call(self, attempt: Attempt) -> None:
@@ -175,7 +186,7 @@ class Calls:
             return outcome
         inside = self._store.inside if manner.transaction else None
         call = inside.call if inside else invocation.call_alone
-        late = functools.partial(self._ends.tell, attempt, "step_overdue")
+        late = functools.partial(self._listener.emit, attempt, "step_overdue")
         try:
             task = attempt.task()
         except CannotDecode as error:  # by the store's codec
@@ -199,8 +210,12 @@ class Calls:
         quiet = QUIET if timeout is None else min(timeout, QUIET)
         _, late = await asyncio.wait(running, timeout=quiet)
         if late and (timeout is None or timeout > QUIET):
-            at = self.running.items()
-            names = sorted(f"{one.name} of {one.key!r}" for one, job in at if job in late)
+            running_items = self.running.items()
+            names = sorted(
+                f"{attempt.name} of {attempt.key!r}"
+                for attempt, job in running_items
+                if job in late
+            )
             logger.warning(
                 "closing waits for %d running functions%s: %s",
                 len(names),
@@ -224,7 +239,7 @@ class Calls:
             if attempt.extras is not None:
                 spans.noted(attempt, self._clock())
             if self._teller.listens:
-                self._ends.tell(attempt, "step_started")
+                self._listener.emit(attempt, "step_started")
             return True
         if attempt.state is RUNNING:  # its shard may be another's: it is looked at, then begins
             attempt.claim()
@@ -243,19 +258,19 @@ class Calls:
         for attempt in attempts:
             del self.running[attempt]
         self._slots.left(len(attempts))
-        self._ends.succeeded(finish_all(attempts, self._clock()))
+        self._listener.succeeded(finish_all(attempts, self._clock()))
 
     def held_loop(self, attempt: Attempt, seconds: float) -> None:
         """A function held up everything else: that is told once of each."""
-        word = attempt.saga, attempt.declared_name, attempt.kind
-        if word not in self._holders:
-            self._holders.add(word)
-            whose = "the compensation of step" if attempt.undo else "step"
+        function_id = attempt.saga, attempt.declared_name, attempt.kind
+        if function_id not in self._holders:
+            self._holders.add(function_id)
+            subject = "the compensation of step" if attempt.undo else "step"
             logger.warning(
                 "saga %r: %s %r blocked the event loop for %.1f s. Make it a plain function "
                 "(def), which runs in a thread",
-                word[0],
-                whose,
+                function_id[0],
+                subject,
                 attempt.name,
                 seconds,
             )
@@ -272,22 +287,22 @@ class Calls:
     ) -> None:
         record, attempt.record = attempt.record, None
         attempt.recorded = record is not None and record.done
-        if not self._over(attempt, began):
+        if not self._leave_running(attempt, began):
             return
         if fault is not None:
-            self._ends.lost(attempt, fault)
+            self._listener.lost(attempt, fault)
         elif record is not None and record.again:
             attempt.claim()
-            self._ends.enter(attempt)
+            self._listener.enter(attempt)
         elif outcome is None and attempt.extras and attempt.extras.control:
             if attempt.extras.control.is_stopped:
                 attempt.extras.control.is_stopped = False
-                told = outcomes.unknown("cancelled, since the saga was aborted")
-                self._ends.ended(attempt, told, at_once)
+                outcome_unknown = outcomes.unknown("cancelled, since the saga was aborted")
+                self._listener.ended(attempt, outcome_unknown, at_once)
         elif outcome is not None:
-            self._ends.ended(attempt, outcome, at_once)
+            self._listener.ended(attempt, outcome, at_once)
 
-    def _over(self, attempt: Attempt, began: float) -> bool:
+    def _leave_running(self, attempt: Attempt, began: float) -> bool:
         """Whether anything comes of a function that is over: it was not forgotten meanwhile."""
         self._check_fork()
         attempt.took = time.monotonic() - began
@@ -327,14 +342,14 @@ class Calls:
         for attempt in self.running:
             attempt.control.cancelled.set("closing")
 
-    def news(self) -> list[Attempt]:
+    def with_new_progress(self) -> list[Attempt]:
         """Return the attempts whose functions told of progress since this was asked."""
-        found = []
+        attempts = []
         for attempt in self.running:
             control = attempt.extras.control if attempt.extras else None
             if control and attempt.state is RUNNING and control.news():
-                found.append(attempt)
-        return found
+                attempts.append(attempt)
+        return attempts
 
     def forget(self, attempt: Attempt) -> None:
         """Its shard does not have it: its function is stopped, unless it is one in a thread.

@@ -15,7 +15,7 @@ from sagas.core.group_commit import GroupCommitPolicy, half
 from sagas.storage.interface import CommitWriter
 
 
-class Owner(Protocol):
+class CommitListener(Protocol):
     """What hears how its batches fared."""
 
     def committed(self, effects: Effects) -> None:
@@ -30,7 +30,7 @@ class Owner(Protocol):
         """What it did when it heard that raised this: a fault of this package."""
 
 
-class Load(Protocol):
+class CommitLoad(Protocol):
     """What is under way, and comes to a commit."""
 
     def coming(self) -> int:
@@ -43,32 +43,34 @@ class Load(Protocol):
         """Whether there is one saga, and no function runs: nothing else comes."""
 
 
-Entry = tuple[Effects, Owner | None]
+Entry = tuple[Effects, CommitListener | None]
 """A batch that waits, or is being written, with what hears how it fared."""
 
 
-class Waiter:
+class BatchWaiter:
     """Who waits for one batch."""
 
-    def __init__(self, path: str, over: asyncio.Future[None]) -> None:
-        self._path, self._over = path, over
+    def __init__(self, path: str, durable: asyncio.Future[None]) -> None:
+        self._path, self._durable = path, durable
 
     def committed(self, effects: Effects) -> None:
-        """As `Owner`."""
-        if not self._over.done():  # who waited may have been cancelled
-            self._over.set_result(None)
+        """As `CommitListener`."""
+        if not self._durable.done():  # who waited may have been cancelled
+            self._durable.set_result(None)
 
     def failed(self, effects: Effects, fault: BaseException | None) -> None:
-        """As `Owner`."""
-        if self._over.done():
+        """As `CommitListener`."""
+        if self._durable.done():
             return
         if fault is None:
             fault = Lost(f"shard {effects.batch.log}")
         is_ours = isinstance(fault, SagasError)
-        self._over.set_exception(fault if is_ours else StoreUnavailable(f"{self._path}: {fault}"))
+        self._durable.set_exception(
+            fault if is_ours else StoreUnavailable(f"{self._path}: {fault}")
+        )
 
     def broken(self, error: Exception) -> None:
-        """As `Owner`."""
+        """As `CommitListener`."""
 
 
 def _rows_of(entries: Sequence[Entry]) -> int:
@@ -81,7 +83,7 @@ class CommitQueue:
     """Writes batches in the order in which they come, one transaction at a time."""
 
     def __init__(
-        self, store: CommitWriter, load: Load, teller: Teller, loop: asyncio.AbstractEventLoop
+        self, store: CommitWriter, load: CommitLoad, teller: Teller, loop: asyncio.AbstractEventLoop
     ) -> None:
         self._store, self._load, self._teller, self._loop = store, load, teller, loop
         self._policy = GroupCommitPolicy()
@@ -97,7 +99,7 @@ class CommitQueue:
         """Whether a commit is under way, or something waits for one."""
         return self._is_under_way or bool(self._queue)
 
-    def lot(self, ready: int) -> int:
+    def batch_size(self, ready: int) -> int:
         """Return how many of so many functions that are called now are told of at once: half,
         where the server would have nothing to do until all were over.
         """
@@ -105,7 +107,7 @@ class CommitQueue:
 
     # -- to be written
 
-    def put(self, effects: Effects, owner: Owner | None, at_once: bool = False) -> None:
+    def put(self, effects: Effects, listener: CommitListener | None, at_once: bool = False) -> None:
         """Put a batch into the next transaction.
 
         Args:
@@ -116,7 +118,7 @@ class CommitQueue:
         """
         if self._store.takes:
             self._policy.came(self._loop.time())
-        self._queue.append((effects, owner))
+        self._queue.append((effects, listener))
         if self._is_under_way:
             return
         self._is_urgent = at_once
@@ -136,9 +138,9 @@ class CommitQueue:
             StoreUnavailable: It cannot be written now.
             Lost: Its shard is another node's.
         """
-        over: asyncio.Future[None] = self._loop.create_future()
-        self.put(Effects(batch), Waiter(self._store.path, over))
-        await over
+        durable: asyncio.Future[None] = self._loop.create_future()
+        self.put(Effects(batch), BatchWaiter(self._store.path, durable))
+        await durable
 
     async def written(self) -> None:
         """Wait until nothing waits for a commit, whose caller may be gone."""
@@ -156,8 +158,8 @@ class CommitQueue:
         """Write what waits, unless a commit is under way, or more is worth to wait for."""
         if not self._queue or self._is_under_way:
             return
-        takes = self._store.takes
-        if takes and self._holds(takes):
+        commit_seconds = self._store.takes
+        if commit_seconds and self._waits_for_more(commit_seconds):
             return
         entries, self._queue = self._queue, []
         at_once, self._is_urgent, self._is_under_way = self._is_urgent, False, True
@@ -170,19 +172,19 @@ class CommitQueue:
         if not at_once:
             self._settle_soon()
 
-    def _holds(self, takes: float) -> bool:
+    def _waits_for_more(self, commit_seconds: float) -> bool:
         if self._load.is_alone():
             return False
         policy, now = self._policy, self._loop.time()
-        holds = policy.holds(self._load.coming(), _rows_of(self._queue), takes, now)
-        if self._timer and not holds:
+        waits = policy.holds(self._load.coming(), _rows_of(self._queue), commit_seconds, now)
+        if self._timer and not waits:
             self._timer.cancel()
             self._timer = None
-        elif holds and self._timer is None and policy.until is not None:
-            self._timer = self._loop.call_at(policy.until, self._rang)
-        return holds
+        elif waits and self._timer is None and policy.until is not None:
+            self._timer = self._loop.call_at(policy.until, self._timer_fired)
+        return waits
 
-    def _rang(self) -> None:
+    def _timer_fired(self) -> None:
         self._timer = None
         self.write()
 
@@ -196,25 +198,25 @@ class CommitQueue:
     ) -> None:
         entries, self._under_way, self._is_under_way = self._under_way, [], False
         if fault is not None or lost:
-            entries = self._with_those_behind(entries, fault, lost)
-        takes = self._store.takes
+            entries = self._with_later_entries(entries, fault, lost)
+        commit_seconds = self._store.takes
         if self._queue and fault is None:
-            is_soon = takes and self._policy.is_soon(
-                _rows_of(entries), _rows_of(self._queue), takes
+            is_soon = commit_seconds and self._policy.is_soon(
+                _rows_of(entries), _rows_of(self._queue), commit_seconds
             )
             if not is_soon:
                 self.write()
-        for effects, owner in entries:
-            if owner is not None:
-                _tell(effects, owner, fault, fault is not None or effects.batch.log in lost)
-        if takes:
+        for effects, listener in entries:
+            if listener is not None:
+                _notify(effects, listener, fault, fault is not None or effects.batch.log in lost)
+        if commit_seconds:
             self._policy.committed(self._load.calls(), self._loop.time())
         if self._queue:
             self.write()
         if self._idle and not self._idle.done() and not self.is_writing:
             self._idle.set_result(None)
 
-    def _with_those_behind(
+    def _with_later_entries(
         self, entries: list[Entry], fault: BaseException | None, lost: frozenset[int]
     ) -> list[Entry]:
         """Those that were not written, and what stands behind them in their shards, which cannot
@@ -223,17 +225,19 @@ class CommitQueue:
         if fault is not None:
             self._teller.tell("commit_failed", detail=str(fault))
         shards = {effects.batch.log for effects, _ in entries} if fault else lost
-        behind = [entry for entry in self._queue if entry[0].batch.log in shards]
+        later = [entry for entry in self._queue if entry[0].batch.log in shards]
         self.drop(list(shards))
-        return [*entries, *behind]
+        return [*entries, *later]
 
 
-def _tell(effects: Effects, owner: Owner, fault: BaseException | None, is_lost: bool) -> None:
+def _notify(
+    effects: Effects, listener: CommitListener, fault: BaseException | None, is_lost: bool
+) -> None:
     try:
         if is_lost:
-            owner.failed(effects, None if isinstance(fault, Lost) else fault)
+            listener.failed(effects, None if isinstance(fault, Lost) else fault)
         else:
-            owner.committed(effects)
+            listener.committed(effects)
     except Exception as error:  # the others have to hear of theirs
         logger.exception("shard %d: an error after a commit", effects.batch.log)
-        owner.broken(error)
+        listener.broken(error)

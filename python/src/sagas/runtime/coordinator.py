@@ -22,10 +22,10 @@ from sagas.core.undo_check import CompletedChild
 from sagas.definition.shelf import Shelf
 from sagas.definition.tracing import Tracer
 from sagas.runtime import decode_check, remote_steps
-from sagas.runtime.client_starts import Starts
+from sagas.runtime.client_starts import StartReader
 from sagas.runtime.commit_queue import CommitQueue
 from sagas.runtime.deadlines import Deadlines
-from sagas.runtime.deadlocks import Waits
+from sagas.runtime.deadlocks import DeadlockCheck
 from sagas.runtime.declared_calls import DeclaredCalls
 from sagas.runtime.executor import Executor
 from sagas.runtime.external_queue import ExternalQueue
@@ -44,7 +44,7 @@ class Coordinator:
 
     Attributes:
         store: The database.
-        shelf: The definitions that the store was opened with.
+        registry: The definitions that the store was opened with.
         teller: What events are told to.
         clock: Wall time in seconds.
         loop: The event loop.
@@ -64,7 +64,7 @@ class Coordinator:
     def __init__(
         self,
         store: Database,
-        shelf: Shelf,
+        registry: Shelf,
         *,
         program: str,
         concurrency: int,
@@ -76,7 +76,7 @@ class Coordinator:
         context: Any = None,
         tracer: Tracer | None = None,
     ) -> None:
-        self.store, self.shelf, self.teller, self.clock = store, shelf, teller, clock
+        self.store, self.registry, self.teller, self.clock = store, registry, teller, clock
         self.loop = asyncio.get_running_loop()
         self.forks = private.forks
         self.closed: SagasError | None = None
@@ -93,11 +93,11 @@ class Coordinator:
         self.executor = Executor(self, self.external, concurrency, self._threads, tracer)
         if acknowledgements := self.executor.calls.acknowledgements:
             acknowledgements.follow(self.sagas, self.executor.kept)
-        self.executor.slots.is_fair = any(saga.fair_by for saga in shelf.sagas.values())
+        self.executor.slots.is_fair = any(saga.fair_by for saga in registry.sagas.values())
         self.commits = CommitQueue(store, self, teller, self.loop)
         self.shards = Shards(
             store,
-            shelf,
+            registry,
             program,
             engine_processes,
             self.sagas,
@@ -113,21 +113,21 @@ class Coordinator:
         self.deadlines = Deadlines(self.sagas, self.shards.abort, teller, clock)
         self.sagas.driven = self.deadlines.add
         self.shards.abort_overdue = self.deadlines.look
-        self.waits = Waits(self)
+        self.waits = DeadlockCheck(self)
         self.listeners.append(self.executor.children.look)
-        self._lifespan = Lifespan(context, shelf.context)
+        self._lifespan = Lifespan(context, registry.context)
 
-    def starts(self) -> Starts:
+    def start_reader(self) -> StartReader:
         """Make what takes the starts of clients."""
-        return Starts(
+        return StartReader(
             self,
             self.store,
-            self.shelf,
+            self.registry,
             self.sagas,
             self.commits,
-            self.shards.starts,
+            self.shards.start_doubt,
             self.clock,
-            self.shards.place,
+            self.shards.assign,
         )
 
     # -- opening
@@ -140,16 +140,16 @@ class Coordinator:
             EngineError: No engine can be started, or one cannot be understood.
             StoreUnavailable: The store cannot be read or written.
         """
-        rows = await self.store.open(self.lacks)
+        rows = await self.store.open(self.missing_functions)
         await self.external.open()
-        await remote_steps.check(self.store, self.shelf.sagas.values())
+        await remote_steps.check(self.store, self.registry.sagas.values())
         await self._lifespan.enter()
         await self.shards.open(rows)
         self.executor.children.open()
         self.shards.close_all_over()
         self._timer = self.loop.call_later(1.0, self._tick, 0.0)
 
-    def lacks(
+    def missing_functions(
         self, texts: list[str], places: list[int], completed: Sequence[CompletedChild]
     ) -> str | None:
         """Return what this program has no function for, of the definitions at these places of a
@@ -157,14 +157,14 @@ class Coordinator:
         """
         for place in places:
             try:
-                kind = self.shelf.kind(texts[place])
+                kind = self.registry.kind(texts[place])
             except (ValueError, LookupError, TypeError, SagasError):
                 continue  # its shard is set aside
-            lacks = kind.lacks()
-            if lacks:
-                return f"saga {kind.name!r} (version {kind.version}) has open sagas, but {lacks}"
+            missing = kind.lacks()
+            if missing:
+                return f"saga {kind.name!r} (version {kind.version}) has open sagas, but {missing}"
         try:
-            return undo_check.lacking(self.shelf.kind, completed)
+            return undo_check.lacking(self.registry.kind, completed)
         except (ValueError, LookupError, TypeError, SagasError):  # a text of another shard
             return None
 
@@ -234,13 +234,13 @@ class Coordinator:
         """Whether there is one saga, and no function runs: nothing else comes."""
         return not self.slots.running and len(self.sagas.by_key) == 1
 
-    def lot(self, ready: int) -> int:
+    def batch_size(self, ready: int) -> int:
         """How many of so many functions that are called now are told of at once."""
-        return self.commits.lot(ready)
+        return self.commits.batch_size(ready)
 
-    def lets(self) -> bool:
+    def must_yield(self) -> bool:
         """Whether others have their turn before further functions are called."""
-        return self.sagas.lets()
+        return self.sagas.must_yield()
 
     @property
     def slots(self) -> Slots:

@@ -12,7 +12,7 @@ from sagas.definition.shelf import Fitted, Shelf
 from sagas.runtime.function_threads import FunctionThreads
 
 T = TypeVar("T")
-LEAST = 4
+MIN_THREADS = 4
 """Threads, at least: functions of one definition that are slow leave some for all others."""
 
 
@@ -23,7 +23,7 @@ class DeclaredCalls:
     """
 
     def __init__(self, threads: int) -> None:
-        self._threads = FunctionThreads(max(LEAST, threads), "sagas-declared")
+        self._threads = FunctionThreads(max(MIN_THREADS, threads), "sagas-declared")
         self.end, self.close = self._threads.end, self._threads.close
 
     async def call(self, name: str, function: Callable[[], T]) -> T:
@@ -48,9 +48,9 @@ class DeclaredCalls:
         extras.returned |= answers
         return True
 
-    async def fit(self, shelf: Shelf, saga: Saga, text: str) -> Fitted:
+    async def fit(self, registry: Shelf, saga: Saga, text: str) -> Fitted:
         """Return the definition of a saga with an input. See `Shelf.fit`."""
-        fitted = shelf.fit(saga, text)
+        fitted = registry.fit(saga, text)
         if fitted is None:
-            fitted = shelf.shaped(text, await self.call(saga.name, shelf.shaping(saga, text)))
+            fitted = registry.shaped(text, await self.call(saga.name, registry.shaping(saga, text)))
         return fitted

@@ -25,9 +25,9 @@ from sagas.definition.task import Task
 from sagas.runtime import invocation
 from sagas.runtime.current_step import CALLED
 
-LOT = 256
+MAX_BATCH = 256
 """So many that ended well are told at once: they go to the child while others are called."""
-AGAIN = 100
+RECHECK_AFTER = 100
 """Calls of a function that waited, after which it is looked at whether it still does."""
 LONG = 1.0
 """Seconds that a function may hold the loop before that is told."""
@@ -37,7 +37,7 @@ theirs: a turn takes as long as a step that has little to do.
 """
 
 
-class Functions(Protocol):
+class CallHandler(Protocol):
     """Of whom each call is asked for, and who is told what came of it."""
 
     def begins(self, attempt: Attempt) -> bool:
@@ -53,13 +53,13 @@ class Functions(Protocol):
         """It held the loop for long, up to its end or to where it first waits."""
 
 
-class Turns(Protocol):
+class TurnPolicy(Protocol):
     """How the calls of functions share the loop with the rest of a store."""
 
-    def lot(self, ready: int) -> int:
+    def batch_size(self, ready: int) -> int:
         """How many of so many that are called now are told of at once."""
 
-    def lets(self) -> bool:
+    def must_yield(self) -> bool:
         """Whether others have their turn before further functions are called."""
 
 
@@ -73,8 +73,8 @@ class Dispatcher:
 
     def __init__(
         self,
-        functions: Functions,
-        turns: Turns,
+        functions: CallHandler,
+        turns: TurnPolicy,
         jobs: dict[Attempt, asyncio.Task[None] | None],
         inside: StepTransactions | None = None,
     ) -> None:
@@ -90,28 +90,34 @@ class Dispatcher:
         self._context = contextvars.copy_context()
         self._begins, self._ended = functions.begins, functions.ended
         self._done, self._held = functions.done, functions.held_loop
-        self._lot, self._lets, self._most = turns.lot, turns.lets, LOT
+        self._batch_size, self._must_yield, self._batch_limit = (
+            turns.batch_size,
+            turns.must_yield,
+            MAX_BATCH,
+        )
         self._jobs, self._inside = jobs, inside
-        self._told = time.monotonic()
+        self._flushed_at = time.monotonic()
         self._ready: deque[Attempt] = deque()
         self._next: asyncio.Task[None] | None = None  # the task that calls those
         # functions that waited the last time, and how many calls have their own task at once
         self._waiters: dict[Function, int] = {}
-        self._over: list[Attempt] = []  # ended well, and not told
+        self._succeeded: list[Attempt] = []  # ended well, and not told
         self._failures: list[tuple[Attempt, float, Outcome | None]] = []  # not told, in seconds
-        self._turns = _Turns()  # goes on with one after the other
+        self._driver = _CoroutineDriver()  # goes on with one after the other
 
     def call(self, attempts: Sequence[Attempt]) -> None:
         """Call their simple functions soon."""
         self._ready.extend(
-            [one for one in attempts if not self._waits(one)] if self._waiters else attempts
+            [one for one in attempts if not self._starts_own_task(one)]
+            if self._waiters
+            else attempts
         )
         if self._ready and (
             self._next is None or self._next.done()
         ):  # somebody may have cancelled it
             self._next = self.start(self._work())
 
-    def _waits(self, attempt: Attempt) -> bool:
+    def _starts_own_task(self, attempt: Attempt) -> bool:
         """Call it by a task of its own, if it will wait as far as is known; return whether it
         is."""
         function = attempt.action.simple
@@ -144,16 +150,16 @@ class Dispatcher:
         """
         job, rest, since = asyncio.current_task(), None, time.monotonic()
         assert job
-        self._lets()  # who was told before had their turn before this one
+        self._must_yield()  # who was told before had their turn before this one
         try:
             while (
                 self._ready and rest is None and not job.cancelling()
             ):  # a function may cancel the task that it is in
-                rest = self._row(job)
+                rest = self._call_ready(job)
                 if (
                     self._ready
                     and rest is None
-                    and (self._lets() or time.monotonic() - since > TURN)
+                    and (self._must_yield() or time.monotonic() - since > TURN)
                 ):
                     await asyncio.sleep(0)
                     since = time.monotonic()
@@ -162,14 +168,14 @@ class Dispatcher:
         if rest is not None:
             await rest
 
-    def _row(self, job: asyncio.Task[None]) -> Coroutine[Any, Any, None] | None:
+    def _call_ready(self, job: asyncio.Task[None]) -> Coroutine[Any, Any, None] | None:
         """Call those that are ready now, up to one that waits; return what is left of it."""
         ready, jobs = self._ready, self._jobs
-        self._most = min(LOT, self._lot(len(ready)))
+        self._batch_limit = min(MAX_BATCH, self._batch_size(len(ready)))
         try:
             for _ in range(len(ready)):
                 attempt = ready.popleft()
-                if self._waiters and self._waits(attempt):
+                if self._waiters and self._starts_own_task(attempt):
                     continue
                 if self._begins(attempt):
                     jobs[attempt] = job
@@ -178,25 +184,25 @@ class Dispatcher:
                         return rest
             return None
         finally:
-            if self._over or self._failures:
-                self._tell()
+            if self._succeeded or self._failures:
+                self._flush()
 
-    def _tell(self) -> None:
+    def _flush(self) -> None:
         """Tell of those that are over; those that failed first, so that all of a shard go on
         together.
         """
-        over, self._over = self._over, []
+        succeeded, self._succeeded = self._succeeded, []
         failures, self._failures = self._failures, []
         for attempt, took, outcome in failures:
             self._ended(attempt, time.monotonic() - took, outcome)
-        told, self._told = self._told, time.monotonic()
-        if self._told - told > LONG:  # else none of them took so long
-            for attempt in over:
-                self._look(attempt, attempt.took or 0.0)
-        if over:
-            self._done(over)
+        previous, self._flushed_at = self._flushed_at, time.monotonic()
+        if self._flushed_at - previous > LONG:  # else none of them took so long
+            for attempt in succeeded:
+                self._check_loop_held(attempt, attempt.took or 0.0)
+        if succeeded:
+            self._done(succeeded)
 
-    def _look(self, attempt: Attempt, seconds: float) -> None:
+    def _check_loop_held(self, attempt: Attempt, seconds: float) -> None:
         if seconds > LONG:
             self._held(attempt, seconds)
 
@@ -216,7 +222,7 @@ class Dispatcher:
     def _call(self, attempt: Attempt) -> Coroutine[Any, Any, None] | None:
         """Call its function up to where it waits; return what is left."""
         function, began, context = attempt.action.simple, time.monotonic(), self._context.copy()
-        turns, inside = self._turns, self._inside
+        turns, inside = self._driver, self._inside
         assert function
         context.run(CALLED.set, attempt)
         task: Task[Any] = Task(attempt)
@@ -231,37 +237,37 @@ class Dispatcher:
                 work = _awaited(work)
             waits_for = context.run(turns.go, work)
         except BaseException as error:
-            self._turns = _Turns()
+            self._driver = _CoroutineDriver()
             if inside and task.leave() is not None:
                 return self._wait(attempt, began, task, inside.end(attempt, task, _raised(error)))
             self._failed(attempt, began, inside.raised(error) if inside else error)
             return None
         if waits_for is not turns.over:
-            self._turns = _Turns()
-            rest = _whole(_Rest(turns, waits_for, context))
-            return self._late(attempt, function, began, task, rest)
+            self._driver = _CoroutineDriver()
+            rest = _whole_result(_Continuation(turns, waits_for, context))
+            return self._suspended(attempt, function, began, task, rest)
         value, attempt.took = waits_for.pop(), time.monotonic() - began
         try:
             attempt.outcome = outcomes.succeeded(value, task)
         except outcomes.Unawaited:
-            return self._late(attempt, function, began, task, _come_of(value, context))
+            return self._suspended(attempt, function, began, task, _awaited_value(value, context))
         if inside and task.leave() is not None:
-            return self._late(attempt, function, began, task, awaitables.whole(value))
-        self._over.append(attempt)
-        if len(self._over) >= self._most:
-            self._tell()
+            return self._suspended(attempt, function, began, task, awaitables.whole(value))
+        self._succeeded.append(attempt)
+        if len(self._succeeded) >= self._batch_limit:
+            self._flush()
         return None
 
     def _failed(self, attempt: Attempt, began: float, error: BaseException) -> None:
         """It has raised, before it waited for anything."""
         outcome = invocation.interrupted(error, attempt.manner)
         took = time.monotonic() - began
-        self._look(attempt, took)
+        self._check_loop_held(attempt, took)
         self._failures.append((attempt, took, outcome))
-        if outcome is None or len(self._over) + len(self._failures) >= self._most:
-            self._tell()
+        if outcome is None or len(self._succeeded) + len(self._failures) >= self._batch_limit:
+            self._flush()
 
-    def _late(
+    def _suspended(
         self,
         attempt: Attempt,
         function: Function,
@@ -270,8 +276,8 @@ class Dispatcher:
         rest: Awaitable[Any],
     ) -> Coroutine[Any, Any, None]:
         """What is left of one that waits."""
-        self._waiters[function] = AGAIN
-        self._look(attempt, time.monotonic() - began)
+        self._waiters[function] = RECHECK_AFTER
+        self._check_loop_held(attempt, time.monotonic() - began)
         if self._inside:
             rest = self._inside.end(attempt, task, rest)
         return self._wait(attempt, began, task, rest)
@@ -295,18 +301,18 @@ async def _raised(error: BaseException) -> Any:
     raise error
 
 
-async def _come_of(value: Any, context: contextvars.Context) -> Any:
+async def _awaited_value(value: Any, context: contextvars.Context) -> Any:
     """What comes of what a function gave that is to be awaited, in its context."""
-    return await _Rest(_Turns(), None, context, awaitables.whole(value))
+    return await _Continuation(_CoroutineDriver(), None, context, awaitables.whole(value))
 
 
-async def _whole(rest: _Rest) -> Any:
+async def _whole_result(rest: _Continuation) -> Any:
     """What is left, and what comes of that, where it is to be awaited."""
     value = await rest
-    return await _come_of(value, rest.context) if inspect.isawaitable(value) else value
+    return await _awaited_value(value, rest.context) if inspect.isawaitable(value) else value
 
 
-class _Turns:
+class _CoroutineDriver:
     """Goes on with one function after the other, up to where it waits or is over. A function
     that it sends along would end by an exception, which takes as long as a short function; so
     what it sends on is over by giving `over`, a list of what it returned, and is then sent the
@@ -317,37 +323,37 @@ class _Turns:
 
     def __init__(self) -> None:
         self.over: list[Any] = []
-        turns = _one_by_one(self.over)
+        turns = _drive(self.over)
         next(turns)
         self.go: Callable[[Any], Any] = turns.send
         self.fail: Callable[[BaseException], Any] = turns.throw
 
 
 @types.coroutine
-def _one_by_one(over: list[Any]) -> Generator[Any, Any, None]:
+def _drive(over: list[Any]) -> Generator[Any, Any, None]:
     work = yield
     while True:
         over.append((yield from work))
         work = yield over
 
 
-class _Rest:
+class _Continuation:
     """What is left of a function that waits for something (None: the loop's next turn), each
     part of it in its context; gives what it returns.
     """
 
     def __init__(
         self,
-        turns: _Turns,
+        turns: _CoroutineDriver,
         waits_for: Any,
         context: contextvars.Context,
         work: Coroutine[Any, Any, Any] | None = None,
     ) -> None:
         """`work`: it is not begun yet, and goes on with that."""
-        self._turns, self._waits_for, self.context, self._work = turns, waits_for, context, work
+        self._driver, self._waits_for, self.context, self._work = turns, waits_for, context, work
 
     def __await__(self) -> Generator[Any, Any, Any]:
-        turns, waits_for, work = self._turns, self._waits_for, self._work
+        turns, waits_for, work = self._driver, self._waits_for, self._work
         while waits_for is not turns.over:
             try:
                 go_on, told = turns.go, (yield waits_for)

@@ -10,7 +10,7 @@ from sagas.core import early_reports
 from sagas.core.early_reports import EarlyReport, Refusal
 from sagas.core.model import SagaInstance
 from sagas.definition.compiled import Word
-from sagas.runtime.executor_host import Host
+from sagas.runtime.executor_host import CoordinatorForExecutor
 
 
 class EarlyReports:
@@ -20,8 +20,8 @@ class EarlyReports:
     store.
     """
 
-    def __init__(self, host: Host, clock: Callable[[], float]) -> None:
-        self._host, self._clock = host, clock
+    def __init__(self, coordinator: CoordinatorForExecutor, clock: Callable[[], float]) -> None:
+        self._coordinator, self._clock = coordinator, clock
         self._waiting: dict[EarlyReport | Refusal, asyncio.Future[None]] = {}
 
     def put(self, report: EarlyReport | Refusal) -> asyncio.Future[None]:
@@ -33,19 +33,19 @@ class EarlyReports:
             NotSerializable: The codec failed.
         """
         shard = report.saga.shard
-        runner = self._host.runner(shard) if shard else None
+        runner = self._coordinator.runner(shard) if shard else None
         if shard is None or runner is None:
             raise Moved(f"saga {report.saga.key!r}")
         effects = early_reports.effects(shard, report, self._clock()) if shard.is_known else None
-        future = self._waiting[report] = self._host.loop.create_future()
+        future = self._waiting[report] = self._coordinator.loop.create_future()
         if effects:
             runner.keep(effects)
         return future
 
     def waiting(self, saga: SagaInstance, word: Word) -> asyncio.Future[None] | None:
         """Return the future of a report of this step that is on its way; None if there is none."""
-        for one, future in self._waiting.items():
-            if isinstance(one, EarlyReport) and one.saga is saga and one.word == word:
+        for report, future in self._waiting.items():
+            if isinstance(report, EarlyReport) and report.saga is saga and report.word == word:
                 return future
         return None
 
@@ -56,7 +56,7 @@ class EarlyReports:
 
     def look_again(self, shard: int, error: SagasError | None = None) -> None:
         """A shard was recovered, or is not driven here any more: who waits hears so."""
-        for report in [one for one in self._waiting if _number(one) == shard]:
+        for report in [report for report in self._waiting if _number(report) == shard]:
             future = self._waiting.pop(report)
             if not future.done():
                 future.set_exception(error or Moved(f"saga {report.saga.key!r}"))

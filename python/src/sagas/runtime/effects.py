@@ -18,10 +18,10 @@ from sagas.runtime.instances import Instances
 from sagas.runtime.relocation import conflict
 
 
-class Home(Protocol):
+class ShardsForEffects(Protocol):
     """The shards of the program."""
 
-    def place(self, saga: SagaInstance) -> None:
+    def assign(self, saga: SagaInstance) -> None:
         """Open it in another shard."""
 
     def refuse(self, saga: SagaInstance, error: SagasError) -> None:
@@ -35,14 +35,14 @@ class Home(Protocol):
         not that saga.
         """
 
-    def meet(self, saga: SagaInstance) -> None:
+    def compare_with_stored(self, saga: SagaInstance) -> None:
         """Its key has a saga of which large values are not held: look whether it is the same."""
 
     def doubt(self) -> None:
         """Starts of clients that are this node's may not be under way."""
 
 
-class Offers(Protocol):
+class ExternalOffers(Protocol):
     """What is offered to external workers."""
 
     def offered(self, attempt: Attempt) -> None:
@@ -59,10 +59,15 @@ class EffectHandler:
     """Does what effects say: at once, and once their batch is durable."""
 
     def __init__(
-        self, executor: Executor, sagas: Instances, teller: Teller, home: Home, offers: Offers
+        self,
+        executor: Executor,
+        sagas: Instances,
+        teller: Teller,
+        shards: ShardsForEffects,
+        offers: ExternalOffers,
     ) -> None:
         self._executor, self._slots, self._sagas = executor, executor.slots, sagas
-        self._teller, self._home, self._offers = teller, home, offers
+        self._teller, self._shards, self._offers = teller, shards, offers
         self._acknowledgements = executor.calls.acknowledgements
 
     def at_once(self, effects: Effects) -> None:
@@ -72,7 +77,7 @@ class EffectHandler:
         if effects.unclaimed:
             self._slots.release(effects.unclaimed)
         for saga in effects.rare.displaced:
-            self._home.place(saga)
+            self._shards.assign(saga)
 
     def lost(self, effects: Effects) -> None:
         """The batch is not durable: nothing of it begins."""
@@ -131,39 +136,39 @@ class EffectHandler:
 
     # -- of a shard that was recovered
 
-    def found(self, found: Recovery) -> None:
+    def recovered(self, recovery: Recovery) -> None:
         """Do what was found of its sagas."""
         if self._acknowledgements is not None:
-            self._acknowledgements.recovered(found)
-        for before, saga in found.replaced:
+            self._acknowledgements.recovered(recovery)
+        for before, saga in recovery.replaced:
             kind = saga.kind
             if saga.text == ABSENT:
-                self._home.withdraw(before)
-                self._home.meet(before)
+                self._shards.withdraw(before)
+                self._shards.compare_with_stored(before)
                 continue
             if error := conflict(saga.key, before.kind, before.text, kind.name, saga.text):
-                self._sagas.starts.tell(before, error)
-                self._sagas.ends.tell(before, error)
-            self._home.withdraw(before)
+                self._sagas.starts.notify(before, error)
+                self._sagas.ends.notify(before, error)
+            self._shards.withdraw(before)
             self._sagas.replace(before, saga)
-        for saga in found.restored:
+        for saga in recovery.restored:
             self._sagas.by_key[saga.key] = saga
-            self._sagas.tell_started(saga)
-        for saga in found.gone:
-            self._home.leave(saga, None)
+            self._sagas.notify_started(saga)
+        for saga in recovery.gone:
+            self._shards.leave(saga, None)
             if saga.start is not None:
-                self._home.doubt()
-        for attempt in found.forgotten:
+                self._shards.doubt()
+        for attempt in recovery.forgotten:
             self._executor.forget(attempt)
-        for abort in found.aborted:
+        for abort in recovery.aborted:
             self._sagas.answer_abort(abort)
-        self._executor.early.look_again(found.effects.batch.log)
+        self._executor.early.look_again(recovery.effects.batch.log)
 
-    def resume(self, found: Recovery) -> None:
+    def resume(self, recovery: Recovery) -> None:
         """Go on with its attempts."""
-        for attempt in found.resumed:
+        for attempt in recovery.resumed:
             self._executor.resume(attempt)
-        for saga in found.draining:
+        for saga in recovery.draining:
             self._executor.drain(saga)
         self._offers.look()
 
@@ -183,24 +188,24 @@ class EffectHandler:
         self._teller.tell("saga_aborted", key=saga.key, saga=saga.kind.name)
 
     def _opened(self, sagas: Sequence[SagaInstance]) -> None:
-        tells = self._teller.wants("saga_started")
+        is_wanted = self._teller.wants("saga_started")
         for saga in sagas:
-            self._sagas.tell_started(saga)
-            if tells:
+            self._sagas.notify_started(saga)
+            if is_wanted:
                 self._teller.tell("saga_started", key=saga.key, saga=saga.kind.name)
 
     def _ended(self, sagas: Sequence[SagaInstance]) -> None:
-        tells = self._teller.wants("saga_ended")
+        is_wanted = self._teller.wants("saga_ended")
         for saga in sagas:
-            self._sagas.tell_ended(saga)
-            if tells or saga.phase != "ended":
-                self._tell_end(saga)
+            self._sagas.notify_ended(saga)
+            if is_wanted or saga.phase != "ended":
+                self._emit_end(saga)
             if saga.odd and saga.phase == "ended" and (steps := undo_failures(saga.end)):
-                self._tell_undo_failed(saga, steps)
+                self._emit_undo_failed(saga, steps)
             if unused := early_reports.unused(saga):
-                self._tell_unused(saga, unused)
+                self._emit_unused(saga, unused)
 
-    def _tell_end(self, saga: SagaInstance) -> None:
+    def _emit_end(self, saga: SagaInstance) -> None:
         """How a saga ended: its phase; of a stuck one because of which steps."""
         chain = (saga.answer or {}).get("chain", ()) if saga.phase == "stuck" else ()
         names = " and ".join(saga.kind.names[step] for step in chain)
@@ -210,19 +215,19 @@ class EffectHandler:
             detail = saga_phase(saga.phase, recovered, None).value
         self._teller.tell(f"saga_{saga.phase}", key=saga.key, saga=saga.kind.name, detail=detail)
 
-    def _tell_unused(self, saga: SagaInstance, steps: Sequence[int]) -> None:
+    def _emit_unused(self, saga: SagaInstance, steps: Sequence[int]) -> None:
         """A saga ended without reports that were accepted: what steps did elsewhere is there."""
         names = " and ".join(saga.kind.names[step] for step in steps)
         detail = f"{names}: a success was reported before the step began, and was not used"
         self._teller.tell("saga_unused_report", key=saga.key, saga=saga.kind.name, detail=detail)
         self._sagas.unused()
 
-    def _tell_undo_failed(self, saga: SagaInstance, steps: Sequence[int]) -> None:
+    def _emit_undo_failed(self, saga: SagaInstance, steps: Sequence[int]) -> None:
         """A saga ended, and what steps of it did stands against its plan."""
         stands = [saga.kind.names[step] for step in steps]
-        told = (
+        remedy = (
             "the compensation failed permanently. Repair the effect, then mark the saga "
             "as resolved"
         )
-        detail = f"{' and '.join(stands)}: {told}"
+        detail = f"{' and '.join(stands)}: {remedy}"
         self._teller.tell("saga_undo_failed", key=saga.key, saga=saga.kind.name, detail=detail)

@@ -28,7 +28,7 @@ from sagas.runtime import remote_steps
 from sagas.runtime.calls import Calls
 from sagas.runtime.children import Children
 from sagas.runtime.early_reports import EarlyReports
-from sagas.runtime.executor_host import External, Host, Runner
+from sagas.runtime.executor_host import ExternalTasks, CoordinatorForExecutor, RunnerForExecutor
 from sagas.runtime.fleet_limits import Fleet
 from sagas.runtime.stored_values import ValueReader
 from sagas.runtime.waiters import Waiters
@@ -36,7 +36,7 @@ from sagas.runtime.waiters import Waiters
 UNDECIDED = (Do.READ, Do.ASK)
 """What has to be known first."""
 DONE = ("commit", "undone")
-MISSED = {"missed": "step_retrying", "undo_missed": "step_retrying"}
+RETRYING = {"missed": "step_retrying", "undo_missed": "step_retrying"}
 
 
 class Executor:
@@ -57,26 +57,30 @@ class Executor:
 
     def __init__(
         self,
-        host: Host,
-        external: External,
+        coordinator: CoordinatorForExecutor,
+        external: ExternalTasks,
         concurrency: int,
         threads: Threads,
         tracer: Tracer | None = None,
     ) -> None:
-        self._host, self._external = host, external
-        self._loop, self._clock, self._teller = host.loop, host.clock, host.teller
-        self.machine = AttemptMachine()
-        self.slots = Slots(concurrency, self._start, host.feed)
-        self.fleet = Fleet(host, self.slots.enter)
-        remote = functools.partial(remote_steps.call, external)
-        self.values = ValueReader(host, self._unread)
-        self.calls = Calls(
-            self, host, self.slots, self.fleet, threads, remote, tracer, self.values.fill
+        self._coordinator, self._external = coordinator, external
+        self._loop, self._clock, self._teller = (
+            coordinator.loop,
+            coordinator.clock,
+            coordinator.teller,
         )
-        self.changes: Waiters[Attempt] = Waiters(host.loop)
-        self.kept: Waiters[Attempt] = Waiters(host.loop)
-        self.children = Children(host, self, self.values)
-        self.early = EarlyReports(host, host.clock)
+        self.machine = AttemptMachine()
+        self.slots = Slots(concurrency, self._start, coordinator.feed)
+        self.fleet = Fleet(coordinator, self.slots.enter)
+        remote = functools.partial(remote_steps.call, external)
+        self.values = ValueReader(coordinator, self._unread)
+        self.calls = Calls(
+            self, coordinator, self.slots, self.fleet, threads, remote, tracer, self.values.fill
+        )
+        self.changes: Waiters[Attempt] = Waiters(coordinator.loop)
+        self.kept: Waiters[Attempt] = Waiters(coordinator.loop)
+        self.children = Children(coordinator, self, self.values)
+        self.early = EarlyReports(coordinator, coordinator.clock)
         self._timers: dict[Attempt, asyncio.TimerHandle] = {}
         self._doubted: set[Attempt] = set()  # it is looked for what their workers reported
         self.closing = False
@@ -137,30 +141,30 @@ class Executor:
 
     def _do(self, attempt: Attempt, decision: Decision, at_once: bool = False) -> None:
         if decision.event:
-            self.tell(attempt, *decision.event)
+            self.emit(attempt, *decision.event)
         if decision.do is Do.CALL:
             self.enter(attempt)
         elif decision.do is Do.READ:
-            self._host.spawn(self.values.then(attempt, self._go_on))
+            self._coordinator.spawn(self.values.then(attempt, self._go_on))
         elif decision.do is Do.ASK:
             self._ask(attempt, decision, self._go_on)
         elif decision.do is Do.REPORT:
             self._finished(attempt, at_once)
         elif decision.do is Do.OFFER:
-            self.changes.tell(attempt)
+            self.changes.notify(attempt)
             self._external.offer(attempt)
         elif decision.do is Do.WITHDRAW:
             self._external.withdraw(attempt)
         elif decision.do is Do.FOLLOW:
-            self.changes.tell(attempt)
+            self.changes.notify(attempt)
             self.children.follow(attempt)
         elif decision.do is Do.SUSPEND:
             if decision.timer:
                 self._set_timer(attempt)
-            self.changes.tell(attempt)
+            self.changes.notify(attempt)
         if attempt.state is SUSPENDED and decision.do not in UNDECIDED:
             if decision.do is not Do.WITHDRAW:
-                self._note(attempt, decision.row)
+                self._add_to_history(attempt, decision.row)
             attempt.instance.release()
         if decision.row:
             self._put(attempt, decision.row)
@@ -173,12 +177,12 @@ class Executor:
     def _ask(self, attempt: Attempt, decision: Decision, go_on: Callable[[Attempt], None]) -> None:
         """Call functions of its definition, and go on with it."""
         assert decision.question
-        self._host.spawn(self._asked(attempt, decision.question, go_on))
+        self._coordinator.spawn(self._answer_question(attempt, decision.question, go_on))
 
-    async def _asked(
+    async def _answer_question(
         self, attempt: Attempt, question: Question, go_on: Callable[[Attempt], None]
     ) -> None:
-        if await self._host.declared.answer(attempt, question):
+        if await self._coordinator.declared.answer(attempt, question):
             go_on(attempt)
         attempt.instance.release()
 
@@ -187,7 +191,7 @@ class Executor:
         if not self.closing:
             self._do(attempt, self.machine.unread(attempt, error, self._clock()))
 
-    def _note(self, attempt: Attempt, row: SuspensionRow | None = None) -> None:
+    def _add_to_history(self, attempt: Attempt, row: SuspensionRow | None = None) -> None:
         """For its history. Of what others do the table of external attempts tells."""
         is_first = not (attempt.extras and attempt.extras.noted)
         if not (is_first and attempt.reason is Suspension.EXTERNAL):
@@ -197,13 +201,13 @@ class Executor:
         self._drop_timer(attempt)
         delay = self.machine.delay(attempt, self._clock())
         if delay is not None:
-            self._timers[attempt] = self._loop.call_later(delay, self._rang, attempt)
+            self._timers[attempt] = self._loop.call_later(delay, self._timer_fired, attempt)
 
     def _drop_timer(self, attempt: Attempt) -> None:
         if self._timers and (timer := self._timers.pop(attempt, None)):
             timer.cancel()
 
-    def _rang(self, attempt: Attempt) -> None:
+    def _timer_fired(self, attempt: Attempt) -> None:
         self._timers.pop(attempt, None)
         if not self.closing:
             self._do(attempt, self.machine.timer(attempt, self._clock()))
@@ -224,8 +228,8 @@ class Executor:
             return
         self._do(attempt, self.machine.stored(attempt))
         if attempt.state is not FINISHED:
-            self.kept.tell(attempt)
-        self.changes.tell(attempt)
+            self.kept.notify(attempt)
+        self.changes.notify(attempt)
         if attempt.is_external and attempt.state is SUSPENDED:
             if attempt.reason is Suspension.EXTERNAL:  # it was to be offered meanwhile
                 self._external.offer(attempt)
@@ -237,7 +241,7 @@ class Executor:
             return
         decision = self.machine.limit(attempt, self._clock())
         if decision.do is Do.READ:
-            self._host.spawn(self.values.then(attempt, self.enter))
+            self._coordinator.spawn(self.values.then(attempt, self.enter))
             return
         if decision.do is Do.ASK:
             self._ask(attempt, decision, self.enter)
@@ -251,7 +255,7 @@ class Executor:
         else:
             self.slots.enter(attempt)
         if attempt.state in (SUSPENDED, QUEUED):
-            self._note(attempt)
+            self._add_to_history(attempt)
             attempt.instance.release()
 
     def _start(self, attempt: Attempt) -> None:
@@ -272,25 +276,25 @@ class Executor:
         is_awaited = self.changes.futures
         for attempt in attempts:
             if is_awaited:
-                self.changes.tell(attempt)
+                self.changes.notify(attempt)
             shard = attempt.instance.shard
             assert shard
             shard.reports[attempt] = shards[shard] = None
         for shard in shards:
-            if runner := self._host.runner(shard):
+            if runner := self._coordinator.runner(shard):
                 runner.poke(at_once=True)
 
     def keep_progress(self) -> None:
         """Write what functions told of their progress since the last look."""
         shards: dict[ShardDriver, Effects] = {}
         now = self._clock()
-        for attempt in self.calls.news():
+        for attempt in self.calls.with_new_progress():
             shard, control = attempt.instance.shard, attempt.control
             if shard and shard.is_known and control.progress:
                 effects = shards.setdefault(shard, shard.effects(now))
                 effects.batch.more.progress.append((*attempt.row, *control.progress, now))
         for shard, effects in shards.items():
-            if runner := self._host.runner(shard):
+            if runner := self._coordinator.runner(shard):
                 runner.keep(effects)
 
     def finish(self, attempt: Attempt, outcome: Outcome) -> None:
@@ -324,18 +328,18 @@ class Executor:
         """Nobody knows whether its transaction was committed: its shard is recovered, which
         tells.
         """
-        self.tell(attempt, "commit_failed", str(fault))
+        self.emit(attempt, "commit_failed", str(fault))
         attempt.claim()
         if runner := self._runner(attempt):
             runner.fail(fault)
 
     def _finished(self, attempt: Attempt, at_once: bool) -> None:
         self._drop_timer(attempt)
-        self._gone(attempt)
-        self.changes.tell(attempt)
+        self._stop_following(attempt)
+        self.changes.notify(attempt)
         self._report(attempt, at_once)
 
-    def _gone(self, attempt: Attempt) -> None:
+    def _stop_following(self, attempt: Attempt) -> None:
         """Whoever does it elsewhere need not be followed any more."""
         if attempt.is_external:
             self._external.gone(attempt)
@@ -346,9 +350,9 @@ class Executor:
         if runner := self._runner(attempt):
             runner.report(attempt, at_once)
 
-    def _runner(self, attempt: Attempt) -> Runner | None:
+    def _runner(self, attempt: Attempt) -> RunnerForExecutor | None:
         shard = attempt.instance.shard
-        return self._host.runner(shard) if shard else None
+        return self._coordinator.runner(shard) if shard else None
 
     # -- reports that were not kept
 
@@ -362,15 +366,15 @@ class Executor:
             self._report(attempt)
         elif attempt not in self._doubted:
             self._doubted.add(attempt)
-            self._host.spawn(self._report_what_was_done(attempt))
+            self._coordinator.spawn(self._report_what_was_done(attempt))
 
     async def _report_what_was_done(self, attempt: Attempt) -> None:
         """The success that its worker reported counts, and whoever said otherwise hears so."""
         try:
             done = await self._external.find_done(attempt.token())
         except asyncio.CancelledError:  # the store is closed
-            host = self._host
-            self._refuse(attempt, host.closed or Closed(str(host.store.path)))
+            coordinator = self._coordinator
+            self._refuse(attempt, coordinator.closed or Closed(str(coordinator.store.path)))
             raise
         finally:
             self._doubted.discard(attempt)
@@ -379,9 +383,9 @@ class Executor:
         if is_gone or attempt.instance.busy.get(attempt.word) is not attempt:
             return
         if done:
-            where = f"saga {attempt.key!r}, step {attempt.name!r}"
-            told = f"{where}: its worker has reported success"
-            self._refuse(attempt, StepNotWaiting(told))
+            subject = f"saga {attempt.key!r}, step {attempt.name!r}"
+            message = f"{subject}: its worker has reported success"
+            self._refuse(attempt, StepNotWaiting(message))
             attempt.outcome = done
         self.machine.report(attempt)
         self._report(attempt)
@@ -389,23 +393,23 @@ class Executor:
     def _refuse(self, attempt: Attempt, error: SagasError) -> None:
         """Whoever said how it ended hears that this does not count."""
         attempt.rare.request = None
-        self.kept.tell(attempt, error)
+        self.kept.notify(attempt, error)
 
     # -- reports in the store
 
     def reported(self, attempts: Sequence[Attempt]) -> None:
         """Their reports are in the store, each with its event."""
-        tells = self._teller.wants("step_succeeded")
+        is_wanted = self._teller.wants("step_succeeded")
         is_awaited = self.kept.futures
         for attempt in attempts:
             if is_awaited:
-                self.kept.tell(attempt)
+                self.kept.notify(attempt)
             if attempt.event not in DONE:
-                self._tell_failure(attempt)
-            elif tells:
-                self.tell(attempt, "step_succeeded")
+                self._emit_failure(attempt)
+            elif is_wanted:
+                self.emit(attempt, "step_succeeded")
 
-    def _tell_failure(self, attempt: Attempt) -> None:
+    def _emit_failure(self, attempt: Attempt) -> None:
         """What was raised; with its traceback where no further attempt is made. Of attempts that
         are given up behind a permanent failure nothing is told.
         """
@@ -414,15 +418,15 @@ class Executor:
         final = outcome.kind is OutcomeKind.FAILED_PERMANENTLY
         if final and not outcome.called:
             return
-        name = "step_failed" if final else MISSED.get(attempt.event, "step_failed")
+        name = "step_failed" if final else RETRYING.get(attempt.event, "step_failed")
         level = None if outcome.called else logging.INFO
         if not self._teller.wants(name):
             return
         doubt = outcomes.doubt(outcome.error, attempt.manner)
         detail = f"{outcomes.fault(outcome)}{doubt}"
-        self.tell(attempt, name, detail, level, outcome.error if name == "step_failed" else None)
+        self.emit(attempt, name, detail, level, outcome.error if name == "step_failed" else None)
 
-    def tell(
+    def emit(
         self,
         attempt: Attempt,
         name: str,
@@ -459,8 +463,8 @@ class Executor:
         has its shard. Callers that wait for its report look into the store.
         """
         self._drop_timer(attempt)
-        self._gone(attempt)
-        self.kept.tell(attempt, Moved(f"saga {attempt.key!r}"))
-        self.changes.tell(attempt)
+        self._stop_following(attempt)
+        self.kept.notify(attempt, Moved(f"saga {attempt.key!r}"))
+        self.changes.notify(attempt)
         attempt.forget()
         self.calls.forget(attempt)

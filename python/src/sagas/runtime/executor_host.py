@@ -16,16 +16,16 @@ from sagas.core.shard import ShardDriver
 from sagas.core.suspensions import SuspensionRow
 from sagas.definition.shelf import Shelf
 from sagas.runtime.declared_calls import DeclaredCalls
-from sagas.runtime.dispatcher import Turns
+from sagas.runtime.dispatcher import TurnPolicy
 from sagas.storage.interface import Database
 
 
-class Host(Turns, Protocol):
+class CoordinatorForExecutor(TurnPolicy, Protocol):
     """What attempts need of the open store around them."""
 
     loop: asyncio.AbstractEventLoop
     store: Database
-    shelf: Shelf
+    registry: Shelf
     teller: Teller
     clock: Callable[[], float]
     closed: SagasError | None
@@ -34,14 +34,14 @@ class Host(Turns, Protocol):
     def feed(self) -> None:
         """There are slots again."""
 
-    def runner(self, shard: ShardDriver) -> Runner | None:
+    def runner(self, shard: ShardDriver) -> RunnerForExecutor | None:
         """What drives a shard here; None if it is not this program's any more."""
 
     def spawn(self, work: Coroutine[None, None, None]) -> asyncio.Task[None]:
         """Do it in the background."""
 
 
-class Runner(Protocol):
+class RunnerForExecutor(Protocol):
     """What drives a shard."""
 
     has_unread: bool
@@ -62,7 +62,7 @@ class Runner(Protocol):
         """Recover it: nobody knows what is in the store."""
 
 
-class External(Protocol):
+class ExternalTasks(Protocol):
     """The tasks of external workers."""
 
     def offer(self, attempt: Attempt) -> None:

@@ -32,7 +32,7 @@ from sagas.core.states import OutcomeKind, Suspension
 from sagas.definition import tokens
 from sagas.definition.blobs import BlobUnavailable
 from sagas.definition.capacity import SHARD_CAPACITY
-from sagas.runtime.offer_check import is_out
+from sagas.runtime.offer_check import awaits_worker
 from sagas.runtime.retries import until_answered
 from sagas.storage import queries
 from sagas.storage.external import Report, Row
@@ -54,22 +54,22 @@ EVENT = "SELECT event, value FROM attempts WHERE id = ? AND step = ? AND action 
 class ExternalReports:
     """Takes reports, also those that other nodes or workers have left in the table."""
 
-    def __init__(self, owner: Coordinator) -> None:
-        self.owner = owner
-        self._table = owner.store.external
+    def __init__(self, coordinator: Coordinator) -> None:
+        self.coordinator = coordinator
+        self._table = coordinator.store.external
         self._signer = Signer(secrets.token_bytes(32))
         self._has_any = self._is_looking = self._looks_again = False
         self._reports: dict[str, asyncio.Future[Outcome]] = {}
 
     def _raise_if_closed(self) -> None:
-        if self.owner.closed:
-            raise self.owner.closed
+        if self.coordinator.closed:
+            raise self.coordinator.closed
 
     @contextlib.contextmanager
     def reports(self, attempt: Attempt) -> Iterator[asyncio.Future[Outcome]]:
         """What is reported of one whose message is out."""
         token = attempt.token()
-        future = self._reports[token] = self.owner.loop.create_future()
+        future = self._reports[token] = self.coordinator.loop.create_future()
         try:
             yield future
         finally:
@@ -78,11 +78,11 @@ class ExternalReports:
 
     def find(self, token: str) -> Attempt | None:
         """The attempt with this id, if it is under way here."""
-        told = tokens.parse(token)
-        if not told:
+        parts = tokens.parse(token)
+        if not parts:
             raise NoSuchTask(f"{token!r} is not the attempt id of a task")
-        name, number, step, kind, count = told
-        shard = self.owner.shards.named(name)
+        name, number, step, kind, count = parts
+        shard = self.coordinator.shards.named(name)
         saga = shard.sagas.get(number) if shard else None
         if shard is None or saga is None or step not in saga.kind.names:
             return None
@@ -90,9 +90,9 @@ class ExternalReports:
         busy = saga.busy.get(word)
         if busy is not None and busy.attempt == count:
             return busy
-        for one in shard.unkept():  # finished
-            if one.instance is saga and one.word == word and one.attempt == count:
-                return one
+        for candidate in shard.unkept():  # finished
+            if candidate.instance is saga and candidate.word == word and candidate.attempt == count:
+                return candidate
         return None
 
     async def report(
@@ -113,7 +113,7 @@ class ExternalReports:
         shard = await self._table.report(token, number, str(outcome.kind), value)
         if shard is None:
             return await self._repeated(token, number, outcome)
-        if shard in self.owner.shards.runners:
+        if shard in self.coordinator.shards.runners:
             if stored is not None:
                 stored()
             await self._apply(Report(token, str(outcome.kind), value))
@@ -123,14 +123,14 @@ class ExternalReports:
 
     def _encoded(self, outcome: Outcome) -> str:
         """The value of an outcome, as the table has it: a result is encoded."""
-        payloads = self.owner.shelf.payloads
+        payloads = self.coordinator.registry.payloads
         is_result = payloads.codec is not None and outcome.kind is SUCCEEDED
         return outcomes.stored(payloads, outcome.value) if is_result else outcome.value
 
     def _delivered(self, outcome: OutcomeKind, value: str) -> Outcome:
         """What was reported, by what the table has."""
-        found = outcomes.delivered(outcome, value)
-        return found._replace(encoded=self.owner.shelf.payloads.is_encoded(value))
+        reported = outcomes.delivered(outcome, value)
+        return reported._replace(encoded=self.coordinator.registry.payloads.is_encoded(value))
 
     async def park(self, token: str, number: int, why: CannotDecode | BlobUnavailable) -> None:
         """Set a claimed task aside that cannot be handed out: it waits for a program that can read
@@ -139,7 +139,7 @@ class ExternalReports:
         outcome = outcomes.unreadable(str(why), passes=isinstance(why, BlobUnavailable))
         with contextlib.suppress(StoreUnavailable):  # the lease ends, and it is claimed again
             shard = await self._table.report(token, number, str(outcome.kind), outcome.value)
-            if shard in self.owner.shards.runners:
+            if shard in self.coordinator.shards.runners:
                 await self._apply(Report(token, str(outcome.kind), outcome.value))
             elif shard is not None:
                 await self._table.tell()
@@ -151,7 +151,7 @@ class ExternalReports:
             return
         if attempt.state is FINISHED:
             with contextlib.suppress(SagasError):  # it is kept, and is looked at again
-                await self.owner.executor.kept.wait(attempt)
+                await self.coordinator.executor.kept.wait(attempt)
 
     def _deliver(self, report: Report, attempt: Attempt) -> bool:
         """Whether what was reported of an attempt that is under way here could be said of it
@@ -164,28 +164,28 @@ class ExternalReports:
                 waiting.set_result(outcome)
             return True
         is_known = attempt.reason in RETRIED
-        if attempt.state is not SUSPENDED or not (is_known or is_out(attempt)):
+        if attempt.state is not SUSPENDED or not (is_known or awaits_worker(attempt)):
             return False
         if outcome.kind in (UNKNOWN, CANNOT_DECODE) and attempt.lease:
             attempt.rare.lease = None  # it ended with that: whoever claims it next has another
         if outcome.kind is SUCCEEDED or not is_known:
-            self.owner.executor.ended(attempt, outcome)
+            self.coordinator.executor.ended(attempt, outcome)
         elif outcome.kind is not UNKNOWN and attempt.reason is Suspension.UNKNOWN:
-            self.owner.executor.ended(attempt, outcome)
+            self.coordinator.executor.ended(attempt, outcome)
         return True
 
     def look(self) -> None:
         """Something may have been reported."""
         self._looks_again = True
-        if not self._is_looking and not self.owner.closed and self._has_any:
+        if not self._is_looking and not self.coordinator.closed and self._has_any:
             self._is_looking = True
-            self.owner.spawn(self._look())
+            self.coordinator.spawn(self._look())
 
     async def _look(self) -> None:
         try:
-            while self._looks_again and not self.owner.closed:
+            while self._looks_again and not self.coordinator.closed:
                 self._looks_again = False
-                for report in await self._table.reported([*self.owner.shards.runners]):
+                for report in await self._table.reported([*self.coordinator.shards.runners]):
                     if attempt := self.find(report.attempt):
                         self._deliver(report, attempt)
         except StoreUnavailable:
@@ -204,20 +204,20 @@ class ExternalReports:
         row = await self._table.find(token)
         if row is None or row.outcome == "settled":
             return await self._settled(token, outcome)
-        said = f"lease {number} of {token}"
+        subject = f"lease {number} of {token}"
         if row.reported == number and row.value == outcome.value and row.outcome not in KNOWN:
             return False
         if row.outcome in KNOWN:
-            there = row.value or "null"
-            is_same = there == outcome.value or (
+            stored_value = row.value or "null"
+            is_same = stored_value == outcome.value or (
                 outcome.kind is SUCCEEDED
-                and self.owner.shelf.payloads.is_same(self._encoded(outcome), there)
+                and self.coordinator.registry.payloads.is_same(self._encoded(outcome), stored_value)
             )
             if row.outcome != outcome.kind or not is_same:
                 raise ConflictingReport(f"{token} was reported before, with another outcome")
-            await self._apply(Report(token, str(outcome.kind), there))
+            await self._apply(Report(token, str(outcome.kind), stored_value))
             return False
-        _raise_lost(row, token, number, said, outcome)
+        _raise_lost(row, token, number, subject, outcome)
         return False
 
     async def _settled(self, token: str, outcome: Outcome) -> bool:
@@ -230,20 +230,20 @@ class ExternalReports:
     async def outcome_of(self, token: str) -> tuple[str, str | None]:
         """The event that a reported task came to, and its value. Raises `NoSuchTask`,
         `OwnerUnavailable`."""
-        told, read = tokens.parse(token), self.owner.store.read
-        rows = await read(OF_TOKEN, told.number, told.shard) if told else []
+        parts, read = tokens.parse(token), self.coordinator.store.read
+        rows = await read(OF_TOKEN, parts.number, parts.shard) if parts else []
         for _, id, phase, text in rows:
-            assert told
-            names = self.owner.shelf.kind(text).names
-            step = names.index(told.step) if told.step in names else -1
-            for event, value in await read(EVENT, id, step, told.kind, told.attempt):
-                return event, value and self.owner.shelf.payloads.decode(value)
+            assert parts
+            names = self.coordinator.registry.kind(text).names
+            step = names.index(parts.step) if parts.step in names else -1
+            for event, value in await read(EVENT, id, step, parts.kind, parts.attempt):
+                return event, value and self.coordinator.registry.payloads.decode(value)
             if phase is None and await self._table.find(token):
                 raise OwnerUnavailable(f"{token!r}: its outcome is being stored. Report it again")
         raise NoSuchTask(f"no task that has started has the attempt id {token!r}")
 
 
-def _raise_lost(row: Row, token: str, number: int, said: str, outcome: Outcome) -> None:
+def _raise_lost(row: Row, token: str, number: int, subject: str, outcome: Outcome) -> None:
     """Why a report of an attempt that is not over does not count."""
     if row.outcome == "person" and outcome.kind is SUCCEEDED:
         raise LeaseLost(
@@ -251,5 +251,5 @@ def _raise_lost(row: Row, token: str, number: int, said: str, outcome: Outcome) 
             "operator what you know"
         )
     if row.reported == row.lease == number:
-        raise ConflictingReport(f"{said} was reported as unknown before")
-    raise LeaseLost(f"{said} is not the newest, so its report {outcome.kind} is rejected")
+        raise ConflictingReport(f"{subject} was reported as unknown before")
+    raise LeaseLost(f"{subject} is not the newest, so its report {outcome.kind} is rejected")

@@ -14,9 +14,9 @@ from typing import Any, NamedTuple
 
 FORKED = 70
 """The exit status of a child that a function forked, and that came back here."""
-LOOK = 0.01
+SLOW_AFTER = 0.01
 """Seconds after which a function counts as slow: those that follow get another thread."""
-TELL = 0.001
+DELIVERY_INTERVAL = 0.001
 """Seconds after which a thread tells the loop of what is over, and goes on."""
 
 
@@ -37,14 +37,14 @@ class FunctionThreads:
     are served in turn, and the functions of a name have half of the threads.
     """
 
-    def __init__(self, most: int, title: str) -> None:
+    def __init__(self, max_threads: int, title: str) -> None:
         """Make them. No thread is started before there is a function.
 
         Args:
             most: Maximum number of threads, at least 2.
             title: What the names of the threads begin with.
         """
-        self._most, self._title = most, title
+        self._max_threads, self._title = max_threads, title
         self._pool: ThreadPoolExecutor | None = None
         self._lock = threading.Lock()
         # what the lock guards: who waits, and how many threads and functions run
@@ -53,7 +53,7 @@ class FunctionThreads:
         self._active = 0
         self._moves = 0  # how many calls were taken
         self._over: deque[tuple[Call, Any, Exception | None]] = deque()
-        self._is_telling = self._is_sending = self._is_watching = False
+        self._is_delivering = self._is_sending = self._is_watching = False
         self._seen = 0
         self._idle = asyncio.Event()
         self._loop: asyncio.AbstractEventLoop | None = None
@@ -91,21 +91,21 @@ class FunctionThreads:
 
     def _add(self) -> None:
         if self._pool is None:
-            self._pool = ThreadPoolExecutor(self._most, self._title)
+            self._pool = ThreadPoolExecutor(self._max_threads, self._title)
         self._pool.submit(self._work)
 
     def _watch(self) -> None:
         assert self._loop
         self._is_watching, self._seen = True, self._moves
-        self._loop.call_later(LOOK, self._look)
+        self._loop.call_later(SLOW_AFTER, self._look)
 
     def _look(self) -> None:
         """If nothing moved, another thread goes on."""
         self._is_watching = False
         self._deliver()
         with self._lock:
-            is_open = any(self._running[name] < self._most // 2 for name in self._waiting)
-            is_stuck = is_open and self._moves == self._seen and self._active < self._most
+            is_open = any(self._running[name] < self._max_threads // 2 for name in self._waiting)
+            is_stuck = is_open and self._moves == self._seen and self._active < self._max_threads
             self._active += is_stuck
             is_over = not (self._active or self._waiting)
         if is_stuck:
@@ -115,7 +115,7 @@ class FunctionThreads:
 
     def _deliver(self) -> None:
         """Tell callers what is over."""
-        self._is_telling = False
+        self._is_delivering = False
         while self._over:
             call, value, error = self._over.popleft()
             if not call.future.done():
@@ -149,7 +149,7 @@ class FunctionThreads:
             if done is not None:
                 self._running[done] -= 1
             for name, calls in self._waiting.items():
-                if self._running[name] >= self._most // 2:
+                if self._running[name] >= self._max_threads // 2:
                     continue
                 call = calls.popleft()
                 del self._waiting[name]
@@ -162,19 +162,19 @@ class FunctionThreads:
             return None
 
     def _work(self) -> None:
-        done, told = None, time.monotonic()
+        done, delivered_at = None, time.monotonic()
         while call := self._take(done):
             done = call.name
             if not call.future.cancelled():
                 self._over.append((call, *_called(call)))
-            if (now := time.monotonic()) - told > TELL:
-                told = now
-                self._tell()
-        self._tell()
+            if (now := time.monotonic()) - delivered_at > DELIVERY_INTERVAL:
+                delivered_at = now
+                self._request_delivery()
+        self._request_delivery()
 
-    def _tell(self) -> None:
-        if not self._is_telling:
-            self._is_telling = True
+    def _request_delivery(self) -> None:
+        if not self._is_delivering:
+            self._is_delivering = True
             assert self._loop
             try:
                 self._loop.call_soon_threadsafe(self._deliver)

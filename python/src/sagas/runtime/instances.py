@@ -34,7 +34,7 @@ class Instances:
         self.answered: Callable[[Abort], object] | None = None
         self._loop = loop
         self._aborts: dict[Abort, asyncio.Future[bool]] = {}
-        self._has_told = False
+        self._has_notified = False
         self._empty = asyncio.Event()
         self._left: SagasError | None = None  # why sagas are left that nobody drives any more
 
@@ -63,25 +63,25 @@ class Instances:
         there.
         """
         self.remove(saga)
-        self.starts.tell(saga, at_start)
-        self.ends.tell(saga, at_end)
+        self.starts.notify(saga, at_start)
+        self.ends.notify(saga, at_end)
 
     def started(self, saga: SagaInstance) -> asyncio.Future[None]:
         """Return a future that is done once a saga is in the store."""
         future = self.starts.wait(saga)
         if saga.committed:
-            self.starts.tell(saga)
+            self.starts.notify(saga)
         return future
 
-    def tell_started(self, saga: SagaInstance) -> None:
+    def notify_started(self, saga: SagaInstance) -> None:
         """It is in the store."""
         self.driven(saga)
-        self._has_told = self.starts.tell(saga) or self._has_told
+        self._has_notified = self.starts.notify(saga) or self._has_notified
 
-    def tell_ended(self, saga: SagaInstance) -> None:
+    def notify_ended(self, saga: SagaInstance) -> None:
         """Its end is in the store."""
         self.remove(saga)
-        self._has_told = self.ends.tell(saga) or self._has_told
+        self._has_notified = self.ends.notify(saga) or self._has_notified
 
     # -- aborts
 
@@ -111,12 +111,12 @@ class Instances:
 
     # -- turns
 
-    def lets(self) -> bool:
+    def must_yield(self) -> bool:
         """Whether somebody was told something, since this was asked: they have their turn before
         further functions are called.
         """
-        told, self._has_told = self._has_told, False
-        return told
+        has_notified, self._has_notified = self._has_notified, False
+        return has_notified
 
     async def emptied(self) -> None:
         """Wait until the last one is gone; at once if there is none. Raises what `close` says."""

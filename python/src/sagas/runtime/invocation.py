@@ -21,7 +21,7 @@ from sagas.definition.step import Manner
 from sagas.definition.task import Task
 from sagas.runtime import current_step
 
-MOST_FRAMES = 12
+MAX_FRAMES = 12
 """Calls of a thread that are named: the innermost and the outermost."""
 
 
@@ -104,16 +104,16 @@ async def _in_time(work: Awaitable[Any], left: float, task: Task[Any], manner: M
         )
 
 
-def place_of(thread: int | None) -> str:
+def stack_of(thread: int | None) -> str:
     """Where a thread is, the innermost call first, out to the step's function."""
-    frame, found = sys._current_frames().get(thread or 0), list[str]()
+    frame, frames = sys._current_frames().get(thread or 0), list[str]()
     while frame is not None and frame.f_code.co_filename != __file__:
         code = frame.f_code
-        found.append(f"{code.co_filename}:{frame.f_lineno} in {code.co_qualname}")
+        frames.append(f"{code.co_filename}:{frame.f_lineno} in {code.co_qualname}")
         frame = frame.f_back
-    if len(found) > MOST_FRAMES:
-        found[MOST_FRAMES // 2 : -MOST_FRAMES // 2] = [".."]
-    return " < ".join(found) or "it waits for a thread"
+    if len(frames) > MAX_FRAMES:
+        frames[MAX_FRAMES // 2 : -MAX_FRAMES // 2] = [".."]
+    return " < ".join(frames) or "it waits for a thread"
 
 
 def _guarded(
@@ -147,7 +147,7 @@ async def _in_thread(
         nonlocal overdue
         overdue = True
         if late:
-            late(place_of(threads[0] if threads else None))
+            late(stack_of(threads[0] if threads else None))
 
     timer = loop.call_later(manner.timeout, over) if manner.timeout is not None else None
     try:

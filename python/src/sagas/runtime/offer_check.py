@@ -31,7 +31,7 @@ REASONS = {
 """Why no worker could get an attempt, by the outcome of its row; None where there is no row."""
 
 
-def is_out(attempt: Attempt) -> bool:
+def awaits_worker(attempt: Attempt) -> bool:
     """Whether it waits for a worker, or for the one that has it."""
     return attempt.state is SUSPENDED and attempt.reason is Suspension.EXTERNAL
 
@@ -47,24 +47,24 @@ class OfferCheck:
 
     def __init__(
         self,
-        owner: Coordinator,
+        coordinator: Coordinator,
         is_moving: Callable[[Attempt], bool],
         offer: Callable[[Attempt], None],
     ) -> None:
-        self._owner, self._is_moving, self._offer = owner, is_moving, offer
-        self._due = owner.loop.time() + PAUSE
+        self._coordinator, self._is_moving, self._offer = coordinator, is_moving, offer
+        self._due = coordinator.loop.time() + PAUSE
         self._reasons: dict[Attempt, str] = {}
 
     def look(self) -> None:
         """Check if it is time for that."""
-        now = self._owner.loop.time()
-        if now >= self._due and not self._owner.closed:
+        now = self._coordinator.loop.time()
+        if now >= self._due and not self._coordinator.closed:
             self._due = now + PAUSE
-            self._owner.spawn(self.check())
+            self._coordinator.spawn(self.check())
 
     async def check(self) -> None:
         """Offer again what waits here for a worker and has no open row."""
-        for runner in list(self._owner.shards.runners.values()):
+        for runner in list(self._coordinator.shards.runners.values()):
             with contextlib.suppress(StoreUnavailable):  # the next check tells
                 await self._check(runner.driver)
             await asyncio.sleep(0)
@@ -74,7 +74,7 @@ class OfferCheck:
         attempts = {attempt.token(): attempt for attempt in self._waiting(shard)}
         if not attempts:
             return
-        outcomes = await self._owner.store.external.outcomes([*attempts])
+        outcomes = await self._coordinator.store.external.outcomes([*attempts])
         if shard.epoch != epoch:
             return  # its attempts were offered again, and may be claimed
         waiting = set(self._waiting(shard))
@@ -92,13 +92,17 @@ class OfferCheck:
         for saga in shard.sagas.values():
             if saga.kind.has_external:
                 for attempt in saga.busy.values():
-                    if is_out(attempt) and not attempt.pending and not self._is_moving(attempt):
+                    if (
+                        awaits_worker(attempt)
+                        and not attempt.pending
+                        and not self._is_moving(attempt)
+                    ):
                         yield attempt
 
     def offered(self, attempt: Attempt) -> None:
         """The row of an attempt is in the store: tell if that was missing."""
         if reason := self._reasons.pop(attempt, None):
-            self._owner.executor.tell(attempt, EVENT, f"no worker could get it: {reason}")
+            self._coordinator.executor.emit(attempt, EVENT, f"no worker could get it: {reason}")
 
     def gone(self, attempt: Attempt) -> None:
         """An attempt is over, or is not this program's any more."""

@@ -23,7 +23,7 @@ MOST, PAUSE = 1000, 0.5
 way."""
 
 
-class Carrier(Protocol):
+class CommandExecutor(Protocol):
     """What carries out a command, of a saga by its key. `request`: the command's number; `of`: the
     id of the saga that is meant.
     """
@@ -49,34 +49,36 @@ class Carrier(Protocol):
         """As `Store.retry`."""
 
 
-class Compensations(Protocol):
+class ReportCompensator(Protocol):
     """What has reports undone that were not used."""
 
     async def compensate(self, key: str, step: str, request: Wanted, of: int | None = None) -> None:
         """As `Store.compensate`."""
 
 
-def report_of(
+def report_command(
     step: str, kind: str, outcome: Outcome, early: bool, payloads: Payloads
 ) -> tuple[str, dict[str, Any]]:
     """The command that says how a step ended, and what is kept of it."""
-    told, value = words_of(step, kind, early), json.loads(outcome.value)
+    arguments, value = step_arguments(step, kind, early), json.loads(outcome.value)
     if outcome.kind is OutcomeKind.SUCCEEDED:
-        return "complete", told | {"result": payloads.encode_value(value)}
-    return "fail", told | {"error": value["error"]}
+        return "complete", arguments | {"result": payloads.encode_value(value)}
+    return "fail", arguments | {"error": value["error"]}
 
 
-def words_of(step: str, kind: str, early: bool) -> dict[str, Any]:
+def step_arguments(step: str, kind: str, early: bool) -> dict[str, Any]:
     """What a command says of a step; whether it may come early, only where it may not."""
-    told: dict[str, Any] = {"step": step, "kind": kind}
-    return told if early else told | {"early": False}
+    arguments: dict[str, Any] = {"step": step, "kind": kind}
+    return arguments if early else arguments | {"early": False}
 
 
-class Requests:
+class RequestExecutor:
     """Does what rows without an answer ask, and answers in the commit that holds its events."""
 
-    def __init__(self, owner: Coordinator, carrier: Carrier, reports: Compensations) -> None:
-        self._owner, self._carrier, self._reports = owner, carrier, reports
+    def __init__(
+        self, coordinator: Coordinator, executor: CommandExecutor, compensator: ReportCompensator
+    ) -> None:
+        self._coordinator, self._executor, self._compensator = coordinator, executor, compensator
         self._loop = asyncio.get_running_loop()
         self._doing: dict[int, asyncio.Task[None]] = {}
         self._looking: asyncio.Task[None] | None = None
@@ -100,7 +102,7 @@ class Requests:
             after: int | None = -1
             while after is not None:
                 try:
-                    rows = await self._owner.store.requests(after, MOST)
+                    rows = await self._coordinator.store.requests(after, MOST)
                 except StoreUnavailable:
                     return
                 for row in rows:
@@ -121,33 +123,35 @@ class Requests:
         if not job.cancelled() and job.exception():
             logger.error("request %d: %r", id, job.exception())
 
-    async def _do(self, id: int, key: str, what: str, value: str | None, of: int | None) -> None:
+    async def _do(self, id: int, key: str, command: str, value: str | None, of: int | None) -> None:
         try:
-            answer = await self._ask(id, key, what, json.loads(value or "null"), of)
+            answer = await self._ask(id, key, command, json.loads(value or "null"), of)
         except (Closed, Moved):  # the next program, or the node that has the saga, answers
             return
         except SagasError as error:
             answer = {"error": f"{type(error).__name__}: {error}"}
         except (TypeError, ValueError, KeyError, RecursionError) as error:
             answer = {"error": f"invalid request: {error}"}
-        batch = Batch(-1, self._owner.clock())
+        batch = Batch(-1, self._coordinator.clock())
         batch.more.answers.append((json.dumps(answer), id))
-        self._owner.commits.put_alone(batch)
+        self._coordinator.commits.put_alone(batch)
 
-    async def _ask(self, id: int, key: str, what: str, told: Any, of: int | None) -> Any:
-        if what == "abort":
-            return await self._carrier.abort(key, id, of)
-        if what in ("complete", "fail"):
-            error = str(told["error"]) if what == "fail" else None
-            result = self._owner.shelf.payloads.decode_value(told.get("result"))
+    async def _ask(self, id: int, key: str, command: str, arguments: Any, of: int | None) -> Any:
+        if command == "abort":
+            return await self._executor.abort(key, id, of)
+        if command in ("complete", "fail"):
+            error = str(arguments["error"]) if command == "fail" else None
+            result = self._coordinator.registry.payloads.decode_value(arguments.get("result"))
             outcome = reported(result, error)
-            undo, early = told.get("kind") == "undo", told.get("early") is not False
-            await self._carrier.report(key, told["step"], outcome, undo, id, of, early)
+            undo, early = arguments.get("kind") == "undo", arguments.get("early") is not False
+            await self._executor.report(key, arguments["step"], outcome, undo, id, of, early)
             return True
-        if what == "retry":
-            await self._carrier.retry(key, told["step"], told.get("kind") == "undo", id, of)
+        if command == "retry":
+            await self._executor.retry(
+                key, arguments["step"], arguments.get("kind") == "undo", id, of
+            )
             return True
-        if what == "compensate":
-            await self._reports.compensate(key, told["step"], id, of)
+        if command == "compensate":
+            await self._compensator.compensate(key, arguments["step"], id, of)
             return True
-        raise ValueError(what)
+        raise ValueError(command)

@@ -18,7 +18,7 @@ from sagas.runtime.shard_runner import ShardRunner
 from sagas.storage.interface import Database
 
 
-class Home(Protocol):
+class ShardsForPlacement(Protocol):
     """The shards of the program."""
 
     closed: SagasError | None
@@ -29,7 +29,7 @@ class Home(Protocol):
     def refuse(self, saga: SagaInstance, error: SagasError) -> None:
         """It is not begun."""
 
-    def found(self, saga: SagaInstance, row: SagaRow) -> None:
+    def key_taken(self, saga: SagaInstance, row: SagaRow) -> None:
         """Another shard has its key."""
 
     def close_if_over(self, runner: ShardRunner) -> None:
@@ -50,14 +50,14 @@ class Placement:
         definitions: Shelf,
         sagas: Instances,
         loop: asyncio.AbstractEventLoop,
-        home: Home,
+        shards: ShardsForPlacement,
     ) -> None:
         self._store, self._definitions, self._sagas = store, definitions, sagas
-        self._loop, self._home = loop, home
+        self._loop, self._shards = loop, shards
         self.current: dict[str, ShardRunner] = {}
         self.waiting: list[SagaInstance] = []
 
-    def place(self, saga: SagaInstance) -> None:
+    def assign(self, saga: SagaInstance) -> None:
         """Put a saga into a shard, with what else is placed in this turn of the loop, unless its
         key is there, where that is looked for. Its callers, who may wait in a moment, hear why it
         is not.
@@ -73,20 +73,22 @@ class Placement:
         if not self.waiting:
             return
         waiting, self.waiting = self.waiting, []
-        there: dict[str, SagaRow] = {}
+        stored_rows: dict[str, SagaRow] = {}
         try:
-            if self._home.closed:
-                raise self._home.closed
+            if self._shards.closed:
+                raise self._shards.closed
             if not self._store.shared:
-                there = self._store.find_many([one.key for one in waiting if not one.guessed])
+                stored_rows = self._store.find_many(
+                    [saga.key for saga in waiting if not saga.guessed]
+                )
         except SagasError as error:
             for saga in waiting:
-                self._loop.call_soon(self._home.refuse, saga, error)
+                self._loop.call_soon(self._shards.refuse, saga, error)
             return
         filled: dict[ShardRunner, None] = {}
         for saga in waiting:
-            if saga.key in there:
-                self._loop.call_soon(self._home.found, saga, there[saga.key])
+            if saga.key in stored_rows:
+                self._loop.call_soon(self._shards.key_taken, saga, stored_rows[saga.key])
             elif runner := self._put(saga):
                 filled[runner] = None
         for runner in filled:
@@ -109,7 +111,7 @@ class Placement:
             try:
                 runner = self._create(definitions, kind)
             except SagasError as error:
-                self._loop.call_soon(self._home.refuse, saga, error)
+                self._loop.call_soon(self._shards.refuse, saga, error)
                 return None
         saga.place = runner.driver.identity.definitions.place(kind)
         runner.driver.open(saga)
@@ -126,8 +128,8 @@ class Placement:
         number, name = self._store.new_log(), secrets.token_hex(8)
         of = ShardDefinitions(definitions.kinds or [kind], definitions.digest)
         identity = ShardIdentity(number, name, of)
-        runner = self._home.run(ShardDriver.created(identity, self._store.line))
+        runner = self._shards.run(ShardDriver.created(identity, self._store.line))
         self.current[definitions.digest] = runner
         if before:
-            self._loop.call_soon(self._home.close_if_over, before)
+            self._loop.call_soon(self._shards.close_if_over, before)
         return runner

@@ -27,7 +27,12 @@ INPUT = "SELECT input FROM sagas WHERE key = ?"
 
 
 def conflict(
-    key: str, kind: Kind | Saga, text: str, name: str, there: str, payloads: Payloads | None = None
+    key: str,
+    kind: Kind | Saga,
+    text: str,
+    stored_name: str,
+    stored_input: str,
+    payloads: Payloads | None = None,
 ) -> KeyConflict | None:
     """Return what a start meets where its key has a saga; None if it is the same.
 
@@ -40,49 +45,51 @@ def conflict(
         payloads: How inputs are stored; as of the kind, if none is given.
     """
     saga = kind.name
-    if name != saga:
-        return KeyConflict(f"key {key!r} belongs to a saga {name!r}, not {saga!r}. Use another key")
-    if there != text:
+    if stored_name != saga:
+        return KeyConflict(
+            f"key {key!r} belongs to a saga {stored_name!r}, not {saga!r}. Use another key"
+        )
+    if stored_input != text:
         own: Payloads = getattr(kind, "payloads", PLAIN)
         stored = payloads or own
         text = stored.decode(text)
-        if reference := Reference.of(there):
+        if reference := Reference.of(stored_input):
             if reference.is_of(text):
                 return None
             return KeyConflict(f"key {key!r} belongs to a saga with another input. Use another key")
-        there = stored.decode(there)
-    if there != text and (differ := input_equality.differences(kind, there, text)):
-        told = mismatches.told(differ)
+        stored_input = stored.decode(stored_input)
+    if stored_input != text and (differ := input_equality.differences(kind, stored_input, text)):
+        paths = mismatches.told(differ)
         return KeyConflict(
-            f"key {key!r} belongs to a saga with another input, which differs at {told}. "
+            f"key {key!r} belongs to a saga with another input, which differs at {paths}. "
             "Use another key"
         )
     return None
 
 
-async def conflict_there(
+async def conflict_with_stored(
     store: Database,
     key: str,
     kind: Kind | Saga,
     text: str,
-    name: str,
-    there: str,
+    stored_name: str,
+    stored_input: str,
     payloads: Payloads | None = None,
 ) -> KeyConflict | None:
     """As `conflict`. An input that is outside of the database is read if its digest is another one:
     it may be the same under other types. Raises `StoreUnavailable`.
     """
-    error = conflict(key, kind, text, name, there, payloads)
-    if error and name == kind.name and Reference.of(there):
+    error = conflict(key, kind, text, stored_name, stored_input, payloads)
+    if error and stored_name == kind.name and Reference.of(stored_input):
         for (whole,) in await store.read(INPUT, key):
-            error = conflict(key, kind, text, name, whole, payloads)
+            error = conflict(key, kind, text, stored_name, whole, payloads)
     return error
 
 
-class Home(Protocol):
+class ShardsForRelocation(Protocol):
     """The shards of the program."""
 
-    def place(self, saga: SagaInstance) -> None:
+    def assign(self, saga: SagaInstance) -> None:
         """Open it in a shard."""
 
     def doubt(self) -> None:
@@ -100,10 +107,10 @@ class Relocation:
         commits: CommitQueue,
         clock: Callable[[], float],
         spawn: Callable[[Coroutine[None, None, None]], object],
-        home: Home,
+        shards: ShardsForRelocation,
     ) -> None:
         self._store, self._sagas, self._executor, self._commits = store, sagas, executor, commits
-        self._clock, self._spawn, self._home = clock, spawn, home
+        self._clock, self._spawn, self._shards = clock, spawn, shards
 
     def leave(self, saga: SagaInstance, error: SagasError | None) -> None:
         """It is not driven here: who waits looks into the store; who started it hears why it is
@@ -111,9 +118,9 @@ class Relocation:
         """
         self._sagas.leave(saga, error, Moved("this node does not execute the saga"))
         for attempt in saga.busy.values():
-            self._executor.changes.tell(attempt)
+            self._executor.changes.notify(attempt)
 
-    def found(self, saga: SagaInstance, row: SagaRow, is_whole: bool = False) -> None:
+    def key_taken(self, saga: SagaInstance, row: SagaRow, is_whole: bool = False) -> None:
         """Another shard has the key: that is the saga, or a conflict. `is_whole`: a large input was
         looked for in the blob store.
         """
@@ -127,14 +134,14 @@ class Relocation:
             self._spawn(self._begun(saga.start, None if error else row.id))
         self.leave(saga, error)
 
-    def meet(self, saga: SagaInstance) -> None:
+    def compare_with_stored(self, saga: SagaInstance) -> None:
         """Another saga has its key, and is driven here: it is read, and compared with that."""
-        self._spawn(self._meet(saga))
+        self._spawn(self._compare_with_stored(saga))
 
-    async def _meet(self, saga: SagaInstance) -> None:
+    async def _compare_with_stored(self, saga: SagaInstance) -> None:
         row = await until_answered(lambda: self._whole(saga.key))
         if row is not None and row.id >= 0:
-            self.found(saga, row, is_whole=True)
+            self.key_taken(saga, row, is_whole=True)
         else:
             self.leave(saga, None)
 
@@ -153,29 +160,31 @@ class Relocation:
         try:
             await self._commits.kept(batch)
         except SagasError:
-            self._home.doubt()
+            self._shards.doubt()
 
     async def find_elsewhere(self, driver: ShardDriver, rows: Loaded) -> None:
         """Of the sagas that were asked to be opened in a shard, take out those whose keys are
         other sagas': of another shard, or over in this one.
         """
-        there = {key for _, key, *_ in rows.open}
-        asked = [one for one in driver.sent if not one.committed and one.key not in there]
-        others = await asyncio.gather(*(self._store.find(saga.key) for saga in asked))
-        for saga, other in zip(asked, others):
+        open_keys = {key for _, key, *_ in rows.open}
+        unconfirmed = [
+            saga for saga in driver.sent if not saga.committed and saga.key not in open_keys
+        ]
+        others = await asyncio.gather(*(self._store.find(saga.key) for saga in unconfirmed))
+        for saga, other in zip(unconfirmed, others):
             if other is not None and (other.id >= 0 or saga.guessed):
                 driver.sent.pop(saga, None)
                 saga.number, saga.shard = -1, None
-                self.found(saga, other)
+                self.key_taken(saga, other)
 
-    def let_go(self, driver: ShardDriver) -> None:
+    def stop_shard(self, driver: ShardDriver) -> None:
         """A shard is another node's: what was begun here is stopped, and who waits looks there."""
         moved = Moved("the saga moved to another node")
         sagas, opens = list(driver.sagas.values()), [*driver.sent, *driver.opens]
         attempts = dict.fromkeys(driver.unkept())
         attempts |= {attempt: None for saga in sagas for attempt in saga.busy.values()}
         for attempt in attempts:
-            self._executor.kept.tell(attempt, moved)
+            self._executor.kept.notify(attempt, moved)
             self._executor.forget(attempt)
         self._executor.early.look_again(driver.number, moved)
         for saga in sagas:
@@ -188,15 +197,15 @@ class Relocation:
                 saga.number, saga.shard = -1, None
                 self._spawn(self._move(saga))
 
-    def tell_closed(self, driver: ShardDriver, error: SagasError) -> None:
+    def notify_closed(self, driver: ShardDriver, error: SagasError) -> None:
         """The store is closed: who waits for a step of a shard hears so."""
         self._executor.early.look_again(driver.number, error)
         for attempt in driver.unkept():
-            self._executor.kept.tell(attempt, error)
+            self._executor.kept.notify(attempt, error)
         for saga in driver.sagas.values():
             for attempt in saga.busy.values():
-                self._executor.kept.tell(attempt, error)  # it was to be called again
-                self._executor.changes.tell(attempt)
+                self._executor.kept.notify(attempt, error)  # it was to be called again
+                self._executor.changes.notify(attempt)
 
     async def _move(self, saga: SagaInstance) -> None:
         """It was to be opened in a shard that is lost: it is there already, or another one takes
@@ -206,6 +215,6 @@ class Relocation:
         if self._sagas.by_key.get(saga.key) is not saga:
             return
         if row is not None and (row.id >= 0 or saga.start is None):
-            self.found(saga, row, is_whole=True)
+            self.key_taken(saga, row, is_whole=True)
         else:
-            self._home.place(saga)
+            self._shards.assign(saga)

@@ -75,7 +75,7 @@ OF_LOG = (
 
 
 @dataclasses.dataclass
-class Gone:
+class Pruned:
     """What a run let go: the names of the logs, and how many sagas they had. `more`: there is
     more, for another run; `other`: that is at work now; `blobs`: to which no row refers any more;
     `starts`: how many starts of clients that were refused.
@@ -98,7 +98,7 @@ def prune(
     has_blobs: bool = False,
     clock: Callable[[], float] = time.time,
     stop: threading.Event | None = None,
-) -> Gone:
+) -> Pruned:
     """Lets the sagas of a store go that ended more than `keep` seconds ago, `most` of them, in
     order of their logs. For a thread.
 
@@ -108,31 +108,31 @@ def prune(
     `StoreUnavailable`, `OSError` of the export; what went before is gone, and the log that it was
     at is whole.
     """
-    gone, at, stop = Gone(), -1, stop or threading.Event()
+    pruned, shard, stop = Pruned(), -1, stop or threading.Event()
     with admin.writing(name) as link:
         if not link.alone():
-            gone.other = True
-            return gone
+            pruned.other = True
+            return pruned
         before = min(clock(), link.now()) - keep
         kept = _kept_for_parents(link, before)
-        while not stop.is_set() and (found := link.ask(NEXT, at, before)):
-            ((at, log, sagas),) = found
-            if at in kept:
+        while not stop.is_set() and (rows := link.ask(NEXT, shard, before)):
+            ((shard, log, sagas),) = rows
+            if shard in kept:
                 continue
-            if gone.sagas + sagas > most:
-                gone.more = True
+            if pruned.sagas + sagas > most:
+                pruned.more = True
                 break
-            if export is not None and archive.write(link, at, pathlib.Path(export)) is None:
+            if export is not None and archive.write(link, shard, pathlib.Path(export)) is None:
                 continue  # another program has deleted it
             began = time.monotonic()
-            if _delete(link, at, gone.blobs if has_blobs else None):
-                gone.logs.append(log)
-                gone.sagas += sagas
+            if _delete(link, shard, pruned.blobs if has_blobs else None):
+                pruned.logs.append(log)
+                pruned.sagas += sagas
             stop.wait(time.monotonic() - began)
-        gone.starts = link.drop_refused(before)
-        if gone.logs:
+        pruned.starts = link.drop_refused(before)
+        if pruned.logs:
             link.drop_definitions()
-    return gone
+    return pruned
 
 
 def _kept_for_parents(link: Source, before: float) -> set[int]:
@@ -140,11 +140,11 @@ def _kept_for_parents(link: Source, before: float) -> set[int]:
     pairs = link.ask(PARENTS)
     if not pairs:
         return set()
-    go = {log for (log,) in link.ask(f"SELECT l.shard FROM shards l WHERE {OVER}", -1, before)}
+    deleted = {log for (log,) in link.ask(f"SELECT l.shard FROM shards l WHERE {OVER}", -1, before)}
     kept = set[int]()
-    while more := {log for log, parent in pairs if log in go and parent not in go}:
-        kept |= more
-        go -= more
+    while added := {log for log, parent in pairs if log in deleted and parent not in deleted}:
+        kept |= added
+        deleted -= added
     return kept
 
 
@@ -196,32 +196,38 @@ def delete_damaged(name: str, log: int, export: str | os.PathLike[str] | None) -
 
 
 async def keep(
-    owner: Coordinator, name: str, seconds: float, export: str | os.PathLike[str] | None
+    coordinator: Coordinator, name: str, seconds: float, export: str | os.PathLike[str] | None
 ) -> None:
     """Lets go what is over, at the opening and then each hour, or more often where less than a
     day is kept; until it is cancelled.
     """
-    blobs = owner.store.blobs
+    blobs = coordinator.store.blobs
     while True:
         stop = threading.Event()
-        words: dict[str, Any] = {"clock": owner.clock, "stop": stop, "has_blobs": blobs is not None}
-        work = asyncio.ensure_future(asyncio.to_thread(prune, name, seconds, export, **words))
+        options: dict[str, Any] = {
+            "clock": coordinator.clock,
+            "stop": stop,
+            "has_blobs": blobs is not None,
+        }
+        work = asyncio.ensure_future(asyncio.to_thread(prune, name, seconds, export, **options))
         try:
-            gone = await asyncio.shield(work)
+            pruned = await asyncio.shield(work)
             if blobs is not None:  # behind the rows that referred to them
-                await blobs.delete(gone.blobs)
-            if gone.logs:
-                owner.teller.tell(
+                await blobs.delete(pruned.blobs)
+            if pruned.logs:
+                coordinator.teller.tell(
                     "shards_pruned",
-                    detail=f"{number(len(gone.logs), 'shard')}, {number(gone.sagas, 'saga')}",
+                    detail=f"{number(len(pruned.logs), 'shard')}, {number(pruned.sagas, 'saga')}",
                 )
-            pause = SOON if gone.more else HOUR
+            pause = SOON if pruned.more else HOUR
         except asyncio.CancelledError:  # the store is closed behind the log that this is at
             stop.set()
             await asyncio.wait([work])
             work.exception()  # a fault now is nobody's: the next opening goes on
             raise
         except (SagasError, admin.Trouble, OSError) as error:
-            logger.warning("%s: ended sagas could not be deleted: %s", owner.store.path, error)
+            logger.warning(
+                "%s: ended sagas could not be deleted: %s", coordinator.store.path, error
+            )
             pause = HOUR
         await asyncio.sleep(min(pause, max(1.0, seconds / 24)))

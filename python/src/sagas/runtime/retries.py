@@ -10,7 +10,7 @@ from sagas.base.errors import StoreUnavailable
 from sagas.definition.blobs import BlobUnavailable
 
 T = TypeVar("T")
-FIRST_PAUSE, MOST_PAUSE = 0.02, 2.0
+FIRST_PAUSE, MAX_PAUSE = 0.02, 2.0
 """Seconds until the store is asked again."""
 
 
@@ -30,4 +30,4 @@ async def until_answered(ask: Callable[[], Awaitable[T]], with_blobs: bool = Tru
             if isinstance(error, BlobUnavailable) and not with_blobs:
                 raise
             await asyncio.sleep(pause)
-            pause = min(MOST_PAUSE, 2 * pause)
+            pause = min(MAX_PAUSE, 2 * pause)

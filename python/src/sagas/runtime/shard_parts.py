@@ -23,7 +23,7 @@ if TYPE_CHECKING:
     from sagas.runtime.shard_runner import ShardRunner
 
 
-class Shards(Protocol):
+class ShardsForRunner(Protocol):
     """The shards of the program, as one of them knows them."""
 
     is_closing: bool

@@ -16,7 +16,7 @@ from sagas.core.states import ShardState
 from sagas.core.suspensions import SuspensionRow
 from sagas.engine.process import EngineProcess
 from sagas.runtime import decode_check
-from sagas.runtime.shard_parts import Parts, Shards, engine_on, named, not_understood
+from sagas.runtime.shard_parts import Parts, ShardsForRunner, engine_on, named, not_understood
 
 FEW = 64  # requests whose answer comes soon
 TURN = 0.1  # seconds for which a shard keeps its engine while others wait for one
@@ -40,7 +40,7 @@ class ShardRunner:
         used: When its engine was asked last, by the monotonic clock.
     """
 
-    def __init__(self, driver: ShardDriver, parts: Parts, shards: Shards) -> None:
+    def __init__(self, driver: ShardDriver, parts: Parts, shards: ShardsForRunner) -> None:
         self.driver = driver
         self.engine: EngineProcess | None = None
         self.fault: BaseException | None = None
@@ -140,7 +140,7 @@ class ShardRunner:
             self._recover(self._rows, replies, log_text)
             return
         try:
-            found = self.driver.replies(replies, log_text, self._clock())
+            outcome = self.driver.replies(replies, log_text, self._clock())
         except Disagrees as error:
             logger.warning("shard %s: %s. Recovering", self.driver.name, error)
             self.fail(None)
@@ -148,11 +148,11 @@ class ShardRunner:
             logger.exception("shard %s: a reply was not understood", self.driver.name)
             self.fail(error)
         else:
-            if isinstance(found, Effects):
-                self._read(found)
+            if isinstance(outcome, Effects):
+                self._read(outcome)
             else:
                 assert self.engine
-                self.engine.ask(found)
+                self.engine.ask(outcome)
 
     def _read(self, effects: Effects) -> None:
         """What is due is asked before the commit of what was answered: a commit may be made here,
@@ -304,10 +304,10 @@ class ShardRunner:
             self.fail(None)
         else:  # while the shard was taken up
             self.engine = self._rows = None
-            said = f"sagas drive: {last.removeprefix('sagas: ')}"
+            message = f"sagas drive: {last.removeprefix('sagas: ')}"
             is_refused = engine.has_refused()
-            in_shard = SagasError(f"shard {self.driver.name}: {said}")
-            self._trouble(DamagedShard(said) if is_refused else in_shard)
+            in_shard = SagasError(f"shard {self.driver.name}: {message}")
+            self._trouble(DamagedShard(message) if is_refused else in_shard)
 
     # -- what goes wrong, and the way back
 
@@ -384,17 +384,17 @@ class ShardRunner:
         self._rows, driver, store = None, self.driver, self._parts.store
         known = self._parts.sagas.by_key
         try:
-            found = recovery.recover(
+            recovered = recovery.recover(
                 rows, replies, self._clock(), driver, known, store.shared, self._overdue, log_text
             )
-            self._effects.found(found)
+            self._effects.recovered(recovered)
         except Exception as error:
             self._trouble(not_understood(error))
             return
         self.fault = None
         self.used = self._woke = time.monotonic()
-        self.keep(found.effects)
-        self._effects.resume(found)
+        self.keep(recovered.effects)
+        self._effects.resume(recovered)
         self._shards.ready(self)
         self.poke()
 

@@ -23,9 +23,9 @@ from sagas.engine.pool import EnginePool
 from sagas.engine.process import EngineProcess
 from sagas.runtime import decode_check
 from sagas.runtime.audits import Auditor
-from sagas.runtime.client_starts import Doubt
+from sagas.runtime.client_starts import StartDoubt
 from sagas.runtime.commit_queue import CommitQueue
-from sagas.runtime.effects import EffectHandler, Offers
+from sagas.runtime.effects import EffectHandler, ExternalOffers
 from sagas.runtime.executor import Executor
 from sagas.runtime.instances import Instances
 from sagas.runtime.placement import Placement
@@ -60,7 +60,7 @@ class Shards:
         sagas: Instances,
         executor: Executor,
         commits: CommitQueue,
-        offers: Offers,
+        offers: ExternalOffers,
         clock: Callable[[], float],
         teller: Teller,
         spawn: Callable[[Coroutine[None, None, None]], asyncio.Task[None]],
@@ -76,7 +76,7 @@ class Shards:
         self.closed: SagasError | None = None
         self.is_closing = False
         self.abort_overdue: Callable[[], None] = lambda: None
-        self.starts = Doubt(self._loop, look)
+        self.start_doubt = StartDoubt(self._loop, look)
         self._idle = idle
         self._placement = Placement(store, definitions, sagas, self._loop, self)
         self._relocation = Relocation(store, sagas, executor, commits, clock, spawn, self)
@@ -107,7 +107,7 @@ class Shards:
             EngineError: No engine can be started, or one cannot be understood.
             StoreUnavailable: The store cannot be read.
         """
-        adopted = [one for one in self.adopt(rows) if one.driver.state is STALE]
+        adopted = [each for each in self.adopt(rows) if each.driver.state is STALE]
         self._opening.begin(adopted)
         for runner in adopted:
             self.engines.want(runner)
@@ -179,7 +179,7 @@ class Shards:
             unsure = "It is unknown whether the saga was started"
             self.refuse(saga, StoreUnavailable(f"shard {driver.name}: {error}. {unsure}"))
         for saga in unsent:
-            self.place(saga)
+            self.assign(saga)
         self.changed(runner)
         self._opening.ready(runner)
 
@@ -262,9 +262,9 @@ class Shards:
 
     # -- filled
 
-    def place(self, saga: SagaInstance) -> None:
+    def assign(self, saga: SagaInstance) -> None:
         """Open a saga in a shard."""
-        self._placement.place(saga)
+        self._placement.assign(saga)
 
     def fill(self, asker: ShardRunner) -> None:
         """Put sagas into shards that are to be put there. `asker` is about to ask its engine."""
@@ -276,9 +276,9 @@ class Shards:
         for runner in self.runners.values():
             runner.driver.withdraw(saga)
 
-    def meet(self, saga: SagaInstance) -> None:
+    def compare_with_stored(self, saga: SagaInstance) -> None:
         """Its key has a saga in the store: whoever started it hears whether it is the same."""
-        self._relocation.meet(saga)
+        self._relocation.compare_with_stored(saga)
 
     def refuse(self, saga: SagaInstance, error: SagasError) -> None:
         """It was not begun, and its callers hear why."""
@@ -290,15 +290,15 @@ class Shards:
         """Starts of clients that are this node's may not be under way: nobody else takes them,
         so they are looked for in a while.
         """
-        self.starts.doubt(not self.closed)
+        self.start_doubt.doubt(not self.closed)
 
     def leave(self, saga: SagaInstance, error: SagasError | None) -> None:
         """It is not driven here."""
         self._relocation.leave(saga, error)
 
-    def found(self, saga: SagaInstance, row: SagaRow) -> None:
+    def key_taken(self, saga: SagaInstance, row: SagaRow) -> None:
         """Another shard has its key."""
-        self._relocation.found(saga, row)
+        self._relocation.key_taken(saga, row)
 
     # -- recovered
 
@@ -314,16 +314,16 @@ class Shards:
         asked, new = recovery.unopened(driver, rows, self._sagas.by_key)
         if fault is None:
             for saga in asked + new:
-                self.place(saga) if driver.is_full else driver.open(saga)
+                self.assign(saga) if driver.is_full else driver.open(saga)
             return
-        where, told = str(self._store.path), str(fault)
-        told = told if told.startswith(where) else f"{where}: {told}"
+        store_path, message = str(self._store.path), str(fault)
+        message = message if message.startswith(store_path) else f"{store_path}: {message}"
         nothing = StoreUnavailable(
-            f"{told}. Nothing was started. Make room if the disk is full, and start the "
+            f"{message}. Nothing was started. Make room if the disk is full, and start the "
             "saga again"
         )
         unsure = StoreUnavailable(
-            f"{told}. It is unknown whether the saga was started. Start it again, with "
+            f"{message}. It is unknown whether the saga was started. Start it again, with "
             "the same key"
         )
         for saga in asked:
@@ -366,8 +366,8 @@ class Shards:
         for abort in (*driver.aborts, *driver.aborting):
             self._sagas.fail_abort(abort, moved)
         self._stop(runner)
-        self._relocation.let_go(driver)
-        self._tell_change()
+        self._relocation.stop_shard(driver)
+        self._notify_change()
         self.ready(runner)
 
     def _stop(self, runner: ShardRunner) -> None:
@@ -383,7 +383,7 @@ class Shards:
         if not runner.driver.sagas:
             self.close_if_over(runner)
         if self._change:
-            self._tell_change()
+            self._notify_change()
 
     def close_if_over(self, runner: ShardRunner) -> None:
         """Audit and close a settled shard that takes no more sagas."""
@@ -439,8 +439,8 @@ class Shards:
         except StoreUnavailable:
             return
         if is_left and self.runners.get(number) is runner:
-            told = "which may be able to read its values"
-            logger.info("left shard %s to other nodes, %s", name, told)
+            remedy = "which may be able to read its values"
+            logger.info("left shard %s to other nodes, %s", name, remedy)
             self.lose(runner)
 
     # -- closing
@@ -459,7 +459,7 @@ class Shards:
             self._change = self._loop.create_future()
             await self._change
 
-    def _tell_change(self) -> None:
+    def _notify_change(self) -> None:
         if self._change and not self._change.done():
             self._change.set_result(None)
 
@@ -470,6 +470,6 @@ class Shards:
         engines = [runner.engine for runner in self.runners.values() if runner.engine]
         for runner in self.runners.values():
             runner.stop()
-            self._relocation.tell_closed(runner.driver, error)
+            self._relocation.notify_closed(runner.driver, error)
         self._sagas.fail_aborts(error)
         return engines

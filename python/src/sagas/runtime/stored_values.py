@@ -8,7 +8,7 @@ from collections.abc import Callable, Sequence
 from sagas.core.held_values import StoredValues
 from sagas.core.model import Attempt
 from sagas.definition.blobs import BlobUnavailable, Reference
-from sagas.runtime.executor_host import Host
+from sagas.runtime.executor_host import CoordinatorForExecutor
 from sagas.runtime.retries import until_answered
 from sagas.storage.interface import Database
 
@@ -53,15 +53,19 @@ class ValueReader:
         count: How often something was read.
     """
 
-    def __init__(self, host: Host, unread: Callable[[Attempt, BlobUnavailable], None]) -> None:
+    def __init__(
+        self,
+        coordinator: CoordinatorForExecutor,
+        unread: Callable[[Attempt, BlobUnavailable], None],
+    ) -> None:
         """`unread`: what is told of an attempt whose values the blob store does not give."""
-        self._host, self._places = host, asyncio.Semaphore(AT_ONCE)
+        self._coordinator, self._slots = coordinator, asyncio.Semaphore(AT_ONCE)
         self._unread = unread
         self.count = 0
 
     async def fill(self, attempt: Attempt) -> None:
         """Read what an attempt lacks. Raises `BlobUnavailable`."""
-        async with self._places:
+        async with self._slots:
             await self._fill(attempt)
 
     async def then(self, attempt: Attempt, go_on: Callable[[Attempt], None]) -> None:
@@ -69,7 +73,7 @@ class ValueReader:
         Its values are held no longer than that takes, if it waits then.
         """
         is_same, fault = attempt.pausing(), None
-        async with self._places:
+        async with self._slots:
             try:
                 await self._fill(attempt)
             except BlobUnavailable as error:
@@ -85,7 +89,7 @@ class ValueReader:
         instance = attempt.instance
         steps = [number for number, _ in attempt.action.given] + [attempt.step]
         stored = await until_answered(
-            lambda: of(self._host.store, instance.id, steps), with_blobs=False
+            lambda: of(self._coordinator.store, instance.id, steps), with_blobs=False
         )
         if stored is not None:  # else the saga is gone, and so is the attempt
             instance.fill(stored, attempt.results)

@@ -38,7 +38,7 @@ if TYPE_CHECKING:
 
 PLAIN = frozenset((type(None), bool, int, float, str, dict, list))
 """What is not to be awaited, most of the time."""
-LOOK = REST / 10
+CLEANUP_INTERVAL = REST / 10
 """Seconds between two looks for connections that rest too long."""
 NO_TAIL = Tail(-1, 0.0)
 """Of a shard of which nothing is known any more: no shard has this chunk."""
@@ -74,7 +74,7 @@ class Record:
     """Whether the result's record was written, or is about to be."""
 
     attempt: Attempt
-    where: str
+    location: str
     node: str
     prepares: Prepares
     tail: Tail
@@ -91,7 +91,7 @@ class Record:
     def lost(self) -> Lost | None:
         """What to say where nobody knows whether it was committed."""
         return (
-            Lost(f"{self.where}: it is unknown whether {self.attempt.token()} was committed")
+            Lost(f"{self.location}: it is unknown whether {self.attempt.token()} was committed")
             if self.begun and not self.done
             else None
         )
@@ -132,7 +132,7 @@ class Record:
         """Raises `Lost` where the attempt was let go, since its log was taken up without it. What
         ended before that, and is sent later, has the epoch of before."""
         if self.attempt.state is not RUNNING:
-            raise Lost(f"{self.where}: {self.attempt.token()} does not exist any more")
+            raise Lost(f"{self.location}: {self.attempt.token()} does not exist any more")
 
     def text(self, link: AsyncStepLink | StepLink, value: str) -> str:
         """What is written of a result, and the commit."""
@@ -146,15 +146,15 @@ class Transactions:
     def __init__(
         self,
         url: str,
-        where: str,
+        location: str,
         node: str,
         line: Callable[[], str],
         tail: Callable[[int], Tail | None],
-        most: int,
+        max_connections: int,
     ) -> None:
-        self._where, self._node, self._line, self._tail = where, node, line, tail
+        self._location, self._node, self._line, self._tail = location, node, line, tail
         self._prepares = Prepares(step_commit.prepares())
-        self._pool = Pool(url, most, self._prepares)
+        self._pool = Pool(url, max_connections, self._prepares)
         self._timer: asyncio.TimerHandle | None = None
         self._entered: Attempt | None = None
         self._take: Take = self._taken_at_once
@@ -173,7 +173,7 @@ class Transactions:
 
     def _look(self) -> None:
         self._pool.look()
-        self._timer = asyncio.get_running_loop().call_later(LOOK, self._look)
+        self._timer = asyncio.get_running_loop().call_later(CLEANUP_INTERVAL, self._look)
 
     async def call(
         self,
@@ -315,7 +315,7 @@ class Transactions:
             self._look()
         shard = attempt.instance.shard
         tail = (self._tail(shard.number) if shard else None) or NO_TAIL
-        record = Record(attempt, self._where, self._node, self._prepares, tail)
+        record = Record(attempt, self._location, self._node, self._prepares, tail)
         attempt.record = record
         return record
 

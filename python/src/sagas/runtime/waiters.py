@@ -22,7 +22,7 @@ class Waiters(Generic[K]):
     def __init__(self, loop: asyncio.AbstractEventLoop) -> None:
         self._loop = loop
         self.futures: dict[K, list[asyncio.Future[None]]] = {}
-        self.told: Callable[[K], object] | None = None
+        self.before_notify: Callable[[K], object] | None = None
 
     def __contains__(self, key: K) -> bool:
         return key in self.futures
@@ -33,16 +33,16 @@ class Waiters(Generic[K]):
         waiting = self.futures.setdefault(key, [])
         waiting.append(future)
         if len(waiting) % MANY == 0:
-            waiting[:] = [one for one in waiting if not one.done()]
+            waiting[:] = [waiter for waiter in waiting if not waiter.done()]
         return future
 
-    def tell(self, key: K, error: Exception | None = None) -> bool:
+    def notify(self, key: K, error: Exception | None = None) -> bool:
         """Tell those who wait that it is so, or why it is not; return whether anybody waited."""
         if not self.futures:
             return False
         waiting = self.futures.pop(key, ())
-        if waiting and error is None and self.told:
-            self.told(key)
+        if waiting and error is None and self.before_notify:
+            self.before_notify(key)
         for future in waiting:
             if not future.done():
                 if error is None:
