@@ -1,4 +1,4 @@
-"""Starts, finds and aborts children by their keys, wherever they are executed."""
+"""Starts, finds and aborts children by their keys, on any node."""
 
 from __future__ import annotations
 
@@ -23,7 +23,7 @@ from sagas.runtime.children import ChildEnd
 
 
 class ChildOperations:
-    """What the runtime's children do by keys, as callers of a store do it."""
+    """The operations that the runtime performs on child sagas, by key."""
 
     def __init__(
         self, access: StoreAccess, lookup: SagaLookup, starter: Starter, commands: Commands
@@ -32,7 +32,7 @@ class ChildOperations:
         self._starter, self._commands = starter, commands
 
     async def start(self, saga: Saga | Kind, key: str, given: Any, options: StartOptions) -> bool:
-        """Start a child. False: the key has a saga."""
+        """Start a child; return False if the key is used."""
         return await self._starter.start_child(saga, key, given, options)
 
     async def end(self, key: str) -> ChildEnd:
@@ -58,7 +58,7 @@ class ChildOperations:
         await self._commands.abort(key, self._commands.command_row(key, "abort", by, None))
 
     async def is_dropped(self, key: str, id: int, step: int) -> bool:
-        """Whether a plan would undo a step of a saga, if all that is under way succeeds."""
+        """Return whether a plan would undo a step if all running attempts succeed."""
         store = self._access.coordinator.store
         view = await AsyncStoreReader(store.read, store.read_long).ask(saga_questions.view(key))
         if view is None or view.id != id:

@@ -1,4 +1,4 @@
-"""A client of a PostgreSQL store: it starts and inspects sagas, and drives none."""
+"""A client of a PostgreSQL store: it starts and inspects sagas, and executes none."""
 
 from __future__ import annotations
 
@@ -87,10 +87,10 @@ class Client(Schedules):
         Args:
             url: The store's database.
             connections: Maximum number of concurrent statements (default: 4). One more connection
-                listens.
-            codec: As of `sagas.open` (default: values are stored as JSON).
-            blobs: As of `sagas.open`: where large results are read (default: in the database).
-            record: As of `sagas.open`: a file for the ends that it is told.
+                listens for notifications.
+            codec: As for `sagas.open` (default: values are stored as JSON).
+            blobs: As for `sagas.open`: where large results are read (default: in the database).
+            record: As for `sagas.open`: a file that records the ends that this client has seen.
 
         Raises:
             InvalidStore: It is not a URL of PostgreSQL.
@@ -119,7 +119,7 @@ class Client(Schedules):
 
     @property
     def codec(self) -> Codec | None:
-        """What encodes values; None if nothing does."""
+        """The codec of values, or None."""
         return self._payloads.codec
 
     async def __aenter__(self) -> Client:
@@ -127,8 +127,8 @@ class Client(Schedules):
 
         Raises:
             StoreUnavailable: The server does not answer.
-            InvalidStore: There are no tables: a node makes them, or `sagas store URL init`. Or it
-                is a pooler that pools transactions.
+            InvalidStore: The database has no tables of the store, or the URL is that of a pooler
+                that pools transactions. A node or `sagas store URL init` makes the tables.
             StoreSchemaTooNew: The tables are of a later version.
             MissingCodec: The store's values are encoded, and this client has no codec.
             StoreLocked: This client has a codec, and a node without one has the store open.
@@ -138,7 +138,7 @@ class Client(Schedules):
             await self._open()
         return self
 
-    if not TYPE_CHECKING:  # a checker says so by itself
+    if not TYPE_CHECKING:  # a type checker reports that itself
 
         def __enter__(self) -> Client:
             raise TypeError(
@@ -172,7 +172,10 @@ class Client(Schedules):
         self._asker.attach(self._notifier.listener)
 
     def _look_at_hosts(self) -> None:
-        """A statement took too long: a server that was replaced may be waiting for its standby."""
+        """Check the hosts, because a statement took too long.
+
+        A server that was replaced may be waiting for its standby.
+        """
         if self._url.are_several:
             self._asker.spawn(self._choose_host())
 
@@ -191,8 +194,8 @@ class Client(Schedules):
         await self.close()
 
     async def close(self) -> None:
-        """Close its connections."""
-        if self._opened.is_elsewhere:  # they are that process's to end
+        """Close the connections."""
+        if self._opened.is_elsewhere:  # another process owns the connections
             return
         notifier, self._notifier = self._notifier, None
         try:
@@ -233,11 +236,11 @@ class Client(Schedules):
         When it returns, a node will execute the saga, even if this program dies.
 
         Args:
-            saga: The definition. The nodes have to know it.
-            connection: A psycopg connection to the same database (default: one of its own). The
-                saga is written in the transaction that is open there, and exists exactly if that
-                commits. If this call raises, it wrote nothing there. A second start of the key
-                waits for its end.
+            saga: The definition. The nodes must have it.
+            connection: A psycopg connection to the same database (default: a connection of the
+                client). The saga is written in the open transaction of that connection, and exists
+                if and only if that commits. If this call raises, it wrote nothing there. A second
+                start of the key waits for the end of the transaction.
 
         Raises:
             StoreUnavailable: The connection is closed, failed, or to another database. Or the
@@ -281,9 +284,9 @@ class Client(Schedules):
             await self._open_notifier.of(row.id, turn)
 
     async def abort(self, key: str) -> bool:
-        """Abort a saga, and wait for its node's answer. See `Store.abort`.
+        """Abort a saga, and wait for its node's reply. See `Store.abort`.
 
-        A start that no node has begun is withdrawn at once, and then no saga has the key.
+        A start that no node has opened is withdrawn at once, and then no saga has the key.
         """
         row = await self._row(key)
         if row.phase is not None:
@@ -316,7 +319,7 @@ class Client(Schedules):
         await self._report(key, step, reported(None, error), undo, early)
 
     async def retry(self, key: str, step: Step[Any] | str, *, undo: bool = False) -> None:
-        """Attempt a step again whose attempts are used up. See `Store.retry`."""
+        """Attempt a step again whose attempts are exhausted. See `Store.retry`."""
         row, kind = await self._row(key), "undo" if undo else "run"
         if row.phase is not None:
             raise step_reports.over(row)
@@ -326,7 +329,7 @@ class Client(Schedules):
         await self._request(row, "retry", value)
 
     async def _request(self, row: SagaRow, command: str, value: str) -> Any:
-        """Ask the node that has the saga, and return its answer. Raises what the answer names."""
+        """Ask the node that executes the saga; return its reply, or raise its error."""
         asker, payloads = self._asker, self._payloads
         answer = await saga_requests.ask(asker, self._open_notifier, row, command, value, payloads)
         return operator_requests.told(answer)
@@ -346,7 +349,7 @@ class Client(Schedules):
         await self._request(row, command, serialization.write(arguments))
 
     async def _check_kept(self, row: SagaRow, step: str, kind: str, outcome: Outcome) -> None:
-        """As `check_again`, of a saga that is over."""
+        """Check a report of a saga that has ended. See `check_again`."""
         names = self._kind(row, (await self._known(row)).definition).names
         await check_again(self._read, row, names, (step, kind), outcome, self._payloads)
 
@@ -355,7 +358,7 @@ class Client(Schedules):
     async def get(self, key: str) -> ClientRun | None:
         """Return the saga with this key, or None. See `Store.get`.
 
-        Here a start that no node has begun is one.
+        A start that no node has opened counts as a saga here.
         """
         return ClientRun(self, key) if await self._find(key) else None
 
@@ -370,7 +373,7 @@ class Client(Schedules):
         return self._url
 
     async def resolve(self, key: str, note: str, *, by: str | None = None) -> None:
-        """Mark a saga as seen to. See `Store.resolve`."""
+        """Mark a saga as resolved. See `Store.resolve`."""
         arguments.text("note", note, "what was done about it")
         note = serialization.clean(note)
         command = serialization.write({"by": by, "note": note})
@@ -382,9 +385,9 @@ class Client(Schedules):
     async def compensate(
         self, key: str, step: Step[Any] | str, *, by: str | None = None, note: str | None = None
     ) -> None:
-        """Have a step compensated whose report was not used. See `Store.compensate`.
+        """Compensate a step whose report was not used. See `Store.compensate`.
 
-        A node that has the definition does it.
+        A node that has the definition executes the command.
         """
         arguments = {"step": step if isinstance(step, str) else step.name, "by": by, "note": note}
         await self._request(await self._row(key), "compensate", serialization.write(arguments))
@@ -417,14 +420,14 @@ class Client(Schedules):
         return await self._asker.read(query, **parameters)
 
     async def _read(self, query: str, *parameters: Any) -> builtins.list[Row]:
-        """Rows of a question with a `?` for each word."""
+        """Return the rows of a query with a `?` for each parameter."""
         self._open_notifier
         text, cells = queries.for_postgresql(query), serialization.cleaned(parameters)
         rows = await self._asker.rows(text, *cells)
         return rows if self._blobs is None else await self._blobs.rows(rows)
 
     async def _find(self, key: str) -> SagaRow | None:
-        keys = [serialization.clean(key)] if isinstance(key, str) else []  # as no other key is
+        keys = [serialization.clean(key)] if isinstance(key, str) else []  # only texts are keys
         rows = [SagaRow(*row) for row in await self._ask(key_finder.FIND, keys=json.dumps(keys))]
         return max(rows, key=lambda row: row.id) if rows else None
 
@@ -435,12 +438,12 @@ class Client(Schedules):
         return row
 
     async def _known(self, row: SagaRow) -> Known:
-        """What the store has of a saga. Raises `NoSuchSaga` where it was let go meanwhile."""
+        """Return what the store has of a saga. Raises `NoSuchSaga` if it was deleted."""
         query = queries.known_words(row.id, history=False)
         return queries.known(await self._read(*query), row.key)
 
     def _kind(self, row: SagaRow, text: str) -> Kind:
-        """The saga of a definition's text: as this client started it, where it did."""
+        """Return the definition of a text; that of this client's start, if there is one."""
         if text not in self._kinds:
             saga = self._sagas.get((row.saga, version_of(text)))
             self._kinds[text] = Kind(text, saga, payloads=self._payloads)

@@ -50,19 +50,21 @@ RENEW = """
 UPDATE sagas.pending_starts SET digest = %(digest)s, refused = NULL
 WHERE key = %(key)s AND version = %(version)s AND node IS NULL RETURNING id
 """
-"""A start that no node has taken has the definition of who starts it last. One that was refused is
-taken again."""
+"""A start that no node has taken gets the definition of its latest start. A refused start is
+accepted again.
+"""
 NOTED = "SELECT 1 FROM sagas.secrets WHERE name = 'codec'"
 BACK = "DELETE FROM sagas.pending_starts WHERE id = ANY(%(own)s::bigint[])"
 NOTIFY = f"SELECT pg_notify('{notifications.CHANNEL}', '{notifications.STARTS}')"
-"""In the caller's transaction, which only its commit ends. One of the client's own is told of
-behind its commit: a commit that tells holds a lock over the whole server, also while it waits for
-a standby."""
+"""In the caller's transaction, only its commit sends the notification. For its own transactions,
+the client notifies after the commit: a commit that notifies holds a lock of the whole server, also
+while it waits for a standby.
+"""
 UNSURE = "It is unknown whether the saga was started. Start it again, with the same key"
 
 
 def has_other_definition(request: dict[str, Any], rows: list[Row]) -> bool:
-    """Whether the start that is there is of another definition than this one of the same key."""
+    """Return whether an existing start of the same key has another definition."""
     digest = request["digest"]
     known = (None, digest) if digest is not None else (None,)
     return any(
@@ -73,7 +75,7 @@ def has_other_definition(request: dict[str, Any], rows: list[Row]) -> bool:
 
 
 def check_same(request: dict[str, Any], rows: list[Row]) -> None:
-    """Raises `KeyConflict` where another saga or input has the key."""
+    """Raise `KeyConflict` if another saga or input has the key."""
     for saga, text, *_ in rows:
         error = relocation.conflict(
             request["key"], request["of"], request["input"], saga, text, request["payloads"]
@@ -83,21 +85,23 @@ def check_same(request: dict[str, Any], rows: list[Row]) -> None:
 
 
 class Written(NamedTuple):
-    """What a start did: whether its row is there, and whether the nodes are to be told."""
+    """Whether a start wrote its row, and whether the nodes must be notified."""
 
     is_new: bool
     must_notify: bool
 
 
 def check_written(request: dict[str, Any], noted: list[Row]) -> None:
-    """Raises `MissingCodec` where nothing was written because values have to be encoded."""
+    """Raise `MissingCodec` if nothing was written because values must be encoded."""
     if noted and not request["encodes"]:
         raise codec_note.missing(request["path"])
 
 
 async def start(link: Connection, request: dict[str, Any]) -> Written:
-    """A row, and then a look whether another has the key: in this order, so that no start of the
-    same key can pass unseen. What is there may be of a commit that no standby has yet.
+    """Write a row, then check whether another start has the key.
+
+    In this order, no concurrent start of the same key can be missed. An existing row may belong to
+    a commit that no standby has yet.
     """
     own = await caller_connection.rows(link, START, request)
     rows = await caller_connection.rows(
@@ -117,7 +121,7 @@ async def start(link: Connection, request: dict[str, Any]) -> Written:
 
 
 def start_now(link: psycopg.Connection[Any], request: dict[str, Any]) -> Written:
-    """As `start`, where it stands."""
+    """Write a row in a blocking transaction. See `start`."""
     own = caller_connection.rows_now(link, START, request)
     rows = caller_connection.rows_now(
         link, EXISTING, {"key": request["key"], "own": [id for (id,) in own]}
@@ -136,15 +140,16 @@ def start_now(link: psycopg.Connection[Any], request: dict[str, Any]) -> Written
 
 
 class StartNotifier:
-    """Tells the nodes of starts that are committed. Those that come while it does are told of
-    together; a node looks by itself as well, each second.
+    """Notifies nodes of committed starts.
+
+    Starts during a notification share the next one. A node also checks for starts each second.
     """
 
     def __init__(self, asker: connections.Asker) -> None:
         self._asker, self._has_more, self._is_sending = asker, False, False
 
     def notify(self) -> None:
-        """There is a start."""
+        """Notify the nodes of a start, in the background."""
         self._has_more = True
         if not self._is_sending:
             self._is_sending = True
@@ -161,8 +166,10 @@ class StartNotifier:
 
 
 def shape_check(saga: Saga, input: Any) -> Callable[[], object] | None:
-    """What calls the functions by which the steps of a saga come from its input, and raises what
-    they raise; None if they do not come from it."""
+    """Return a check of the steps that come from an input; None if there are none.
+
+    The check calls functions of the definition, and raises what they raise.
+    """
     if not saga.is_shaped:
         return None
     plain = serialization.write_value(input, "input")
@@ -170,7 +177,7 @@ def shape_check(saga: Saga, input: Any) -> Callable[[], object] | None:
 
 
 class ClientStarter:
-    """Writes starts, in transactions of its own or of the callers."""
+    """Writes starts, in its own transactions or in those of the callers."""
 
     def __init__(
         self, asker: connections.Asker, path: str, max_connections: int, payloads: Payloads
@@ -180,7 +187,7 @@ class ClientStarter:
         self._digests: WeakKeyDictionary[Saga, str | None] = WeakKeyDictionary()
         self._notifier, self._declared = StartNotifier(asker), DeclaredCalls(max_connections)
         self._checked: WeakSet[caller_connection.Given] = WeakSet()
-        """connections that were given, and are to the store's database"""
+        """Connections of callers that are known to lead to the store's database."""
 
     def start_request(
         self,
@@ -191,8 +198,10 @@ class ClientStarter:
         deadline: Deadline | None,
         traceparent: str | None,
     ) -> dict[str, Any]:
-        """What a start writes, and of which saga. Of one without steps no digest: it says only
-        which saga is meant."""
+        """Return the columns of a start, and its definition.
+
+        A definition without steps has no digest: it only names a saga.
+        """
         arguments.key(key)
         labels_text = json.dumps(dict(checked(labels)))
         validation.check_given(saga)
@@ -216,13 +225,16 @@ class ClientStarter:
         }
 
     async def check_shape(self, saga: Saga, input: Any) -> None:
-        """Raise what a start would be refused for by the nodes, if the steps of a saga come from
-        its input. Functions of the definition say so, in a thread."""
+        """Raise the error for which the nodes would refuse a start.
+
+        That concerns sagas with steps that come from the input. Functions of the definition decide
+        it, in a thread.
+        """
         if (check := shape_check(saga, input)) is not None:
             await self._declared.call(saga.name, check)
 
     async def start(self, request: dict[str, Any], connection: Connection | None) -> bool:
-        """Writes a start; whether the row is there."""
+        """Write a start; return whether its row is new."""
         if connection is None:
             return await self._alone(request)
         store = [] if connection in self._checked else await self.database()
@@ -240,7 +252,7 @@ class ClientStarter:
     def start_now(
         self, request: dict[str, Any], connection: psycopg.Connection[Any], ask: AskDatabase
     ) -> bool:
-        """As `start`, in the transaction of a plain connection, in this thread."""
+        """Write a start in the transaction of a blocking connection. See `start`."""
         store = [] if connection in self._checked else ask(self.database())
         with caller_connection.faults(connection, self._path):
             if store:
@@ -254,8 +266,11 @@ class ClientStarter:
         return written.is_new
 
     async def _alone(self, request: dict[str, Any]) -> bool:
-        """A start in a transaction of its own. Connections that the server has ended meanwhile are
-        tried past, all that there may be: a start that is made twice is one, by its key."""
+        """Write a start in its own transaction.
+
+        It retries over connections that the server has ended, up to the size of the pool. A
+        repeated start has no further effect, because of its key.
+        """
         for left in reversed(range(self._max_connections + 1)):
             try:
                 return await self._asker.whole(self._begin(request))
@@ -274,11 +289,14 @@ class ClientStarter:
         return written.is_new
 
     def close(self) -> None:
-        """Call no functions of definitions any more."""
+        """Stop calling functions of definitions."""
         self._declared.close()
 
     async def database(self) -> list[Row]:
-        """Which database the store is in; nothing where this role may not know."""
+        """Return the identity of the store's database.
+
+        It is empty if this role may not read it.
+        """
         try:
             return await self._asker.read(caller_connection.HERE)
         except StoreUnavailable as error:

@@ -33,9 +33,10 @@ from sagas.storage import operator_requests
 
 
 class Commands:
-    """Carries them out where the saga is driven here, and hands them to its node where it is not.
+    """Executes commands for sagas of this node, and hands others over to their nodes.
 
-    `of`: the saga's id, where no later one of its key is meant."""
+    In its methods, `of` is the id of the saga, if a later saga with the same key is not meant.
+    """
 
     def __init__(self, access: StoreAccess, lookup: SagaLookup) -> None:
         self._access, self._lookup = access, lookup
@@ -43,14 +44,17 @@ class Commands:
     def command_row(
         self, key: str, command: str, by: str | None, note: str | None, **arguments: Any
     ) -> Asked | None:
-        """What is kept of somebody's command; nothing where nobody is named."""
+        """Return the stored row of a command; None if no requester is named."""
         if by is None:
             return None
         text = serialization.write({"by": by, "note": note, **arguments})
         return key, command, text, self._access.coordinator.clock()
 
     async def abort(self, key: str, request: Wanted, of: int | None = None) -> bool:
-        """Aborts a saga. False where it is over, or was aborted before. Raises `NotAbortable`."""
+        """Abort a saga; return False if it has ended, or was aborted before.
+
+        Raises `NotAbortable`.
+        """
         while True:
             coordinator = self._access.coordinator
             live = await self._lookup.live(key)
@@ -67,10 +71,10 @@ class Commands:
                 return bool(await self._hand_over(row, "abort", None, request))
             try:
                 await coordinator.sagas.started(live)
-            except KeyConflict:  # it was to be started otherwise than it was
+            except KeyConflict:  # another saga has the key
                 continue
             _check_is(live, of)
-            is_here = coordinator.sagas.by_key.get(key) is live  # its end is not in the store yet
+            is_here = coordinator.sagas.by_key.get(key) is live  # its end is not stored yet
             if live.shard is None or (live.over and not is_here):
                 if live.over or is_here:
                     return False
@@ -83,8 +87,9 @@ class Commands:
                 continue
 
     async def _hand_over(self, row: SagaRow, command: str, arguments: Any, request: Wanted) -> Any:
-        """Asks the node that has the saga. What was asked here by a row is that node's to
-        answer.
+        """Ask the node that has the saga.
+
+        That node itself executes a stored command.
         """
         if isinstance(request, int):
             raise Moved(f"saga {row.key!r}")
@@ -103,7 +108,10 @@ class Commands:
         of: int | None = None,
         early: bool = True,
     ) -> None:
-        """Says how a step ended, or its compensation. `early`: also of one that has not begun."""
+        """Report the outcome of a step or of its compensation.
+
+        With `early`, steps that have not started are included.
+        """
         kind = "undo" if undo else "run"
         while True:
             live = await self._lookup.live(key)
@@ -121,7 +129,7 @@ class Commands:
                     return
                 continue
             if of is not None and not live.committed:
-                with contextlib.suppress(SagasError):  # its start hears of it
+                with contextlib.suppress(SagasError):  # its start raises that
                     await self._access.coordinator.sagas.started(live)
                 continue
             _check_is(live, of)
@@ -138,7 +146,7 @@ class Commands:
     async def retry(
         self, key: str, step: str, undo: bool, request: Wanted, of: int | None = None
     ) -> None:
-        """Has an attempt called again that waits for a person, or for its time."""
+        """Retry an attempt that waits for an operator, or for its next time."""
         kind = "undo" if undo else "run"
         while True:
             live = await self._lookup.live(key)
@@ -157,9 +165,9 @@ class Commands:
             attempt = live.busy.get((names.index(step), kind))
             while attempt is not None and attempt.pending:
                 await self._access.coordinator.executor.changes.wait(attempt)
-                self._access.coordinator  # raises, where it was closed meanwhile
+                self._access.coordinator  # raises if it was closed in the meantime
             if self._access.coordinator.sagas.by_key.get(key) is not live:
-                continue  # its shard was lost meanwhile
+                continue  # its shard was lost in the meantime
             if attempt is not None and live.busy.get(attempt.word) is not attempt:
                 continue
             if attempt is None or not exhaustion.may_retry(attempt):
@@ -174,8 +182,10 @@ class Commands:
                 continue
 
     async def _report_here(self, attempt: Attempt, outcome: Outcome, request: Wanted) -> None:
-        """Reports an attempt that is under way here. Raises `Moved` where it is over by now, or is
-        not here any more: the answer never rests on what the store may lack.
+        """Report an attempt that is in progress here.
+
+        Raises `Moved` if it has ended, or is not here any more. The reply never relies on a state
+        that may not be stored.
         """
         coordinator, key, step = self._access.coordinator, attempt.instance.key, attempt.name
         is_checked = not child_reports.is_of_child(attempt, outcome)
@@ -187,7 +197,7 @@ class Commands:
             is_over = await coordinator.executor.until_kept(attempt)
             is_here = attempt.instance.busy.get(attempt.word) is attempt
             if is_over or not is_here or coordinator.sagas.by_key.get(key) is not attempt.instance:
-                raise Moved(f"saga {key!r}")  # what the store has of it counts
+                raise Moved(f"saga {key!r}")  # the stored outcome counts
             if attempt is current_step.waiter(
                 coordinator.executor.calls.running
             ) and attempts.will_be_asked(attempt):
@@ -201,7 +211,7 @@ class Commands:
                     f"saga {key!r}, step {step!r} does not wait for a report: {why}"
                 )
             await coordinator.executor.changes.wait(attempt)
-            self._access.coordinator  # raises, where it was closed meanwhile
+            self._access.coordinator  # raises if it was closed in the meantime
         if request is not None:
             attempt.rare.request = request
         kept = coordinator.executor.kept.wait(attempt)
@@ -211,9 +221,11 @@ class Commands:
     async def _reported_attempt(
         self, live: SagaInstance, step: str, kind: str, outcome: Outcome
     ) -> Attempt | Word | None:
-        """The attempt that is under way; the step's word where none has begun; None where it was
-        said before that the step ended so. Raises `Moved` where its end is on its way to the
-        store."""
+        """Return the attempt to report; the key of the action if none has started.
+
+        Returns None if the same outcome was reported before. Raises `Moved` if its end is being
+        stored.
+        """
         if step not in live.kind.names:
             raise StepNotWaiting(
                 f"saga {live.key!r} has no step {step!r}{meant(step, live.kind.names)}"
@@ -237,8 +249,10 @@ class Commands:
         return word
 
     async def _check_not_begun(self, live: SagaInstance, word: Word) -> None:
-        """Raises `Moved` where an attempt of it began since the store was read, or its report is
-        on its way there."""
+        """Raise `Moved` if an attempt has started since the store was read.
+
+        That includes an attempt whose report is being stored.
+        """
         coordinator = self._access.coordinator
         unkept = live.shard.unkept() if live.shard else ()
         attempt = next(
@@ -254,8 +268,10 @@ class Commands:
     async def _report_early(
         self, live: SagaInstance, word: Word, outcome: Outcome, request: Wanted, early: bool
     ) -> None:
-        """Stores a report of a step that has not begun. Raises `StepNotWaiting`, or `Moved` where
-        that is to be looked at again."""
+        """Store a report of a step that has not started.
+
+        Raises `StepNotWaiting`, or `Moved` if the caller has to check again.
+        """
         coordinator, key, step = self._access.coordinator, live.key, live.kind.names[word[0]]
         first = early_reports.stored(live, word)
         why = early_reports.refusal(live, *word) if early else early_reports.NOT_STARTED
@@ -269,14 +285,14 @@ class Commands:
             reason, payloads = early_reports.STORED, live.kind.payloads
             step_reports.check(key, step, first, outcome, reason, payloads)
         elif live.shard is None or not live.committed:
-            with contextlib.suppress(KeyConflict):  # it is another saga's key
+            with contextlib.suppress(KeyConflict):  # another saga has the key
                 await coordinator.sagas.started(live)
             raise Moved(f"saga {key!r}")
         else:
             await coordinator.executor.early.put(EarlyReport(live, word, outcome, request))
 
     async def resolve(self, key: str, note: str, by: str | None) -> None:
-        """Mark a saga as seen to by a person."""
+        """Mark a saga as resolved by an operator."""
         coordinator, row = self._access.coordinator, await self._lookup.row(key)
         note = serialization.clean(note)
         unused = await coordinator.store.read(attention.UNUSED, row.id)
@@ -289,8 +305,10 @@ class Commands:
         coordinator.executor.children.look()
 
     async def _check_kept(self, row: SagaRow, step: str, kind: str, outcome: Outcome) -> None:
-        """Of a saga that is over: raises `StepNotWaiting` where it was not said before that the
-        step ended so."""
+        """Check a report of a saga that has ended, by the reported outcome.
+
+        Raises `StepNotWaiting` and `ConflictingReport`.
+        """
         coordinator = self._access.coordinator
         names = coordinator.registry.kind((await coordinator.store.known(row)).definition).names
         payloads = coordinator.registry.payloads
@@ -298,7 +316,7 @@ class Commands:
 
 
 def _over(live: SagaInstance, rows: Iterable[tuple[Any, ...]], word: Word) -> str | None:
-    """How a step ended of which no attempt is under way; None where it has not."""
+    """Return how a step without a running attempt ended; None if it has not ended."""
     over = step_reports.over_by(rows, *word)
     undo = live.busy.get((word[0], "undo")) if over and word[1] == "run" else None
     if over and undo and attempts.is_asked(undo):
@@ -307,6 +325,6 @@ def _over(live: SagaInstance, rows: Iterable[tuple[Any, ...]], word: Word) -> st
 
 
 def _check_is(live: SagaInstance, of: int | None) -> None:
-    """Raises `NoSuchSaga` where something was asked of the saga with that id, and not of this."""
+    """Raise `NoSuchSaga` if a command was for another saga with the same key."""
     if of is not None and (live.shard is None or live.id != of):
         raise NoSuchSaga(f"no saga has the key {live.key!r} that this request was for")

@@ -16,12 +16,13 @@ from sagas.runtime import current_step
 
 T = TypeVar("T")
 SOON = 2.0
-"""Seconds that a loop has to say what a saga waits for, or to end what still runs."""
+"""Seconds to find out what a saga waits for, or to end tasks that still run."""
 
 
 class Loop:
-    """Runs what other threads ask for. `where` and `what` it is for, and `remedy`, are what they
-    hear while it does not run.
+    """An event loop in its own thread, which runs coroutines of other threads.
+
+    While it does not run, its calls raise `Closed` with `path`, `subject` and `remedy`.
     """
 
     def __init__(self, path: str, subject: str, remedy: str) -> None:
@@ -33,12 +34,13 @@ class Loop:
 
     @property
     def runs(self) -> bool:
-        """Whether it runs, in this process."""
+        """Whether the loop runs in this process."""
         return self._loop is not None and not self._opened.is_elsewhere
 
     def start(self) -> None:
-        """Starts the thread. Raises `RuntimeError` where it runs, and `Closed` where it does in
-        the process that this one was forked from.
+        """Start the thread.
+
+        Raises `RuntimeError` if it runs, and `Closed` if it runs in the parent of this process.
         """
         self._opened.begin(self.path)
         self._loop = asyncio.new_event_loop()
@@ -48,10 +50,10 @@ class Loop:
         self._thread.start()
 
     def end(self) -> None:
-        """Ends it. Calls of other threads that still wait raise `Closed`."""
+        """End the thread. Pending calls of other threads raise `Closed`."""
         with self._guard:
             loop, self._loop = self._loop, None
-        if loop is None:  # another thread has ended it
+        if loop is None:  # another thread has ended the loop
             return
         asyncio.run_coroutine_threadsafe(_finish(loop), loop).result()
         loop.call_soon_threadsafe(loop.stop)
@@ -62,9 +64,10 @@ class Loop:
         self._opened.end()
 
     def do(self, work: Coroutine[Any, Any, T], timeout: float | None = None) -> T:
-        """Does it, and gives what it gives, or raises what it raises; `TimeoutError` after so
-        many seconds. Raises `RuntimeError` in the loop's own thread, which would wait for
-        itself.
+        """Run a coroutine in the loop; return or raise its outcome.
+
+        Raises `TimeoutError` after `timeout` seconds. Raises `RuntimeError` in the loop's own
+        thread, which would wait for itself.
         """
         with self._guard:
             loop = self._loop if self.runs else None
@@ -104,20 +107,20 @@ class Loop:
         timeout: float | None,
         waits: Callable[[], Coroutine[Any, Any, list[str]]],
     ) -> T:
-        """As `do`, for who waits for a saga: the `TimeoutError` says what the saga `waits` for."""
+        """Run a coroutine that waits for a saga; a timeout says what the saga waits for."""
         try:
             return self.do(work, timeout)
         except TimeoutError:
             if timeout is None:
                 raise
         waited_for: list[str] = []
-        with contextlib.suppress(Exception):  # the loop may be held up
+        with contextlib.suppress(Exception):  # the loop may be blocked
             waited_for = self.do(waits(), SOON)
         raise pending.still_open(key, timeout, waited_for)
 
 
 async def _finish(loop: asyncio.AbstractEventLoop) -> None:
-    """Cancel all that still runs in a loop, and wait until it has ended."""
+    """Cancel all tasks of a loop, and wait until they have ended."""
     tasks = asyncio.all_tasks(loop) - {asyncio.current_task(loop)}
     for task in tasks:
         task.cancel()

@@ -1,4 +1,4 @@
-"""The operator calls of an open store: one saga, or all of a filter."""
+"""The operator calls of an open store, for one saga or all sagas of a filter."""
 
 from __future__ import annotations
 
@@ -18,7 +18,7 @@ from sagas.runtime import operator_commands
 
 
 class Operators(Questions):
-    """The calls by which people change what a saga does."""
+    """The calls by which operators change what a saga does."""
 
     def __init__(self, access: StoreAccess, name: str) -> None:
         super().__init__(access)
@@ -37,12 +37,13 @@ class Operators(Questions):
     async def abort(self, key: str, *, by: str | None = None, note: str | None = None) -> bool:
         """Abort a saga: start no more of its steps, and undo by a least-cost plan.
 
-        A client's start that no node has begun is withdrawn.
+        A client's start that no node has opened is withdrawn.
 
         Args:
             key: The saga's key.
-            by: Who asks for it. If given, the store keeps the command with `note` and the time.
-            note: Why.
+            by: The person or program that requests it. If given, the store keeps the command with
+                `note` and the time.
+            note: The reason.
 
         Returns:
             False if the saga had ended, or was aborted before.
@@ -71,29 +72,30 @@ class Operators(Questions):
         """Report that a step succeeded: an approval, an external or an unknown one.
 
         When it returns, the report is durable. The same report again is not an error, also after
-        the saga has ended. If an approval or an external step has not begun, its report is stored:
-        the step takes it when it begins, and calls no function. If the saga ends without the
-        step, the report is in `attention` (see `compensate`).
+        the saga has ended. If an approval or an external step has not started, its report is
+        stored. The step takes it when it starts, and calls no function. If the saga ends without
+        the step, the report is in `attention` (see `compensate`).
 
         A step that starts a child is completed with a `ChildResult`: `{"key": "t/:stay", "phase":
         "completed", "results": {"room": 7}}`. The key is that of a child which this step started
-        and which has ended; a compensation undoes what is left of it. With None as the key, there
-        is no child, and nothing to undo.
+        and which has ended. A compensation undoes what remains of that child. With None as the key,
+        there is no child, and nothing to undo.
 
         Args:
             key: The saga's key.
             step: The step, or its name.
             result: The step's result, as JSON (default: None).
-            undo: Whether the step's compensation is meant (default: False). It is reported once it
-                has begun.
-            early: Whether a step may be reported before it begins (default: True).
-            by: Who reports it. If given, the store keeps the command with `note` and the time.
-            note: Why.
+            undo: Whether the step's compensation is meant (default: False). A compensation is
+                reported after it has started.
+            early: Whether a step may be reported before it starts (default: True).
+            by: The person or program that reports it. If given, the store keeps the command with
+                `note` and the time.
+            note: The reason.
 
         Raises:
             ConflictingReport: Another outcome was reported first, and that one counts.
-            StepNotWaiting: Nobody has to report this step; or it has not begun, and `early` is
-                False, the step is neither an approval nor external, or the saga is being undone.
+            StepNotWaiting: The step does not wait for a report. Or it has not started, and `early`
+                is False, the step is neither an approval nor external, or the saga is being undone.
             InvalidResult: The step starts a child, and this is not the result of one.
             NoSuchSaga: No saga has the key.
             NotSerializable: The result is not JSON.
@@ -139,22 +141,23 @@ class Operators(Questions):
     async def compensate(
         self, key: str, step: Step[Any] | str, *, by: str | None = None, note: str | None = None
     ) -> None:
-        """Have a step compensated that was reported before it began, and not used.
+        """Have a step compensated that was reported before it started, and not used.
 
         Such a report is in `attention` as `unused_report`. A saga with the key `KEY/:STEP:undo`
-        calls the compensation with the result that was reported. When this returns, that saga is
-        durable: its compensation is retried until it succeeds, and is not called again after that.
-        The same call again is not an error.
+        calls the compensation with the result that was reported. When this call returns, that saga
+        is durable: its compensation is retried until it succeeds, and is not called again after
+        that. The same call again is not an error.
 
         Args:
             key: The saga's key.
             step: The step, or its name.
-            by: Who asks for it. The store keeps the command with `note` and the time.
-            note: Why.
+            by: The person or program that requests it. The store keeps the command with `note` and
+                the time.
+            note: The reason.
 
         Raises:
             NoSuchSaga: No saga has the key.
-            StepNotWaiting: The saga has no unused report of the step, is open, or is resolved; or
+            StepNotWaiting: The saga has no unused report of the step, is open, or is resolved. Or
                 the step has no compensation that a saga can call.
             InvalidKey: The key of that saga would be too long.
             CannotDecode: The codec cannot read what is stored.
@@ -168,19 +171,19 @@ class Operators(Questions):
         await self._reports.compensate(key, name, command)
 
     async def resolve(self, key: str, note: str, *, by: str | None = None) -> None:
-        """Mark a saga as seen to: stuck, with a failed compensation or unused report.
+        """Mark a saga as resolved: stuck, with a failed compensation or unused report.
 
-        Nothing runs and nothing is undone by it. The store keeps the note with the time. The same
-        note again is not an error.
+        It runs and undoes nothing. The store keeps the note with the time. The same note again is
+        not an error.
 
         Args:
             key: The saga's key.
-            note: What was done about it.
-            by: Who did it.
+            note: What the operator has done about it.
+            by: The operator.
 
         Raises:
             NoSuchSaga: No saga has the key.
-            StepNotWaiting: The saga is neither, or is resolved with another note.
+            StepNotWaiting: The saga needs no operator, or is resolved with another note.
             ValueError: The note is empty.
             TypeError: The note is not a text.
             StoreUnavailable: The database does not answer.

@@ -25,7 +25,7 @@ T = TypeVar("T")
 
 
 class Questions(Schedules):
-    """Ask an open store. These calls change nothing."""
+    """Read an open store. These calls change nothing."""
 
     def __init__(self, access: StoreAccess) -> None:
         self._access = access
@@ -35,14 +35,17 @@ class Questions(Schedules):
         return await AsyncStoreReader(store.read, store.read_long).ask(question)
 
     async def _row(self, key: str) -> SagaRow:
-        """The saga with this key. Raises `NoSuchSaga`, also of a start that no node has begun."""
+        """Return the row of a saga.
+
+        Raises `NoSuchSaga`, also for a client's start that no node has opened.
+        """
         row = await self._access.coordinator_here().store.find(key)
         if row is None or row.id < 0:
             raise NoSuchSaga(f"no saga has the key {key!r}")
         return row
 
     async def stuck(self, *, limit: int = 1000) -> builtins.list[SagaResult]:
-        """Return the stuck sagas that nobody has resolved, the oldest first.
+        """Return the stuck sagas that are not resolved, the oldest first.
 
         Args:
             limit: Maximum number of sagas (default: 1,000).
@@ -57,7 +60,7 @@ class Questions(Schedules):
         return await self._answer(lists.stuck_results(kind_of, limit))
 
     async def unknown(self, *, limit: int = 1000) -> builtins.list[UnknownAttempt]:
-        """Return the attempts with an unknown outcome, first those that wait for a person.
+        """Return the attempts with an unknown outcome, first those that need an operator.
 
         Args:
             limit: Maximum number of attempts (default: 1,000).
@@ -71,9 +74,9 @@ class Questions(Schedules):
         return await self._answer(lists.unknown(limit))
 
     def active_attempts(self, key: str) -> builtins.list[ActiveAttempt]:
-        """Return the attempts of a saga that have begun, and for what each waits.
+        """Return the attempts of a saga that have started, and what each waits for.
 
-        It reads nothing from the store: a saga that another node executes has none.
+        It reads nothing from the store, so the list of a saga that another node executes is empty.
 
         Args:
             key: The saga's key.
@@ -119,7 +122,7 @@ class Questions(Schedules):
 
         Args:
             key: The saga's key.
-            unfold: As of `Saga.draw` (default: none).
+            unfold: As for `Saga.draw` (default: none).
 
         Raises:
             NoSuchSaga: No saga has the key.
@@ -134,7 +137,7 @@ class Questions(Schedules):
         return folded_drawing.fold(await asyncio.to_thread(program.draw, text), text, {*unfold})
 
     async def audit(self) -> dict[str, str]:
-        """Audit every shard, also those that still grow.
+        """Audit every shard, including shards that still grow.
 
         Returns:
             The verdict by the shard's name. It begins with `yes` if every event was allowed.

@@ -1,4 +1,4 @@
-"""The same report again, of a saga that is over: it is no error, and another one is."""
+"""Repeated reports of a saga that has ended: only a different outcome is an error."""
 
 from __future__ import annotations
 
@@ -21,11 +21,11 @@ async def check_again(
     outcome: Outcome,
     payloads: Payloads,
 ) -> None:
-    """Check a report of a saga that is over, by what was reported before.
+    """Compare a report of a saga that has ended with the reported outcome.
 
     Raises:
-        StepNotWaiting: Nothing was.
-        ConflictingReport: That was another outcome.
+        StepNotWaiting: No outcome was reported before.
+        ConflictingReport: Another outcome was reported before.
     """
     step, kind = action
     if step not in names:

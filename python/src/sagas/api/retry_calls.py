@@ -1,4 +1,4 @@
-"""The calls by which operators answer attempts that are used up."""
+"""The calls by which operators handle attempts that are exhausted."""
 
 from __future__ import annotations
 
@@ -21,7 +21,7 @@ from sagas.storage.filters import Filter
 
 
 class RetryCalls(Operators):
-    """What an open store answers attempts with that wait for a person."""
+    """The calls of an open store for attempts that wait for an operator."""
 
     async def retry(
         self,
@@ -32,20 +32,21 @@ class RetryCalls(Operators):
         by: str | None = None,
         note: str | None = None,
     ) -> None:
-        """Attempt a step again, whose attempts are used up, or whose outcome is unknown.
+        """Attempt a step again that is exhausted, or whose outcome is unknown.
 
-        The same attempt is made at once, with its idempotency key, and its number of attempts
-        begins anew. When it returns, the command is durable.
+        The same attempt is made at once, with its idempotency key, and the count of its attempts
+        starts from zero. When the call returns, the command is durable.
 
         Args:
             key: The saga's key.
             step: The step, or its name.
             undo: Whether the step's compensation is meant (default: False).
-            by: Who asks for it. If given, the store keeps the command with `note` and the time.
-            note: Why.
+            by: The person or program that requests it. If given, the store keeps the command with
+                `note` and the time.
+            note: The reason.
 
         Raises:
-            StepNotWaiting: The step does not wait for this.
+            StepNotWaiting: The step does not wait for a retry.
             NoSuchSaga: No saga has the key.
             OwnerUnavailable: The node that executes the saga does not answer.
             StoreUnavailable: The database does not answer.
@@ -66,7 +67,7 @@ class RetryCalls(Operators):
         by: str | None = None,
         note: str | None = None,
     ) -> int:
-        """Attempt again each step whose attempts are used up. See `Store.retry`.
+        """Attempt again each step whose attempts are exhausted. See `Store.retry`.
 
         `complete_all` and `fail_all` report them instead.
 
@@ -75,16 +76,17 @@ class RetryCalls(Operators):
             step: Only this step, and its compensation (default: all). The name of a step with items
                 means all of them, and `hotel/room` a step of an included saga.
             labels: Only sagas with all of these labels (default: all).
-            limit: How many at most, those first that have waited longest (default: 1,000).
-            by: Who asks for it.
-            note: Why.
+            limit: Maximum number of attempts, those first that have waited longest (default:
+                1,000).
+            by: The person or program that requests it.
+            note: The reason.
 
         Returns:
-            How many. Those that somebody else has answered meanwhile do not count. If no saga has a
-            label, or no definition the step, a warning is logged.
+            The number of attempts, without those that another command has handled in the meantime.
+                If no saga has a label, or no definition the step, a warning is logged.
 
         Raises:
-            InvalidLabel: As of `abort_all`.
+            InvalidLabel: As for `abort_all`.
         """
         return await self._each(
             self._exhausted(saga, step, labels, limit), None, {"by": by, "note": note}
@@ -101,10 +103,10 @@ class RetryCalls(Operators):
         by: str | None = None,
         note: str | None = None,
     ) -> int:
-        """Report that each step succeeded whose attempts are used up.
+        """Report that each step succeeded whose attempts are exhausted.
 
         Args:
-            result: The result of each (default: None).
+            result: The result of each step (default: None).
 
         See `Store.retry_all` for the others.
 
@@ -129,10 +131,10 @@ class RetryCalls(Operators):
         by: str | None = None,
         note: str | None = None,
     ) -> int:
-        """Report that each step failed permanently whose attempts are used up.
+        """Report that each step failed permanently whose attempts are exhausted.
 
         Args:
-            error: Why.
+            error: The reason.
 
         See `Store.retry_all` for the others.
 
@@ -150,7 +152,7 @@ class RetryCalls(Operators):
         outcome: Outcome | None,
         details: dict[str, Any],
     ) -> int:
-        """Answer those that wait; by a retry where there is no outcome."""
+        """Retry the waiting attempts, or report an outcome for each."""
         command = "retry" if outcome is None else "fail" if "error" in details else "complete"
         by, note, count = details.pop("by"), details.pop("note"), 0
         invalid: InvalidResult | None = None
@@ -168,7 +170,7 @@ class RetryCalls(Operators):
                         *about, outcome, wait.undo, request, wait.id, early=False
                     )
                 count += 1
-            except (StepNotWaiting, ConflictingReport, NoSuchSaga):  # somebody else was faster
+            except (StepNotWaiting, ConflictingReport, NoSuchSaga):  # another command was first
                 continue
             except InvalidResult as error:
                 invalid = invalid or error

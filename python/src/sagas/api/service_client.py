@@ -1,11 +1,11 @@
-"""A client over HTTP: it starts sagas at a service, waits for them, and decides steps.
+"""A client over HTTP: it starts sagas, waits for them, and decides steps.
 
-    with sagas.ServiceClient("http://127.0.0.1:8080", token="..") as client:
+    with sagas.ServiceClient("http://127.0.0.1:8080", token="...") as client:
         run = client.start("trip", "order-1", {"to": "Rome"})
         print(run.wait(timeout=30))
 
-It needs nothing but the standard library. Each request is safe to repeat, so each call repeats its
-request until a service answers.
+It needs only the standard library. Each request is safe to repeat, so each call repeats its request
+until a service answers.
 """
 
 from __future__ import annotations
@@ -43,17 +43,17 @@ from sagas.definition.start_options import Deadline, deadline_at
 from sagas.definition.step import Step
 
 ANSWER = 20.0  # seconds that one request may take
-MAX_WAIT = 30.0  # seconds that the service keeps one request
-BEYOND = 15.0  # seconds that an answer may take beyond that
-LATE = 10.0  # seconds for which a request is repeated at least
+MAX_WAIT = 30.0  # seconds that the service holds one request
+BEYOND = 15.0  # seconds that the reply may take after that
+LATE = 10.0  # minimum seconds for which a request is repeated
 
 
 class ServiceClient:
     """Start and inspect sagas of an HTTP service, and decide steps.
 
-    It uses only the standard library. Its calls block, and any thread may make them, also at once.
-    Each call repeats its request until a service answers, for `timeout` seconds. A repeated request
-    counts once. Use it by `with`, or call `close`.
+    It uses only the standard library. Its calls block, and any thread may make them, also
+    concurrently. Each call repeats its request until a service answers, for `timeout` seconds. A
+    repeated request counts once. Use it by `with`, or call `close`.
 
     Each call can raise `ServiceUnavailable` if no service answers in time, `ServiceRefused` if the
     service refuses the call, for example its token, and `Closed` if the client is closed.
@@ -75,16 +75,16 @@ class ServiceClient:
 
         Args:
             url: The service, or several services over one database: if one does not answer, the
-                next one is asked.
+                client asks the next one.
             token: The token of a caller, an approver or an operator (default: None).
             timeout: Seconds for which a call repeats its request (default: 60).
-            codec: That of the service's store: inputs and results are decoded here (default: they
-                are as the service answers them, `{"$codec": ...}` if they are encoded).
-            blobs: That of the service's store: large inputs and results are read there (default:
-                they are references, `{"$blob": ...}`).
+            codec: That of the service's store: the client decodes inputs and results (default: they
+                are as the service returns them, `{"$codec": ...}` if they are encoded).
+            blobs: That of the service's store: the client reads large inputs and results there
+                (default: they are references, `{"$blob": ...}`).
 
         Raises:
-            TypeError: The codec or the blob store lacks a function.
+            TypeError: The codec or the blob store has no required function.
             ValueError: The URL is not the address of a service, or the timeout is not valid.
         """
         self.timeout = arguments.time("timeout", timeout, none=False)
@@ -95,7 +95,7 @@ class ServiceClient:
 
     @property
     def url(self) -> str:
-        """The service that it asks now."""
+        """The service that the client asks now."""
         return self._service.url
 
     # -- sagas
@@ -171,13 +171,14 @@ class ServiceClient:
 
         Args:
             key: The saga's key.
-            timeout: Seconds (default: as long as it takes).
+            timeout: Seconds (default: without limit).
 
         Returns:
             The saga. Look at `ok`: a saga that was compensated does not raise.
 
         Raises:
-            TimeoutError: It has not ended in time, and goes on. The message says what it waits for.
+            TimeoutError: It has not ended in time, and continues. The message says what it waits
+                for.
             NoSuchSaga: No saga has the key.
             CannotDecode: The codec or the blob store of this client cannot read a value.
             ServiceRefused: The service refuses the token.
@@ -204,11 +205,11 @@ class ServiceClient:
 
         Args:
             key: The saga's key.
-            note: Why; it is stored with who and when (default: none).
+            note: The reason; it is stored with the requester and the time (default: none).
 
         Returns:
-            Whether this call aborted it. It is False if the saga is over or was aborted before,
-            also by a request of this call whose answer was lost.
+            Whether this call aborted it. It is False if the saga has ended or was aborted before,
+                also by a request of this call whose reply was lost.
 
         Raises:
             NoSuchSaga: No saga has the key.
@@ -238,11 +239,11 @@ class ServiceClient:
             step: The step, or its name.
             result: Its result, as JSON (default: None).
             undo: Whether its compensation is meant (default: False).
-            early: Whether the report is stored until the step begins (default: True).
-            note: Why; it is stored with who and when (default: none).
+            early: Whether the report is stored until the step starts (default: True).
+            note: The reason; it is stored with the requester and the time (default: none).
 
         Raises:
-            StepNotWaiting: Nobody has to report the step.
+            StepNotWaiting: The step does not wait for a report.
             ConflictingReport: Another outcome was reported first, and counts.
             NoSuchSaga: No saga has the key.
             NotSerializable: The result is not JSON.
@@ -267,7 +268,7 @@ class ServiceClient:
             error: Why it failed, for people.
 
         Raises:
-            StepNotWaiting: Nobody has to report the step.
+            StepNotWaiting: The step does not wait for a report.
             ConflictingReport: Another outcome was reported first, and counts.
             NoSuchSaga: No saga has the key.
             ServiceRefused: The token may not report this step.
@@ -303,18 +304,18 @@ class ServiceClient:
         error: str | None = None,
         page_size: int = 100,
     ) -> Iterator[ServiceSummary]:
-        """List sagas, the newest first. It asks for one page after the other.
+        """List sagas, the newest first. It requests one page after another.
 
         Args:
             phase: `open`, `completed`, `recovered`, `stuck` or `resolved`; or `undo_failed`, for
-                those recovered sagas of which a compensation failed permanently (default: all).
+                recovered sagas with a compensation that failed permanently (default: all).
             saga: A definition, or its name (default: all).
             labels: Labels that the sagas have, all of these (default: any).
-            search: What their keys contain (default: anything).
-            started_after: They were started then or later: a datetime with a time zone, or seconds
-                since 1970 (default: any time).
-            started_before: They were started earlier (default: any time).
-            error: What an attempt raised, or a part of that (default: anything).
+            search: A part of their keys (default: anything).
+            started_after: Only sagas that started then or later: a datetime with a time zone, or
+                seconds since 1970 (default: any time).
+            started_before: Only sagas that started earlier (default: any time).
+            error: A part of what an attempt raised (default: anything).
             page_size: Sagas of one request, from 1 to 1,000 (default: 100).
 
         Raises:
@@ -354,9 +355,9 @@ class ServiceClient:
         """Follow events, from the moment at which the stream is opened.
 
         Args:
-            key: Of the saga with this key (default: of all).
-            saga: Of the sagas of this definition, or of this name (default: of all).
-            last_event_id: Go on after the event with this `id` (default: from now on).
+            key: Only events of the saga with this key (default: of all).
+            saga: Only events of sagas of this definition, or of this name (default: of all).
+            last_event_id: Continue after the event with this `id` (default: from now on).
 
         Returns:
             A stream to loop over; use it by `with`.
@@ -377,10 +378,10 @@ class ServiceClient:
     # -- its end
 
     def close(self) -> None:
-        """Close its connections.
+        """Close the connections.
 
-        Calls under way raise `Closed`, and loops over events end. A request under way may have
-        been carried out.
+        Calls in progress raise `Closed`, and loops over events end. The service may still execute a
+        request in progress.
         """
         self._closed.set()
         for stream in builtins.list(self._streams):
@@ -406,7 +407,7 @@ class ServiceClient:
         patience: float | None = None,
         headers: Mapping[str, str] = NO_HEADERS,
     ) -> dict[str, Any]:
-        """An answer. Raises the exceptions of a store where the problem is one of them."""
+        """Return a reply. Raises the exception of a store that the problem names."""
         try:
             return self._service.repeated(
                 lambda url, left: self._service.ask(url, path, body, min(seconds, left), headers),
@@ -443,7 +444,7 @@ def _moment(parameter: str, value: datetime.datetime | float | None) -> float | 
 
 
 def _seconds_to(deadline: Deadline | None) -> float | None:
-    """The seconds from now to a deadline; one that has passed is now."""
+    """Return the seconds until a deadline; 0 for one that has passed."""
     now = time.time() if isinstance(deadline, datetime.datetime) else 0.0
     at = deadline_at(deadline, now)
     return None if at is None else max(0.0, at - now)

@@ -1,4 +1,4 @@
-"""Values that a service answers as they are stored: encoded, or as references to blobs."""
+"""Stored values in replies of a service: encoded ones, and references to blobs."""
 
 from __future__ import annotations
 
@@ -16,22 +16,22 @@ from sagas.definition.payloads import Codec, checked
 
 
 class ServiceValues:
-    """Reads them with the codec and the blob store of the service."""
+    """Reads values with the codec and the blob store of a service."""
 
     def __init__(self, codec: Codec | None, blobs: BlobStore | None) -> None:
-        """Raises `TypeError` if one of them is none."""
+        """Make a reader. Raises `TypeError` if an argument has the wrong type."""
         check_blobs(blobs, LEAST)
         self._payloads, self._blobs = checked(codec, blobs is not None), blobs
 
     def saga(self, reply: Mapping[str, Any]) -> Mapping[str, Any]:
-        """Return what a service says of a saga, with its values. Raises `CannotDecode`."""
+        """Return a reply about a saga, with decoded values. Raises `CannotDecode`."""
         if not self._payloads.reads:
             return reply
         results = {step: self.read(value) for step, value in reply["results"].items()}
         return {**reply, "input": self.read(reply["input"]), "results": results}
 
     def read(self, value: Any) -> Any:
-        """Return a value. Raises `CannotDecode`."""
+        """Return a decoded value. Raises `CannotDecode`."""
         is_stored = isinstance(value, dict) and bool({"$codec", "$blob"} & value.keys())
         if not is_stored or not self._payloads.reads:
             return value
@@ -51,14 +51,14 @@ class ServiceValues:
                 data = self._blobs.get(key)
         except KeyError:
             raise CannotDecode("its value is not in the blob store") from None
-        except Exception as error:  # it may have the value in its text
+        except Exception as error:  # its text may contain the value
             name = type(error).__name__
             raise CannotDecode(f"its value cannot be got: the blob store raised {name}") from None
         return bytes(data).decode("utf-8", "surrogatepass")
 
 
 def _awaited(function: Any, key: str) -> Any:
-    """Call a coroutine function in a loop of its own: the caller's thread may have one."""
+    """Run a coroutine function in a new loop: the caller's thread may have one."""
     result: list[Any] = []
 
     def work() -> None:

@@ -21,12 +21,11 @@ from sagas.runtime import relocation
 from sagas.runtime.coordinator import Coordinator
 
 StartWork = Coroutine[Any, Any, bool]
-"""Whether a start began the saga: to be awaited at once, since its key is taken by then."""
+"""Whether a start created the saga. Await it at once: its key is taken already."""
 
 
 class Starter:
-    """Starts sagas of these definitions; with `accepts_new=False` only finds those that are
-    there."""
+    """Starts sagas. Without `accepts_new`, it only finds existing ones."""
 
     def __init__(
         self, access: StoreAccess, lookup: SagaLookup, registry: Shelf, accepts_new: bool
@@ -44,7 +43,10 @@ class Starter:
         traceparent: str | None = None,
         token: str | None = None,
     ) -> StartWork:
-        """Starts a saga. Whether this start began it. `token`: the name of a service's token."""
+        """Start a saga; return whether this start created it.
+
+        `token` is the name of a service's token.
+        """
         coordinator = self._access.coordinator_here()
         arguments.key(key)
         undo_sagas.check_started(saga)
@@ -69,11 +71,13 @@ class Starter:
     def start_child(
         self, saga: Saga | Kind, key: str, input: Any, options: StartOptions
     ) -> StartWork:
-        """Starts a child, also where the store starts no new sagas: its parent is not new. What
-        undoes a child comes as its definition."""
+        """Start a child, also if the store accepts no new sagas: its parent is not new.
+
+        A saga that undoes a child is passed as its compiled definition.
+        """
         coordinator = self._access.coordinator_here()
         arguments.key(key, or_child=True)
-        # the input of a saga that undoes a child has the child's results
+        # the input of a saga that undoes a child contains the child's results
         if isinstance(saga, Kind):
             text = serialization.write(input, "input")
             return self._start(
@@ -94,7 +98,10 @@ class Starter:
         options: StartOptions,
         accepts: bool,
     ) -> bool:
-        """As `_start`, of a saga whose steps come from its input. Its key is taken only then."""
+        """Start a saga whose steps come from its input, after computing the steps.
+
+        Its key is not taken before that.
+        """
         fitted = await coordinator.declared.fit(self._registry, saga, text)
         self._access.coordinator_here()  # it may be closed by now
         return await self._start(coordinator, saga, fitted, key, text, options, accepts)
@@ -114,7 +121,7 @@ class Starter:
             options = dataclasses.replace(options, shape=shape)
         text = self._registry.payloads.encode(text)
         is_new = invalid is None and accepts and key not in coordinator.sagas.by_key
-        if is_new and self._lookup.guessing.is_worth():  # as far as the last ones tell
+        if is_new and self._lookup.guessing.is_worth():  # judging by the last starts
             assert kind
             new = coordinator.sagas.add(key, text, kind, options)
             return self._begin(coordinator, new, guessed=True)
@@ -130,17 +137,17 @@ class Starter:
         options: StartOptions,
         accepts: bool,
     ) -> bool:
-        """As `_start`, of a key that may be there."""
+        """Start a saga after looking up its key."""
         lookup, payloads = self._lookup, self._registry.payloads
         kind, _, invalid = fitted
         live = coordinator.sagas.by_key.get(key)
         is_sound = invalid is None and accepts
         if live is not None and live.is_doubtful:
             live = await lookup.live(key)
-        # else it is looked for with others, where it is placed
+        # otherwise its key is looked up with others, when it is assigned to a shard
         looks = coordinator.store.shared or not is_sound
         row = await lookup.find(key) if looks and live is None else None
-        live = coordinator.sagas.by_key.get(key)  # another start of it may have come meanwhile
+        live = coordinator.sagas.by_key.get(key)  # another start may have arrived
         stored = (live.kind.name, live.text) if live else (row.saga, row.input) if row else None
         if live and live.text == ABSENT and (row := await coordinator.store.find(key)):
             stored = row.saga, row.input
@@ -172,14 +179,14 @@ class Starter:
             return await self._begin(coordinator, new, guessed=False)
         if live and not live.committed:
             await coordinator.sagas.started(live)
-        elif live is None:  # another node wrote it, which may not have heard yet that it is kept
+        elif live is None:  # another node wrote it, and may not know yet that it is stored
             await coordinator.store.replicated()
         return False
 
     async def _begin(self, coordinator: Coordinator, live: SagaInstance, guessed: bool) -> bool:
-        """Starts one whose key is free, as far as is known. False: another node was first."""
+        """Start a saga whose key seems to be free; return False if another node was first."""
         live.guessed = guessed
-        # before it is placed: it may be there at once, or refused
+        # before it is assigned, since it may be stored or refused at once
         begun = coordinator.sagas.started(live)
         coordinator.shards.assign(live)
         try:
@@ -194,8 +201,9 @@ class Starter:
         return live.committed
 
     async def _is_there(self, live: SagaInstance) -> bool:
-        """Whether the key of one that could not be begun has that saga all the same. Raises
-        `KeyConflict`, `StoreUnavailable`.
+        """Return whether the store has a saga whose start has failed.
+
+        Raises `KeyConflict` and `StoreUnavailable`.
         """
         row = await self._lookup.find(live.key)
         if row is None:

@@ -53,7 +53,7 @@ class Store(RetryCalls):
         leased: Whether workers claim the tasks of steps with `external=True` (default: False). Set
             it before opening. Then such a step starts when it is claimed.
         workers: The tasks for workers.
-        deliveries: What webhooks are told.
+        deliveries: The deliveries for webhooks.
         opened_with: The arguments of `sagas.open`, by name, for `sagas serve --app`.
     """
 
@@ -124,30 +124,30 @@ class Store(RetryCalls):
 
     @property
     def path(self) -> str:
-        """Its file, or its database without the password."""
+        """The file of the store, or its database without the password."""
         return self._access.path
 
     @property
     def sagas(self) -> builtins.list[Saga]:
-        """The definitions that it was opened with."""
+        """The definitions that the store was opened with."""
         return [*self._registry.declared]
 
     @property
     def codec(self) -> Codec | None:
-        """What encodes its values; None if nothing does."""
+        """The codec of values, or None."""
         return self._registry.payloads.codec
 
     async def __aenter__(self) -> Store:
-        """Open it: take the lock, and go on with each saga that is not over.
+        """Open the store: take the lock, and continue each open saga.
 
         Raises:
-            StoreLocked: Another program has the file open. Or a codec was given, and a node
-                without one has the database open.
+            StoreLocked: Another program has the file open. Or a codec was given, and a node without
+                one has the database open.
             StoreUnavailable: The file or the server does not answer.
-            InvalidStore: It is no store, or not one that this program can go on from.
+            InvalidStore: It is not a store, or not one that this program can continue.
             MissingCodec: Its values are encoded, and no codec was given.
-            MissingStep: A saga that is not over needs a step that this program has no function for,
-                or may undo a completed child whose compensation this program does not have.
+            MissingStep: An open saga needs a step that this program has no function for, or may
+                undo a completed child whose compensation this program does not have.
             EngineError: The program `sagas` cannot be started, or refuses a shard.
             RuntimeError: The store is open already.
         """
@@ -201,7 +201,7 @@ class Store(RetryCalls):
                 retention_module.keep(coordinator, database.file, seconds, self._archive_dir)
             )
 
-    if not TYPE_CHECKING:  # a checker says so by itself
+    if not TYPE_CHECKING:  # a type checker reports that itself
 
         def __enter__(self) -> Store:
             raise TypeError(
@@ -225,7 +225,7 @@ class Store(RetryCalls):
 
         Their outcomes are stored. A cancelled function runs again, with its idempotency key, when
         the store is opened again. Calls that still wait raise `Closed`. If this call is cancelled,
-        the closing goes on, and a further call waits for it.
+        the closing continues, and a further call waits for it.
 
         Args:
             shutdown_timeout: Seconds, or a timedelta, after which running functions are cancelled
@@ -240,7 +240,7 @@ class Store(RetryCalls):
             if shutdown_timeout is None
             else arguments.time("shutdown_timeout", shutdown_timeout)
         )
-        if self._access.opened.is_elsewhere:  # it is that process's to close
+        if self._access.opened.is_elsewhere:  # another process owns the store
             return
         if self._requests:
             self._requests.stop()
@@ -253,12 +253,12 @@ class Store(RetryCalls):
 
     @property
     def _is_over(self) -> bool:
-        """Whether it is closed: a call of `close` that was cancelled may go on."""
+        """Whether the store is closed: a cancelled call of `close` may still continue."""
         coordinator = self._access.opened_coordinator
         return coordinator is None or coordinator.is_over
 
     def _replies(self, key: str) -> None:
-        """A service is about to answer that a saga is started: its record says so first."""
+        """Record that a service is about to reply that a saga is started."""
         coordinator = self._coordinator
         if acknowledgements := coordinator.executor.calls.acknowledgements:
             acknowledgements.replied(coordinator.sagas.by_key.get(key))
@@ -269,17 +269,17 @@ class Store(RetryCalls):
 
     @property
     def _refusal(self) -> asyncio.Future[InvalidStore]:
-        """Why it cannot execute anything, and will not be able to."""
+        """Done, with the reason, when this node can no longer execute anything."""
         return self._coordinator.refusal
 
     async def serve(self) -> None:
         """Wait for SIGTERM or SIGINT, in a program that only executes sagas.
 
-        Then close the store: its sagas go on at another node, or when it is opened again.
+        Then close the store: its sagas continue at another node, or when it is opened again.
 
         Raises:
             InvalidStore: The database has no tables of the store any more, and this node cannot
-                make them. Then nothing is executed.
+                create them. Then nothing is executed.
             Closed: The store is not open.
         """
         loop, refusal = self._coordinator.loop, self._refusal
@@ -312,24 +312,23 @@ class Store(RetryCalls):
     ) -> Run:
         """Start a saga, or return the one with this key.
 
-        The call is idempotent. When it returns, the saga is durable: it goes on even if this
+        The call is idempotent. When it returns, the saga is durable: it continues even if this
         program dies.
 
         Args:
             saga: A definition that was given to `open`.
             key: The saga's identity, for example an order number: 1 to 512 printable characters,
-                without `/:`. It is taken as long as the saga is kept.
+                without `/:`. It is used as long as the saga is kept.
             input: What the steps read as `task.input`: JSON, or a value of their type hints
                 (default: None).
             labels: Texts by name, by which lists find the saga: `{"customer": "7"}` (default:
                 none). The labels of the first start of a key count.
             deadline: When the saga is aborted if it has not ended: seconds or a timedelta from now
                 on, or a datetime with a time zone (default: that of `Saga`). That of the first
-                start of a key counts. One that has passed aborts the saga at once, and calls
-                no function.
+                start of a key counts. A deadline in the past aborts the saga at once, and calls no
+                function.
             traceparent: The W3C trace context that the saga is started in (default: of the current
-                span, where `opentelemetry-api` is installed). That of the first start of a key
-                counts.
+                span, if `opentelemetry-api` is installed). That of the first start of a key counts.
 
         Returns:
             The saga. `Run.new` says whether this start created it.
@@ -360,7 +359,7 @@ class Store(RetryCalls):
         deadline: Deadline | None,
         traceparent: str | None,
     ) -> Run:
-        """As `start`; `token`: of a service, the name of the token that starts it."""
+        """Start a saga. `token` is the name of a service's token, or None."""
         trace = tracing.of_start(self._tracer, traceparent)
         new = await self._starter.start(saga, key, input, labels, deadline, trace, token)
         return Run(self, key, new)
@@ -381,7 +380,7 @@ class Store(RetryCalls):
         )
 
     async def get(self, key: str) -> Run | None:
-        """Return the saga with this key; None if there is none, or no node began it yet.
+        """Return the saga with this key; None if no node has started one.
 
         Args:
             key: The saga's key.
@@ -402,7 +401,7 @@ class Store(RetryCalls):
 
         Args:
             key: The saga's key.
-            timeout: Seconds (default: without end).
+            timeout: Seconds (default: without limit).
 
         Returns:
             How it ended.

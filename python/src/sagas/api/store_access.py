@@ -1,4 +1,4 @@
-"""What the calls of an open store share: its coordinator, and the checks of loop and process."""
+"""Access to the coordinator of an open store, with checks of loop and process."""
 
 from __future__ import annotations
 
@@ -11,7 +11,7 @@ from sagas.runtime.coordinator import Coordinator
 
 
 class StoreAccess:
-    """The coordinator of a store, as long as the store is open."""
+    """The coordinator of a store, while the store is open."""
 
     def __init__(self, path: str) -> None:
         self.path = path
@@ -20,7 +20,7 @@ class StoreAccess:
 
     @property
     def coordinator(self) -> Coordinator:
-        """The coordinator. Raises `Closed` where the store is not open."""
+        """The coordinator. Raises `Closed` if the store is not open."""
         if self.opened_coordinator is None:
             raise Closed(
                 f"{self.path}: the store is not open. Use `async with sagas.open(...) as store`"
@@ -32,9 +32,10 @@ class StoreAccess:
         return self.opened_coordinator
 
     def coordinator_here(self) -> Coordinator:
-        """The coordinator, for a call that waits in the store's loop.
+        """Return the coordinator, for a call that waits in the store's loop.
 
-        Raises `Closed`, and `RuntimeError` in another loop."""
+        Raises `Closed`, and `RuntimeError` in another loop.
+        """
         coordinator = self.opened_coordinator
         if coordinator is None or coordinator.closed or coordinator.forks != private.forks:
             coordinator = self.coordinator  # raises
@@ -47,7 +48,7 @@ class StoreAccess:
 
 
 def transactions(*arguments: Any) -> Any:
-    """What calls functions in transactions of PostgreSQL. It needs psycopg."""
+    """Return the caller of functions in transactions of PostgreSQL. It needs psycopg."""
     from sagas.runtime.transactional_steps import Transactions
 
     return Transactions(*arguments)

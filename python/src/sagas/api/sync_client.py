@@ -27,7 +27,7 @@ class SyncClientRun(Facade[ClientRun]):
 
     Attributes:
         key: The saga's key.
-        new: As of `ClientRun`.
+        new: As for `ClientRun`.
     """
 
     def __init__(self, owner: SyncClient, run: ClientRun) -> None:
@@ -74,7 +74,7 @@ class SyncClient(Facade[Client]):
 
     @property
     def codec(self) -> Codec | None:
-        """What encodes values; None if nothing does."""
+        """The codec of values, or None."""
         return self._inner.codec
 
     def __enter__(self) -> SyncClient:
@@ -86,7 +86,7 @@ class SyncClient(Facade[Client]):
             raise
         return self
 
-    if not TYPE_CHECKING:  # a checker says so by itself
+    if not TYPE_CHECKING:  # a type checker reports that itself
 
         async def __aenter__(self) -> SyncClient:
             raise TypeError(
@@ -105,7 +105,7 @@ class SyncClient(Facade[Client]):
         self.close()
 
     def close(self) -> None:
-        """Close its connections."""
+        """Close the connections."""
         if self._loop.runs:
             try:
                 self._loop.do(self._inner.close())

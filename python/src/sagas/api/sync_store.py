@@ -60,7 +60,7 @@ class SyncStore(Facade[Store]):
 
     @property
     def codec(self) -> Codec | None:
-        """What encodes values; None if nothing does."""
+        """The codec of values, or None."""
         return self._inner.codec
 
     def __enter__(self) -> SyncStore:
@@ -70,10 +70,10 @@ class SyncStore(Facade[Store]):
         except BaseException:
             self._loop.end()
             raise
-        self._loop.path = self._inner.path  # it has the database's name by now
+        self._loop.path = self._inner.path  # the name of the database is known now
         return self
 
-    if not TYPE_CHECKING:  # a checker says so by itself
+    if not TYPE_CHECKING:  # a type checker reports that itself
 
         async def __aenter__(self) -> SyncStore:
             raise TypeError(
@@ -98,7 +98,7 @@ class SyncStore(Facade[Store]):
             try:
                 self._loop.do(self._inner.close(shutdown_timeout))
             finally:
-                if self._inner._is_over:  # else it is still to be closed
+                if self._inner._is_over:  # otherwise it must still be closed
                     self._loop.end()
 
     def serve(self) -> None:
@@ -175,7 +175,7 @@ class SyncStore(Facade[Store]):
         """Wait until no saga is open.
 
         Args:
-            timeout: Seconds (default: without end).
+            timeout: Seconds (default: without limit).
 
         Raises:
             TimeoutError: Sagas are still open.

@@ -20,8 +20,9 @@ async def in_time(
     timeout: float,
     waits: Callable[[], Awaitable[list[str]]],
 ) -> T:
-    """What `work` gives, if it does so in time; else `TimeoutError`, with what the saga `waits`
-    for.
+    """Return the result of `work`; a timeout says what the saga waits for.
+
+    Raises `TimeoutError`.
     """
     scope = asyncio.timeout(timeout)
     try:

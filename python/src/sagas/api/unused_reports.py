@@ -1,4 +1,4 @@
-"""Reports that their sagas did not use: sagas of their own undo them."""
+"""Undoes reports that their sagas did not use, by separate sagas."""
 
 from __future__ import annotations
 
@@ -27,7 +27,7 @@ from sagas.runtime import given_values, stored_values
 from sagas.storage import operator_requests
 
 PAUSE = 30.0
-"""Seconds until reports are looked for that another node left, and that nobody told of."""
+"""Seconds between checks for reports that another node left without a notification."""
 LEFT = """
 SELECT s.key, s.id, h.step FROM suspensions h JOIN sagas s ON s.id = h.id
 WHERE h.number = 0 AND h.reason = 'early_result' AND s.phase IS NOT NULL AND s.note IS NULL
@@ -37,13 +37,14 @@ LABELS = f"SELECT name, value FROM labels WHERE id = ? AND name <> '{TOKEN}'"
 
 
 class UnusedReports:
-    """Starts the sagas that call the compensations.
+    """Starts sagas that compensate unused reports.
 
-    Each is started before its report counts as undone. If that is not stored, it is started again,
-    and its key has one saga: so no compensation is called again that has succeeded.
+    Such a saga is started before its report counts as undone. If that mark is not stored, the saga
+    is started again, and its key identifies one saga. So a compensation that has succeeded is not
+    called again.
 
     Attributes:
-        starter: What starts them; `Store` sets it.
+        starter: Starts the sagas; `Store` sets it.
     """
 
     starter: Starter
@@ -53,7 +54,7 @@ class UnusedReports:
         self._changed = asyncio.Event()
 
     async def compensate(self, key: str, step: str, request: Wanted, of: int | None = None) -> None:
-        """Have the compensation of a step called whose report was not used."""
+        """Have the compensation called for a step whose report was not used."""
         row = await self._ended(key, of)
         coordinator = self._access.coordinator
         known = await coordinator.store.known(row)
@@ -94,8 +95,9 @@ class UnusedReports:
         await coordinator.kept(batch)
 
     async def _hand_over(self, row: SagaRow, step: str, request: Wanted) -> None:
-        """Ask the nodes that have the definition. What was asked here by a row is theirs to
-        answer.
+        """Ask the nodes that have the definition.
+
+        These nodes themselves execute a stored command.
         """
         if isinstance(request, int):
             raise Moved(f"saga {row.key!r}")
@@ -107,7 +109,7 @@ class UnusedReports:
         operator_requests.told(answer)
 
     async def _ended(self, key: str, of: int | None) -> SagaRow:
-        """The saga with this key. Raises `StepNotWaiting` where it has not ended."""
+        """Return the row of a saga. Raises `StepNotWaiting` if it has not ended."""
         live = await self._lookup.live(key)
         if live is not None and live.over:
             with contextlib.suppress(Moved):
@@ -123,7 +125,7 @@ class UnusedReports:
     async def _input(
         self, row: SagaRow, known: Known, kind: Kind, step: int, text: str
     ) -> dict[str, Any]:
-        """The input of the saga that undoes a report. It is the same whoever makes it."""
+        """Return the input of the saga that undoes a report. All nodes compute the same."""
         decode, name = kind.payloads.decode, kind.names[step]
         store = self._access.coordinator.store
         ((shard,),) = await store.read(NAME, row.id // SHARD_CAPACITY)
@@ -164,18 +166,18 @@ class UnusedReports:
             "place": location_data,
         }
 
-    # -- unasked
+    # -- in the background
 
     def look(self) -> None:
-        """A saga has ended without a report."""
+        """Check for unused reports, because a saga has ended with one."""
         self._changed.set()
 
     async def run(self) -> None:
-        """Undo the reports of steps with `early_unused="compensate"`, until the store is closed."""
+        """Undo reports of steps with `early_unused="compensate"`, until the store closes."""
         coordinator = self._access.coordinator
         while not coordinator.closed:
             self._changed.clear()
-            with contextlib.suppress(SagasError):  # the next look finds them
+            with contextlib.suppress(SagasError):  # the next check finds them
                 await self._undo_all()
             with contextlib.suppress(TimeoutError):
                 async with asyncio.timeout(PAUSE):
@@ -194,5 +196,5 @@ class UnusedReports:
                 raise
             except NoSuchSaga:
                 continue
-            except Exception as error:  # a person finds it in `attention`
+            except Exception as error:  # `attention` lists it for operators
                 logger.warning("a report of saga %r is not undone yet: %s", key, error)

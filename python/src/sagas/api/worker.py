@@ -1,6 +1,6 @@
 """A worker over HTTP: it claims tasks, calls functions and reports outcomes.
 
-    worker = sagas.Worker("http://127.0.0.1:8080", token="..")
+    worker = sagas.Worker("http://127.0.0.1:8080", token="...")
 
     @worker.step("trip", "car")
     def car(task):
@@ -8,9 +8,9 @@
 
     worker.run()
 
-It needs nothing but the standard library. What a function does means what it means in a store:
-it returns, raises (it had no effect), raises `Fail`, or `Unknown`, a timeout or a lost
-connection (nobody knows).
+It needs only the standard library. A function has the same meaning as in a store. It returns, or
+raises (it had no effect), or raises `Fail`. If it raises `Unknown`, or after a timeout or a lost
+connection, the outcome is unknown.
 """
 
 from __future__ import annotations
@@ -45,22 +45,26 @@ from sagas.definition.task import Task
 
 logger = logging.getLogger("sagas.worker")
 AHEAD, MAX_AHEAD = 0.1, 10
-"""One question takes as many tasks as are lately done in so many seconds, and at most so many."""
+"""One request claims as many tasks as were recently done in `AHEAD` seconds, but at most
+`MAX_AHEAD`.
+"""
 NO_CONTEXT = "the worker was made without one: give it by sagas.Worker(.., context=..)"
 HEARTBEAT, REPORT = 10.0, 40.0
-"""Seconds that one try may take at most; less, by the lease, so that the next service hears in
-time."""
+"""Maximum seconds of one try. It is less with a short lease, so that the next service is reached in
+time.
+"""
 LOOK = 0.5
-"""Seconds between looks at what was taken ahead; also the shortest lease of the service."""
+"""Seconds between checks of tasks that were claimed ahead; also the shortest lease of the service.
+"""
 
 
 class Worker:
     """Execute steps for a service: claim tasks, call functions, report outcomes.
 
     It uses only the standard library. Each task runs in a thread. If the functions are short, one
-    request claims up to ten tasks, and returns those that no thread begins within half a second.
-    While a function runs, its lease is renewed three times before it would end. By that the worker
-    hears of an abort, and sets `task.cancelled`.
+    request claims up to ten tasks, and returns those that no thread starts within half a second.
+    While a function runs, its lease is renewed three times before it would expire. The renewal
+    reports an abort to the worker, which sets `task.cancelled`.
 
     Attributes:
         concurrency: Maximum number of tasks that run at once.
@@ -84,13 +88,13 @@ class Worker:
 
         Args:
             url: The service, or several services over one database: if one does not answer, the
-                next one is asked.
+                worker asks the next one.
             token: The worker's token (default: None).
             concurrency: Maximum number of tasks that run at once (default: 4).
             lease: Seconds after which another worker may have the task of a worker that is gone
                 (default: 30).
             wait: Seconds that one request for tasks waits at the service, at most 30 (default: 20).
-            name: The worker's name, for people (default: of host and process).
+            name: The worker's name, for people (default: from host and process).
             context: What functions get as `task.context` (default: none): an object; or a function
                 that returns a plain context manager, which `run` enters and leaves.
 
@@ -104,17 +108,17 @@ class Worker:
         self._stop = threading.Event()
         self._service = ServiceConnection(url, token, wait + 40.0, self._stop)
         self._steps: dict[str, WorkerStep] = {}
-        self._ahead: deque[HeldTask] = deque()  # taken, and not begun
-        self._held: set[HeldTask] = set()  # begun
+        self._ahead: deque[HeldTask] = deque()  # claimed, and not started
+        self._held: set[HeldTask] = set()  # started
         self._condition = threading.Condition()
         self._busy = self._asking = self._handled = 0
-        # seconds that a function took lately; that nothing is known makes one task at a time
+        # recent seconds of a function; the initial value makes one task at a time
         self._mean = AHEAD
         self._fault: BaseException | None = None
 
     @property
     def url(self) -> str:
-        """The service that it asks now."""
+        """The service that the worker asks now."""
         return self._service.url
 
     # -- what it can do
@@ -124,7 +128,7 @@ class Worker:
     ) -> Callable[[Function], Function]:
         """Declare the function that performs a step, by `@worker.step(saga, step)`.
 
-        It gets a `Task`, and means by its result or exception what a step's function means.
+        It gets a `Task`. Its result or exception has the same meaning as that of a step's function.
 
         Args:
             saga: The saga's name.
@@ -132,8 +136,8 @@ class Worker:
             unknown: Exceptions after which the outcome is unknown (default: `(TimeoutError,
                 ConnectionError)`).
             cancel_on_abort: Whether an abort raises `asyncio.CancelledError` in the async function
-                (default: False). The worker hears of an abort by its next heartbeat, within a third
-                of `lease`.
+                (default: False). The worker learns of an abort by its next heartbeat, within a
+                third of `lease`.
 
         Raises:
             DefinitionError: The step has a function already, or `cancel_on_abort` is set for a
@@ -206,7 +210,7 @@ class Worker:
                 thread.start()
             for thread in threads:
                 while thread.is_alive():
-                    thread.join(0.2)  # so that a signal is heard
+                    thread.join(0.2)  # so that a signal is handled
         except KeyboardInterrupt:
             self.stop()
             with self._condition:
@@ -217,12 +221,12 @@ class Worker:
     def stop(self) -> None:
         """Claim nothing more; running functions end and are reported.
 
-        Tasks that have not begun are given back.
+        Tasks that have not started are given back.
         """
         self._stop.set()
 
     def _live(self, work: Callable[[], None]) -> None:
-        """The life of a thread. If it ends early, the worker ends with it, and says why."""
+        """Run a thread. If it fails, the worker stops with the same error."""
         try:
             work()
         except BaseException as fault:
@@ -242,8 +246,10 @@ class Worker:
                     self._add(reply)
 
     def _next_task(self) -> HeldTask | None:
-        """A task to begin, taken ahead or asked for now; where several may come at once, one
-        thread asks for all. None: it was stopped.
+        """Return a task to start, or None if the worker was stopped.
+
+        It is a task that was claimed ahead, or a new one. If a request may return several tasks,
+        only one thread sends it.
         """
         while True:
             with self._condition:
@@ -256,7 +262,7 @@ class Worker:
                 while self._ahead and not self._stop.is_set():
                     held = self._ahead.popleft()
                     self._handled += 1
-                    if time.monotonic() < held.until:  # else it is another's, or soon will be
+                    if time.monotonic() < held.until:  # otherwise another worker may claim it
                         self._held.add(held)
                         self._busy += 1
                         return held
@@ -268,7 +274,7 @@ class Worker:
                     return None
                 wait = (
                     self.wait if self._service.has_answered else 0.0
-                )  # the first answer comes at once: it says which steps are unknown there
+                )  # the first reply comes at once, and names the steps that are unknown there
                 reply = self._service.ask_until_answered(
                     "/v1/tasks/claim", {**self._claim_body(), "wait": wait}, giving_up=True
                 )
@@ -289,7 +295,7 @@ class Worker:
         }
 
     def _add(self, reply: dict[str, Any] | None) -> None:
-        """The tasks of an answer are any thread's. Under the lock."""
+        """Add the tasks of a reply. The caller holds the lock."""
         claimed = (reply.get("next") or reply) if reply else {}
         for task in claimed.get("tasks", ()):
             self._ahead.append(
@@ -304,9 +310,7 @@ class Worker:
         self._condition.notify_all()
 
     def _do(self, held: HeldTask) -> dict[str, Any] | None:
-        """Does a task and reports it; gives the answer, with what was taken with the report
-        where nothing was there to go on with.
-        """
+        """Execute a task and report it; return the reply, which may contain new tasks."""
         task, began = held.task, time.monotonic()
         try:
             verb, body = outcome(
@@ -328,7 +332,7 @@ class Worker:
         body: dict[str, Any],
         more: dict[str, Any],
     ) -> dict[str, Any] | None:
-        """Says how a task ended. Where no more tasks may be taken with it, it is said alone."""
+        """Report the outcome of a task, and claim more in the same request if allowed."""
         path, report = f"/v1/tasks/{held.attempt_id}/{verb}", {"lease": held.lease, **body}
         try:
             seconds = min(REPORT, max(1.0, self.lease / 3))
@@ -339,16 +343,18 @@ class Worker:
                     return self._report(held, verb, body, {})
                 raise
             if refusal.status in (413, 422) and verb == "complete" and not held.is_unstorable:
-                held.is_unstorable = True  # the effect happened; what it gave cannot be stored
+                held.is_unstorable = True  # the effect happened, but its result cannot be stored
                 return self._report(held, verb, unstorable(str(refusal)), more)
             logger.warning("%s: %s was rejected: %s", held.attempt_id, verb, refusal)
             return None
 
     def _keep_leases(self) -> None:
-        """Keeps the leases of what runs. Gives back what was taken ahead where no thread has
-        come to it since the last look, and at a stop.
+        """Renew the leases of running tasks.
+
+        Tasks that were claimed ahead are given back if no thread has started them since the last
+        check, and at a stop.
         """
-        looks, seen, ends = max(1, round(self.lease / 3 / LOOK)), -1, True  # between two beats
+        looks, seen, ends = max(1, round(self.lease / 3 / LOOK)), -1, True  # checks per heartbeat
         pause = self.lease / 3 / looks
         for look in itertools.count(1):
             stopped = self._stop.wait(pause)
@@ -359,7 +365,7 @@ class Worker:
                 ends = self._service.try_once("/v1/tasks/claim/end", {"worker": self.name}, LOOK)
             with self._condition:
                 if stopped:
-                    self._condition.notify_all()  # whoever waits for another's answer
+                    self._condition.notify_all()  # threads that wait for a reply
                     if self._condition.wait_for(lambda: not self._held and not self._asking, pause):
                         return
                 is_time = look % looks == 0
@@ -372,8 +378,9 @@ class Worker:
                 self._renew(task, self.lease)
 
     def _give_back(self) -> None:
-        """What was taken ahead is this worker's no more, and its lease is cut short; where the
-        service does not hear of that, it runs out.
+        """Give back tasks that were claimed ahead, by shortening their leases.
+
+        If the service does not receive that, the leases expire.
         """
         with self._condition:
             returned = list(self._ahead)

@@ -31,13 +31,17 @@ KINDS = {
     "fail": OutcomeKind.FAILED,
     "unknown": OutcomeKind.UNKNOWN,
 }
-"""What the verb of a report says."""
+"""The outcome that the verb of a report means."""
 
 
 @dataclasses.dataclass(frozen=True, slots=True)
 class WorkerStep:
-    """A function, the exceptions after which nobody knows whether it had its effect, and whether
-    an abort cancels it.
+    """A function of a worker, with its options.
+
+    Attributes:
+        function: The function.
+        unknown: Exceptions after which the outcome is unknown.
+        cancel_on_abort: Whether an abort cancels it.
     """
 
     function: Function
@@ -47,8 +51,17 @@ class WorkerStep:
 
 @dataclasses.dataclass(slots=True, eq=False)
 class HeldTask:
-    """A task that a worker has; until half of its lease is over it may be begun, so that its
-    first heartbeat comes in time. `unheard`: no service heard its last one.
+    """A task that a worker has claimed.
+
+    Attributes:
+        attempt_id: The id of the attempt.
+        lease: The lease.
+        task: What its function is called with.
+        until: When half of its lease is over. Later it is not started, so that its first heartbeat
+            is in time.
+        is_lost: Whether another worker may have it.
+        is_unanswered: Whether no service replied to its last heartbeat.
+        is_unstorable: Whether its result could not be stored.
     """
 
     attempt_id: str
@@ -62,8 +75,9 @@ class HeldTask:
 
 @contextlib.contextmanager
 def lifespan(source: Any, shared: Context) -> Iterator[None]:
-    """A worker's context, while the worker runs. Raises `TypeError` where it is an async one, which
-    functions in threads have no loop for.
+    """Enter and leave the context of a worker.
+
+    Raises `TypeError` if it is an async context manager, because threads have no event loop.
     """
     if not context.is_factory(source):
         if source is not None:
@@ -73,8 +87,8 @@ def lifespan(source: Any, shared: Context) -> Iterator[None]:
     manager = context.made(source)
     if not isinstance(manager, contextlib.AbstractContextManager):
         raise TypeError(
-            f"context={shown(source)}: returned {type(manager).__name__}, but a worker has no event "
-            "loop. Return a plain context manager (@contextlib.contextmanager)"
+            f"context={shown(source)}: returned {type(manager).__name__}, but a worker has no "
+            "event loop. Return a plain context manager (@contextlib.contextmanager)"
         )
     with manager as value:
         shared.put(value)
@@ -82,12 +96,12 @@ def lifespan(source: Any, shared: Context) -> Iterator[None]:
 
 
 def step_name(task: Task[Any]) -> str:
-    """What a worker asks for: `trip/car`, or `trip/car/undo`."""
+    """Return the name of a task's step for claims: `trip/car`, or `trip/car/undo`."""
     return f"{task.saga}/{task.declared_step}{'/undo' if task.is_compensation else ''}"
 
 
 def task_of(reply: dict[str, Any], shared: Context) -> Task[Any]:
-    """What a function is handed, of what the service told."""
+    """Return the argument of a function, from a reply of the service."""
     undo, step = reply["undo"], reply["step"]
     saga_token = reply["idempotency_key"].removesuffix(f"-{step}-{'undo' if undo else 'run'}")
     results = {name: serialization.write(value) for name, value in reply["results"].items()}
@@ -115,7 +129,7 @@ def task_of(reply: dict[str, Any], shared: Context) -> Task[Any]:
 
 
 async def _awaited(manner: WorkerStep, task: Task[Any], work: Coroutine[Any, Any, Any]) -> Any:
-    """What an async function returns; it is cancelled where an abort is to end it, once."""
+    """Return the result of an async function; cancel it once if an abort must end it."""
     if not manner.cancel_on_abort or task.cancelled.reason == "aborted":
         return await work
     async with asyncio.TaskGroup() as group:
@@ -129,7 +143,7 @@ async def _awaited(manner: WorkerStep, task: Task[Any], work: Coroutine[Any, Any
 def outcome(
     manner: WorkerStep, task: Task[Any], tracer: Tracer | None = None
 ) -> tuple[str, dict[str, Any]]:
-    """Calls the function; gives how it ended, and what is told of that."""
+    """Call a function; return the verb and the body of the report."""
     if tracer is None:
         return _outcome(manner, task)[:2]
     with tracer.attempt(task, manner.function) as span:
@@ -142,14 +156,14 @@ def outcome(
 def _outcome(
     manner: WorkerStep, task: Task[Any]
 ) -> tuple[str, dict[str, Any], BaseException | None]:
-    """As `outcome`, with what was raised."""
+    """Call a function; return verb and body of the report, and the exception."""
     try:
         result = manner.function(task)
         if inspect.isawaitable(result):
             result = asyncio.run(_awaited(manner, task, awaitables.whole(result)))
     except asyncio.CancelledError:
         return "unknown", {"error": "cancelled, since the saga was aborted"}, None
-    except BaseException as error:  # sys.exit() too is only the function's: its thread goes on
+    except BaseException as error:  # also sys.exit(): the thread of the function continues
         kind = outcomes.classify(error, manner.unknown)
         reply: dict[str, Any] = {"error": outcomes.described(error)[:MAX_TEXT]}
         if kind is outcomes.PERMANENT:
@@ -163,5 +177,5 @@ def _outcome(
 
 
 def unstorable(why: str) -> dict[str, Any]:
-    """What is told of a result that cannot be stored: the step is done all the same."""
+    """Return the body of a report whose result cannot be stored: the step succeeded."""
     return {"result": {"unstorable": why[:MAX_TEXT]}}

@@ -17,19 +17,20 @@ from sagas.storage.interface import Database
 
 ALL_SHARDS = "SELECT shard, name FROM shards ORDER BY shard"
 FIRST_PAUSE, MAX_PAUSE = 1.0, 300.0
-"""Seconds until a shard is closed again that could not be."""
+"""Seconds until a shard that could not be closed is tried again: the first and the longest pause.
+"""
 
 
 async def verdict(program_path: str, text: str, definitions: list[str]) -> tuple[bool, str]:
-    """Return whether `sagas audit` says yes to an event log, and what it says.
+    """Return whether `sagas audit` accepts an event log, and its message.
 
     Args:
-        where: The program.
+        program_path: The program `sagas`.
         text: The event log, without the header.
-        definitions: The shard's definitions.
+        definitions: The definitions of the shard.
 
     Raises:
-        EngineError: It could not say anything, as where it was killed.
+        EngineError: The program returned no verdict, for example because it was killed.
     """
     process = await asyncio.to_thread(
         program.run, "audit", [protocol.HEADER + text, *definitions], program_path
@@ -43,7 +44,7 @@ async def verdict(program_path: str, text: str, definitions: list[str]) -> tuple
 
 
 class Auditor:
-    """Audits shards, one at a time: nobody waits for it."""
+    """Audits finished shards in the background, one at a time."""
 
     def __init__(
         self,
@@ -58,14 +59,15 @@ class Auditor:
         self._turn = asyncio.Semaphore(1)
 
     async def close(self, driver: ShardDriver) -> None:
-        """Audit a settled shard and mark it closed. Where it cannot be read, audited or written
-        now, that is done again after a while, or by the next opening.
+        """Audit a finished shard, and mark it as closed.
+
+        If the shard cannot be read, audited or written, the auditor retries with longer pauses.
         """
         pause = FIRST_PAUSE
         while True:
             try:
                 await self._close(driver)
-            except Lost:  # it is another node's
+            except Lost:  # another node owns the shard
                 return
             except (SagasError, OSError) as error:
                 detail = f"shard {driver.name} could not be closed yet: {error}"

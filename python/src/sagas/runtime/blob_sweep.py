@@ -1,4 +1,4 @@
-"""Deletes large values to which no row refers any more."""
+"""Deletes large values that no row refers to any more."""
 
 from __future__ import annotations
 
@@ -13,7 +13,7 @@ if TYPE_CHECKING:
     from sagas.storage.blob_layer import BlobDatabase
 
 DAY, HOUR = 86_400.0, 3600.0
-"""Seconds between two sweeps, and between two looks whose the values are."""
+"""Seconds between two sweeps, and between two checks of the blob store's owner."""
 COPY = (
     "%s: the values in the blob store are those of %s, of which this store is a copy. None of them "
     "is deleted. Give this store a blob store of its own, with a copy of the values. Or run `sagas "
@@ -22,8 +22,10 @@ COPY = (
 
 
 async def sweep(database: BlobDatabase) -> None:
-    """Delete orphans at the opening, and then each day; until it is cancelled. Each hour it is
-    looked whose the values are.
+    """Delete orphaned blobs when the store opens, and then once a day.
+
+    Each hour it checks whether the blob store belongs to this store or to the original of a copy.
+    It runs until it is cancelled.
     """
     loop, blobs, warned_name = asyncio.get_running_loop(), database.blobs, ""
     due = loop.time()

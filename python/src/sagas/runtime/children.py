@@ -1,4 +1,4 @@
-"""Starts children, waits for their ends, and aborts those whose parents are aborted."""
+"""Starts child sagas, waits until they end, and aborts them with their parents."""
 
 from __future__ import annotations
 
@@ -37,9 +37,9 @@ from sagas.runtime.stored_values import ValueReader
 from sagas.runtime.waiters import Waiters
 
 RETRY_DELAY = 1.0
-"""Seconds until what the store could not do is tried again."""
+"""Seconds until a failed operation of the store is tried again."""
 STUCK_POLL = 5.0
-"""Seconds until a stuck child is looked at by itself: another node may have resolved it."""
+"""Seconds between checks of a stuck child, which another node may have resolved."""
 PARENTS = "SELECT s.id, c.parent, s.key FROM sagas s LEFT JOIN children c ON c.id = s.id"
 PARENT = f"{PARENTS} WHERE s.key = ?"
 CHILD = f"{PARENTS} WHERE s.key IN (?, ?)"
@@ -48,8 +48,10 @@ NAME = "SELECT name FROM shards WHERE shard = ?"
 
 
 class ChildEnd(NamedTuple):
-    """How a child ended, with what the store has of it: its id, its definition and, as they are
-    stored, its input, which may be a reference to a blob, and the results of its steps.
+    """How a child ended, and what the store has of it.
+
+    That is its id, its definition, its input and the results of its steps. The input is as it is
+    stored, and may be a reference to a blob.
     """
 
     end: SagaResult
@@ -60,10 +62,13 @@ class ChildEnd(NamedTuple):
 
 
 class SagaOperations(Protocol):
-    """What starts, finds and aborts sagas by their keys, wherever they are executed."""
+    """Starts, finds and aborts sagas by their keys, on any node."""
 
     async def start(self, saga: Saga | Kind, key: str, given: Any, options: StartOptions) -> bool:
-        """Start a saga, also where the store starts no new ones. False: the key has one."""
+        """Start a saga; return False if the key is used.
+
+        A store that accepts no new sagas starts it too.
+        """
 
     async def end(self, key: str) -> ChildEnd:
         """Wait until a saga has ended."""
@@ -72,25 +77,25 @@ class SagaOperations(Protocol):
         """Abort a saga, unless it has ended."""
 
     async def is_dropped(self, key: str, id: int, step: int) -> bool:
-        """Whether a plan would undo a step of a saga, if all that is under way succeeds."""
+        """Return whether a plan would undo a step if all running attempts succeed."""
 
 
 class OutcomeListener(Protocol):
-    """Takes how attempts ended."""
+    """Receives the outcomes of attempts."""
 
     kept: Waiters[Attempt]
 
     def ended(self, attempt: Attempt, outcome: Outcome) -> None:
-        """Its child has ended."""
+        """Handle that the child of an attempt has ended."""
 
 
 class Children:
-    """The attempts of this program that wait for children.
+    """The attempts of this program that wait for child sagas.
 
-    All that it does may be done again, by this program or by another one at the same time: the key
-    of a child has one saga, and whether that is this attempt's child is in the store. A child that
-    is not there is started even if its parent is aborted, and aborted then: else an earlier
-    program, or a slow one, might start it behind the parent's end.
+    All operations are idempotent, also across programs. The key of a child identifies one saga, and
+    the store records which attempt started it. A missing child is started even if its parent is
+    aborted, and is then aborted. Otherwise, an earlier or slower program could start the child
+    after the parent has ended.
     """
 
     def __init__(
@@ -101,25 +106,26 @@ class Children:
         self._jobs: dict[Attempt, asyncio.Task[None]] = {}
         self._aborts: dict[Attempt, asyncio.Task[None]] = {}
         self._drops: dict[Attempt, asyncio.Task[None]] = {}
-        self._stored_keys: dict[Attempt, str] = {}  # the keys of children that are in the store
+        self._stored_keys: dict[Attempt, str] = {}  # keys of children that exist in the store
         self._changed, self._is_open = asyncio.Event(), asyncio.Event()
 
     def open(self) -> None:
-        """All shards of this program are taken up: what is not here is elsewhere, or over."""
+        """Allow lookups: all shards of this program are loaded."""
         self._is_open.set()
 
-    # -- what the executor tells
+    # -- calls by the executor
 
     def follow(self, attempt: Attempt) -> None:
-        """Start its child, and report it once that has ended. If its saga is aborted, abort the
-        child.
+        """Start the child of an attempt, and report the attempt when the child ends.
+
+        If the saga of the attempt is aborted, the child is aborted too.
         """
         if attempt not in self._jobs:
             self._jobs[attempt] = self._coordinator.spawn(self._follow(attempt))
         self._abort_if_due(attempt)
 
     def gone(self, attempt: Attempt) -> None:
-        """It is reported, or not this program's any more."""
+        """Stop following the child of an attempt that is reported, or no longer here."""
         self._stored_keys.pop(attempt, None)
         for jobs in (self._jobs, self._aborts, self._drops):
             job = jobs.pop(attempt, None)
@@ -127,10 +133,10 @@ class Children:
                 job.cancel()
 
     def look(self) -> None:
-        """Somebody may have resolved a stuck child."""
+        """Check stuck children again, which may have been resolved."""
         self._changed.set()
 
-    # -- followed
+    # -- start and wait
 
     async def _follow(self, attempt: Attempt) -> None:
         await self._is_open.wait()
@@ -146,7 +152,7 @@ class Children:
             except (TemporaryError, Moved, NoSuchSaga) as error:
                 logger.info("child of %r is looked at again: %s", attempt.key, error)
                 await asyncio.sleep(RETRY_DELAY)
-            except Exception as error:  # nobody else would report the attempt
+            except Exception as error:  # otherwise the attempt would never be reported
                 logger.error("child of %r is looked at again", attempt.key, exc_info=error)
                 await asyncio.sleep(RETRY_DELAY)
         self.gone(attempt)
@@ -155,7 +161,7 @@ class Children:
             self._listener.ended(attempt, outcome)
 
     async def _outcome(self, attempt: Attempt) -> Outcome:
-        """Start its child, if it is not there, and wait for what that comes to."""
+        """Start the child if it does not exist, and return the outcome of the attempt."""
         try:
             key_or_outcome = await self._begun(attempt)
         except (TemporaryError, Moved, NoSuchSaga):
@@ -188,10 +194,10 @@ class Children:
         return self.operations
 
     async def _begun(self, attempt: Attempt) -> str | Outcome:
-        """The key of its child, which is in the store; or what it comes to without one.
+        """Start the child if needed; return its key, or an outcome if there is no child.
 
         Raises:
-            KeyConflict: The key is another saga's.
+            KeyConflict: Another saga has the key.
             SagasError: The child cannot be started.
         """
         key = children.key_of(attempt)
@@ -212,8 +218,9 @@ class Children:
         return stored_key
 
     async def _stored_key(self, attempt: Attempt, key: str) -> str | None:
-        """The key of its child, if that is in the store: this one, or that of an earlier release.
-        Raises `KeyConflict`.
+        """Return the key of a stored child, or None. Raises `KeyConflict`.
+
+        Children that an earlier release started have keys in another format.
         """
         earlier = f"{attempt.key}/{key[len(attempt.key) + len(BELOW) :]}"
         for id, parent, stored_key in await self._coordinator.store.read(CHILD, key, earlier):
@@ -227,11 +234,13 @@ class Children:
         return None
 
     async def _new(self, attempt: Attempt) -> tuple[Saga | Kind | None, Any]:
-        """What its child is of, and is started with; nothing where there is nothing to be undone.
-        What undoes a child is made of the definition that the child ran with.
+        """Return the definition and the input of the child to start.
+
+        The definition is None if there is nothing to undo. A saga that undoes a child is made from
+        the definition that the child ran with.
 
         Raises:
-            MissingStep: This program lacks a compensation.
+            MissingStep: This program has no function for a compensation.
         """
         undone = await self._child_to_undo(attempt)
         if undone is None:
@@ -253,9 +262,10 @@ class Children:
         )
 
     async def _child_to_undo(self, attempt: Attempt) -> str | None:
-        """The key of the child that an attempt undoes; None if it starts one. Raises
-        `InvalidResult` if the step's result has none, as a result by hand in a store of an earlier
-        release may.
+        """Return the key of the child that an attempt undoes; None if it starts one.
+
+        Raises `InvalidResult` if the result of the step names no child. That can happen if an
+        operator entered the result in an earlier release.
         """
         if not attempt.undo:
             return children.undone_key(attempt)
@@ -272,7 +282,7 @@ class Children:
         )
 
     async def _earlier(self, attempt: Attempt) -> list[str]:
-        """The keys of the sagas that have undone a part of the same child, in their order."""
+        """Return the keys of sagas that have undone a part of the same child, in order."""
         keys = []
         if child_keys.undoes_child(attempt.key):
             given = attempt.task().input
@@ -288,12 +298,14 @@ class Children:
         return keys
 
     async def _is_known(self, key: str) -> bool:
-        """Whether a saga has the key."""
+        """Return whether a saga has the key."""
         return bool(await self._coordinator.store.read(PARENT, key))
 
     async def _options(self, attempt: Attempt, saga: Saga | Kind) -> StartOptions:
-        """Labels and trace context of the parent, and the earlier deadline; what undoes a child has
-        no deadline.
+        """Return labels, trace context and deadline of a child.
+
+        Labels and trace context are those of the parent. The deadline is the earlier one of parent
+        and child. A saga that undoes a child has no deadline.
         """
         parent, now = attempt.instance, self._coordinator.clock()
         rows = await self._coordinator.store.read(LABELS, parent.id)
@@ -304,12 +316,10 @@ class Children:
             deadline = min((at for at in times if at is not None), default=None)
         return StartOptions(labels, deadline, parent.id, traceparent=parent.options.traceparent)
 
-    # -- aborted
+    # -- abort
 
     def _abort_if_due(self, attempt: Attempt) -> None:
-        """Abort its child with its saga; or where a step has failed, and the plan that follows
-        would undo the child.
-        """
+        """Abort the child with its saga, or if the next plan would undo the child."""
         undoes = attempt.undo or child_keys.undoes_child(attempt.key)
         if undoes or attempt not in self._stored_keys:
             return
@@ -333,7 +343,10 @@ class Children:
                 await asyncio.sleep(RETRY_DELAY)
 
     async def _abort_if_dropped(self, attempt: Attempt) -> None:
-        """Once all others have ended: the plan is made only behind the ends of the children."""
+        """Wait for the other attempts, then abort the child if a plan would undo it.
+
+        The saga is planned only after its children have ended.
+        """
         while True:
             try:
                 await self._others_ended(attempt)
@@ -349,14 +362,18 @@ class Children:
                 await asyncio.sleep(RETRY_DELAY)
 
     async def _others_ended(self, attempt: Attempt) -> None:
-        """Wait until all that began of its saga has ended in the store, except for children."""
+        """Wait until the other attempts of the saga have stored outcomes.
+
+        Attempts that wait for children are not awaited.
+        """
         while others := list(_others(attempt)):
             await self._listener.kept.wait(others[0])
 
 
 def _others(attempt: Attempt) -> Iterator[Attempt]:
-    """What began of its saga and does not wait for a child, as far as the store does not have its
-    end.
+    """Yield the other attempts of the saga that have no stored outcome.
+
+    Attempts that wait for children are left out.
     """
     instance = attempt.instance
     assert instance.shard

@@ -1,4 +1,4 @@
-"""Takes the starts that clients wrote."""
+"""Reads the starts that clients wrote into the store, and opens their sagas."""
 
 from __future__ import annotations
 
@@ -27,16 +27,17 @@ from sagas.runtime.relocation import conflict_with_stored
 from sagas.storage.interface import Database
 
 MANY = 64
-"""Starts that are taken at once: other nodes take theirs meanwhile."""
+"""Maximum number of starts that one read takes, so that other nodes get some too."""
 RETRY_DELAY = 1.0
-"""Seconds after which starts that failed are taken again."""
+"""Seconds after which failed starts are read again."""
 LEAVE_SECONDS = 10.0
-"""Seconds for which a start whose input cannot be decoded is left to other nodes."""
+"""Seconds for which a start with an undecodable input is left to other nodes."""
 
 
 class StartDoubt:
-    """Whether starts of clients that are this node's may not be under way: nobody else takes
-    them.
+    """Whether starts that this node has claimed may have been lost.
+
+    No other node takes such starts, so this node reads them again.
     """
 
     def __init__(self, loop: asyncio.AbstractEventLoop, look: Callable[[], None]) -> None:
@@ -44,29 +45,29 @@ class StartDoubt:
         self._is_set = False
 
     def doubt(self, looks: bool = True) -> None:
-        """Some may not be. `looks`: they are looked for in a while."""
+        """Mark that some may be lost. With `looks`, they are read again after a delay."""
         self._is_set = True
         if looks:
             self._loop.call_later(RETRY_DELAY, self._look)
 
     def settle(self) -> bool:
-        """Return whether some may not be; they are looked for now."""
+        """Return whether some may be lost, and clear the mark."""
         was_set, self._is_set = self._is_set, False
         return was_set
 
 
 class CoordinatorForStarts(Protocol):
-    """The open store around them."""
+    """The coordinator, as the reader of starts uses it."""
 
     closed: SagasError | None
     declared: DeclaredCalls
 
     def spawn(self, work: Coroutine[None, None, None]) -> object:
-        """Do it in the background."""
+        """Run a coroutine in the background."""
 
 
 class StartReader:
-    """Takes starts when there may be some, one lot behind the other."""
+    """Reads starts of clients in batches, one after another."""
 
     def __init__(
         self,
@@ -88,10 +89,10 @@ class StartReader:
         self._commits, self._doubt, self._clock, self._assign = commits, doubt, clock, assign
         self._is_taking = self._again = False
         self._left: dict[int, float] = {}
-        self._fitted: set[int] = set()  # functions of their definitions are called for these
+        self._fitted: set[int] = set()  # starts for which functions of definitions run
 
     def look(self) -> None:
-        """There may be some."""
+        """Read starts, because there may be some."""
         self._again = True
         if not self._is_taking:
             self._is_taking = True
@@ -117,8 +118,9 @@ class StartReader:
             self._is_taking = False
 
     def _under_way(self) -> list[int] | None:
-        """Where some of this node's may not be under way, those that are: all others are given
-        again.
+        """Return the starts in progress if claimed starts may be lost, otherwise None.
+
+        The store returns all other starts of this node again.
         """
         if not self._doubt.settle():
             return None
@@ -132,7 +134,7 @@ class StartReader:
         return [*self._left]
 
     async def _open(self, row: Start) -> None:
-        """Open a start, or leave it to other nodes if this one cannot decode its input."""
+        """Open a start; leave it to other nodes if this one cannot decode its input."""
         try:
             await self._begin(row)
         except CannotDecode as error:
@@ -156,7 +158,7 @@ class StartReader:
         if self._coordinator.closed:
             return
         if key in by_key and not (stored and stored.id >= 0):
-            # begun here too, and not in the store yet: should that fail, this start counts
+            # started here too, and not stored yet: if that fails, this start counts
             self._doubt.doubt()
             return
         declared, payloads = self._definitions.sagas[saga, version], self._definitions.payloads
@@ -176,12 +178,12 @@ class StartReader:
         value = payloads.decode(text)
         try:
             fitted = self._definitions.fit(declared, value)
-        except Exception as error:  # of the user's code: its text may have the input
+        except Exception as error:  # raised by user code: its text may contain the input
             fitted = self._misfit(saga, error)
         if fitted is not None:
             await self._put(row, fitted)
             return
-        self._fitted.add(id)  # in the background: others need not wait for slow functions
+        self._fitted.add(id)  # in the background, so that slow functions delay no other start
         self._coordinator.spawn(self._fit(row, declared, value))
 
     @staticmethod
@@ -190,12 +192,12 @@ class StartReader:
         return Fitted(None, None, invalid_input)
 
     async def _fit(self, row: Start, declared: Saga, value: str) -> None:
-        """Begin one whose steps come from its input."""
+        """Open a start whose steps come from its input."""
         definitions = self._definitions
         try:
             try:
                 fitted = await self._coordinator.declared.fit(definitions, declared, value)
-            except Exception as error:  # of the user's code: its text may have the input
+            except Exception as error:  # raised by user code: its text may contain the input
                 fitted = self._misfit(declared.name, error)
             if not self._coordinator.closed:
                 await self._put(row, fitted)
@@ -208,14 +210,14 @@ class StartReader:
             self._fitted.discard(row[0])
 
     async def _put(self, row: Start, fitted: Fitted) -> None:
-        """Begin one of this definition; or refuse it, if its input gives it none."""
+        """Open a start with its definition, or refuse it if its input is invalid."""
         id, key, _, _, text, labels, deadline, traceparent = row
         kind, shape, error = fitted
         if kind is None:
             assert error
             await self._store.give_back(id, str(error))
             return
-        if key in self._sagas.by_key:  # begun here meanwhile: should that fail, this start counts
+        if key in self._sagas.by_key:  # started here in the meantime: if that fails, this counts
             self._doubt.doubt()
             return
         options = StartOptions(labels, deadline, shape=shape, traceparent=traceparent)

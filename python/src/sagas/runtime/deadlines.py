@@ -1,4 +1,4 @@
-"""Aborts sagas whose time is over."""
+"""Aborts sagas whose deadlines have passed."""
 
 from __future__ import annotations
 
@@ -12,13 +12,13 @@ from sagas.core.model import SagaInstance
 from sagas.runtime.instances import Instances
 
 MOST = 1000
-"""So many deadlines are kept before those of sagas that are over are dropped."""
+"""Number of deadlines at which those of ended sagas are dropped."""
 
 
 class Deadlines:
     """The deadlines of the open sagas of this program, the next one first.
 
-    They are in the store with their sagas, so that whoever drives one knows its deadline.
+    They are stored with their sagas, so each node that executes a saga knows its deadline.
     """
 
     def __init__(
@@ -34,14 +34,14 @@ class Deadlines:
         self._max_entries = MOST
 
     def add(self, saga: SagaInstance) -> None:
-        """It is driven here from now on."""
+        """Add the deadline of a saga that this program executes from now on."""
         if saga.options.deadline is not None:
             if len(self._heap) >= self._max_entries:
                 self._drop()
             heapq.heappush(self._heap, (saga.options.deadline, next(self._order), saga))
 
     def _drop(self) -> None:
-        """Keep one of each saga that is driven here: most are over long before their deadlines."""
+        """Keep one entry for each open saga: most sagas end long before their deadlines."""
         by_key = self._sagas.by_key
         entries = {entry[2]: entry for entry in self._heap if by_key.get(entry[2].key) is entry[2]}
         self._heap = [*entries.values()]
@@ -49,7 +49,7 @@ class Deadlines:
         self._max_entries = max(MOST, 2 * len(self._heap))
 
     def look(self) -> None:
-        """Abort those whose time has come. Where another node has one, that does it."""
+        """Abort the open sagas of this program whose deadlines have passed."""
         if not self._heap:
             return
         now = self._clock()
@@ -62,6 +62,9 @@ class Deadlines:
 
 
 def _ignore_result(aborted: asyncio.Future[bool]) -> None:
-    """Whether it was aborted is told by its events; where it moved, its node aborts it."""
+    """Ignore the result of an abort.
+
+    Events report it, and another node aborts a saga that moved.
+    """
     if not aborted.cancelled():
         aborted.exception()

@@ -20,8 +20,13 @@ REMEDY = "Wait for it outside of the saga's steps"
 
 @dataclasses.dataclass
 class SagaWait:
-    """For which saga a function waits, without an end; `is_given_up`: no place is left for that
-    saga to go on."""
+    """A function that waits for a saga without a timeout.
+
+    Attributes:
+        key: The key of the saga.
+        scope: Ends the wait.
+        is_given_up: Whether the wait was ended because no slot is free for the saga.
+    """
 
     key: str
     scope: asyncio.Timeout
@@ -29,16 +34,18 @@ class SagaWait:
 
 
 class DeadlockCheck:
-    """Those of a store's functions that wait for a saga of the store."""
+    """The step functions of a store that wait for sagas of the same store."""
 
     def __init__(self, coordinator: Coordinator) -> None:
         self._coordinator = coordinator
         self._waits: dict[Attempt, SagaWait] = {}
-        self._full_before: tuple[Attempt, ...] = ()  # that took all places at the last look
+        self._full_before: tuple[Attempt, ...] = ()  # attempts that had all slots at the last check
 
     async def guard(self, attempt: Attempt, key: str, work: Coroutine[object, object, T]) -> T:
-        """What `work` gives, which waits for the saga with this key. Raises `WouldWaitForever`
-        where that cannot end, also later."""
+        """Return the result of `work`, which waits for the saga with this key.
+
+        Raises `WouldWaitForever` if the wait can never end, also if that becomes true later.
+        """
         try:
             self._check(attempt, key)
         except WouldWaitForever:
@@ -58,7 +65,7 @@ class DeadlockCheck:
             del self._waits[attempt]
 
     def _check(self, attempt: Attempt, key: str) -> None:
-        """Raises `WouldWaitForever` where the saga ends only behind this very function."""
+        """Raise `WouldWaitForever` if the saga can end only after this function."""
         chain, last = [key], key
         while last != attempt.instance.key:
             waited_keys = [
@@ -91,8 +98,10 @@ class DeadlockCheck:
         )
 
     def look(self) -> None:
-        """Gives one up where all places are taken by such waits, and each waits for a saga that
-        needs a place. It has to be so twice in a row."""
+        """End one wait if all slots are taken by waits for sagas that need a slot.
+
+        This has to be true at two checks in a row.
+        """
         slots = self._coordinator.slots
         if (
             len(self._waits) < slots.most
@@ -111,8 +120,7 @@ class DeadlockCheck:
             self._full_before = now
 
     def _needs_slot(self, wait: SagaWait) -> bool:
-        """Whether the saga that is waited for goes on only once a function that waits now is
-        over."""
+        """Return whether the awaited saga needs the slot of a waiting function."""
         saga = self._coordinator.sagas.by_key.get(wait.key)
         if saga is None or not saga.committed or saga.over or not self._is_quiet(saga):
             return False
@@ -125,7 +133,7 @@ class DeadlockCheck:
         )
 
     def _is_quiet(self, saga: SagaInstance) -> bool:
-        """Whether nothing of the saga's shard is on its way, which might end it."""
+        """Return whether nothing in progress in the saga's shard could end the saga."""
         shard = saga.shard
         is_here = shard is not None and shard.state in (ShardState.ACTIVE, ShardState.IDLE)
         if shard is None or not is_here or shard.unwritten or shard.asked:

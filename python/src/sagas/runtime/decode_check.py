@@ -1,7 +1,7 @@
 """Leaves a shard to another node if this program cannot decode its values.
 
-What is stored of open sagas and cannot be read by this program: it is told, and another node may
-have the shard.
+If stored values of open sagas cannot be read, the program logs it, and offers the shard to other
+nodes.
 """
 
 from __future__ import annotations
@@ -22,14 +22,14 @@ from sagas.runtime.retries import until_answered
 from sagas.storage.interface import Database
 
 MANY = 32
-"""Sagas that are looked at in one turn of the loop."""
+"""Number of sagas that are checked in one turn of the loop."""
 PAUSE = 2.0
-"""Seconds after which it is looked again whether another node has come."""
+"""Seconds between checks whether another node can take the shard."""
 REMEDY = "they wait for a program that can. Give new fields a default"
 
 
 class CheckedShard(Protocol):
-    """A shard that is taken up."""
+    """A shard that is being loaded."""
 
     driver: ShardDriver
     has_unread: bool
@@ -38,8 +38,9 @@ class CheckedShard(Protocol):
 async def unreadable_sagas(
     kinds: Sequence[Kind], rows: Loaded, store: Database
 ) -> AsyncIterator[str]:
-    """Of each open saga of a shard yield the first thing that cannot be read. What is in a blob
-    store is not looked at: a function that needs it reads it.
+    """Yield the first unreadable value of each open saga of a shard.
+
+    Values in a blob store are not checked. They are read when a function needs them.
     """
     results: dict[int, dict[int, str]] = {}
     for id, step, word, _, outcome, value, _ in rows.results:
@@ -67,8 +68,9 @@ async def unreadable_sagas(
 
 
 async def is_left(shard: CheckedShard, rows: Loaded, store: Database) -> bool:
-    """Return whether a shard that is taken up is left to another node, which may be able to read
-    what this one cannot. Else that is told, once.
+    """Return whether a shard is left to another node, because values cannot be read.
+
+    If no other node takes it, this program logs a warning once.
     """
     driver = shard.driver
     errors = [
@@ -93,6 +95,6 @@ async def is_left(shard: CheckedShard, rows: Loaded, store: Database) -> bool:
 
 
 def is_at_work(driver: ShardDriver) -> bool:
-    """Return whether a function of its sagas runs, which would be called again elsewhere."""
+    """Return whether a function runs that another node would call again."""
     attempts = (attempt for saga in driver.sagas.values() for attempt in saga.busy.values())
     return any(attempt.state is RUNNING for attempt in attempts)

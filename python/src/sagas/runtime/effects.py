@@ -19,44 +19,48 @@ from sagas.runtime.relocation import conflict
 
 
 class ShardsForEffects(Protocol):
-    """The shards of the program."""
+    """The shards of the program, as the handler of effects uses them."""
 
     def assign(self, saga: SagaInstance) -> None:
-        """Open it in another shard."""
+        """Open a saga in another shard."""
 
     def refuse(self, saga: SagaInstance, error: SagasError) -> None:
-        """It is not begun."""
+        """Refuse the start of a saga."""
 
     def withdraw(self, saga: SagaInstance) -> None:
-        """Do not open it in any shard."""
+        """Do not open a saga in any shard."""
 
     def leave(self, saga: SagaInstance, error: SagasError | None) -> None:
-        """It is not driven here: who waits looks into the store; who started it hears why it is
-        not that saga.
+        """Stop executing a saga here.
+
+        Callers that wait for its end check the store. Callers that started it receive `error`.
         """
 
     def compare_with_stored(self, saga: SagaInstance) -> None:
-        """Its key has a saga of which large values are not held: look whether it is the same."""
+        """Compare a saga with the stored one of its key.
+
+        The large values of the stored one are not in memory.
+        """
 
     def doubt(self) -> None:
-        """Starts of clients that are this node's may not be under way."""
+        """Mark that starts of clients that this node has claimed may be lost."""
 
 
 class ExternalOffers(Protocol):
-    """What is offered to external workers."""
+    """The tasks that are offered to external workers."""
 
     def offered(self, attempt: Attempt) -> None:
-        """Its row is in the store."""
+        """Handle that the row of an offer is stored."""
 
     def withdrawn(self, attempt: Attempt, is_done: bool) -> None:
-        """Its withdrawal is in the store, where no worker had it."""
+        """Handle that a withdrawal is stored. With `is_done`, no worker had the task."""
 
     def look(self) -> None:
-        """What was reported may be taken now."""
+        """Read reports, which may be accepted now."""
 
 
 class EffectHandler:
-    """Does what effects say: at once, and once their batch is durable."""
+    """Carries out effects: some at once, others after their batch is durable."""
 
     def __init__(
         self,
@@ -71,7 +75,7 @@ class EffectHandler:
         self._acknowledgements = executor.calls.acknowledgements
 
     def at_once(self, effects: Effects) -> None:
-        """Do what does not wait for the commit."""
+        """Carry out the effects that do not wait for the commit."""
         if self._acknowledgements is not None:
             self._acknowledgements.decided(effects)
         if effects.unclaimed:
@@ -80,13 +84,13 @@ class EffectHandler:
             self._shards.assign(saga)
 
     def lost(self, effects: Effects) -> None:
-        """The batch is not durable: nothing of it begins."""
+        """Discard the effects, because the batch is not durable."""
         if self._acknowledgements is not None:
             self._acknowledgements.lost(effects)
         self._slots.release(len(effects.dispatch))
 
     def committed(self, effects: Effects) -> None:
-        """Do what waits for the commit."""
+        """Carry out the effects that wait for the commit."""
         rare = effects.rare
         if effects.reported:
             self._executor.reported(effects.reported)
@@ -113,7 +117,7 @@ class EffectHandler:
                 attempt.instance.release()
 
     def _kept(self, rare: RareEffects) -> None:
-        """Rows, offers, reports and answers are in the store."""
+        """Carry out what follows from stored rows, offers, reports and answers."""
         if rare.taken:
             self._executor.reported(rare.taken)
         for attempt, row in rare.suspended:
@@ -130,14 +134,14 @@ class EffectHandler:
             self._aborted(abort)
 
     def over(self, sagas: Collection[SagaInstance]) -> None:
-        """Nothing is acknowledged of these any more."""
+        """Forget the acknowledgements of these sagas."""
         if self._acknowledgements is not None:
             self._acknowledgements.over(sagas)
 
-    # -- of a shard that was recovered
+    # -- recovery
 
     def recovered(self, recovery: Recovery) -> None:
-        """Do what was found of its sagas."""
+        """Apply the recovered state of a shard to its sagas."""
         if self._acknowledgements is not None:
             self._acknowledgements.recovered(recovery)
         for before, saga in recovery.replaced:
@@ -165,14 +169,14 @@ class EffectHandler:
         self._executor.early.look_again(recovery.effects.batch.log)
 
     def resume(self, recovery: Recovery) -> None:
-        """Go on with its attempts."""
+        """Resume the attempts of a recovered shard."""
         for attempt in recovery.resumed:
             self._executor.resume(attempt)
         for saga in recovery.draining:
             self._executor.drain(saga)
         self._offers.look()
 
-    # -- told
+    # -- events
 
     def _aborted(self, abort: Abort) -> None:
         saga = abort.saga
@@ -182,7 +186,7 @@ class EffectHandler:
         self._sagas.answer_abort(abort)
 
     def _overdue(self, saga: SagaInstance) -> None:
-        """A saga is aborted, because its deadline had passed."""
+        """Emit that a saga was aborted because its deadline had passed, and drain it."""
         self._teller.tell("saga_overdue", key=saga.key, saga=saga.kind.name)
         self._executor.drain(saga)
         self._teller.tell("saga_aborted", key=saga.key, saga=saga.kind.name)
@@ -206,7 +210,7 @@ class EffectHandler:
                 self._emit_unused(saga, unused)
 
     def _emit_end(self, saga: SagaInstance) -> None:
-        """How a saga ended: its phase; of a stuck one because of which steps."""
+        """Emit how a saga ended: its phase, and the blocking steps of a stuck one."""
         chain = (saga.answer or {}).get("chain", ()) if saga.phase == "stuck" else ()
         names = " and ".join(saga.kind.names[step] for step in chain)
         detail = f"because of {names}" if names else None
@@ -216,14 +220,14 @@ class EffectHandler:
         self._teller.tell(f"saga_{saga.phase}", key=saga.key, saga=saga.kind.name, detail=detail)
 
     def _emit_unused(self, saga: SagaInstance, steps: Sequence[int]) -> None:
-        """A saga ended without reports that were accepted: what steps did elsewhere is there."""
+        """Emit that a saga ended without using successes that were reported early."""
         names = " and ".join(saga.kind.names[step] for step in steps)
         detail = f"{names}: a success was reported before the step began, and was not used"
         self._teller.tell("saga_unused_report", key=saga.key, saga=saga.kind.name, detail=detail)
         self._sagas.unused()
 
     def _emit_undo_failed(self, saga: SagaInstance, steps: Sequence[int]) -> None:
-        """A saga ended, and what steps of it did stands against its plan."""
+        """Emit that a saga ended, but effects of these steps remain against its plan."""
         stands = [saga.kind.names[step] for step in steps]
         remedy = (
             "the compensation failed permanently. Repair the effect, then mark the saga "

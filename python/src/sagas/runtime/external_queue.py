@@ -1,7 +1,7 @@
 """Attempts for external workers: offers, claims and leases.
 
-All of it is in the table `external_attempts` (storage/external.py). A task is claimed with a lease
-that nobody else can guess (lease_signature.py), by any node of the database.
+Everything is stored in the table `external_attempts` (storage/external.py). Any node of the
+database claims a task, with a signed lease that cannot be guessed (lease_signature.py).
 """
 
 from __future__ import annotations
@@ -35,15 +35,13 @@ if TYPE_CHECKING:
     from sagas.runtime.coordinator import Coordinator
 
 BUDGET = 16 << 20
-"""Characters of the values that a claim hands out, unless the first task alone has more."""
+"""Maximum characters of the values of a claim, unless its first task alone has more."""
 RETRY_DELAY = 2.0
-"""Seconds after which what the store did not answer is asked again."""
+"""Seconds after which a failed read of the store is repeated."""
 LOOK = 0.5
-"""Seconds between two looks for what waits for a worker, or was reported: a word of another
-program may be lost."""
+"""Seconds between checks for tasks and reports: a notification of another program may be lost."""
 LOOK_AT_FILE = 0.02
-"""Seconds between two looks at a file: a worker of a queue writes there, and its commit makes no
-event here."""
+"""Seconds between checks of a file: a commit of a queue's worker sends no notification."""
 OF_SAGA = (
     "SELECT s.key, s.input, s.deadline, s.traceparent, text, "
     "(SELECT p.shape FROM shapes p WHERE p.id = s.id) "
@@ -58,8 +56,12 @@ def _set(future: asyncio.Future[None]) -> None:
 
 
 class ExternalQueue(ExternalReports):
-    """`leased`: whether this program serves workers; else the tasks that it offers are another
-    node's to serve, or are told by `Store.finish`.
+    """Offers attempts to workers, and hands them out under leases.
+
+    Attributes:
+        leased: Whether this program serves workers. If not, other nodes serve its tasks, or
+            `Store.finish` reports them.
+        takeovers: How many tasks were claimed after a lease had expired.
     """
 
     def __init__(self, coordinator: Coordinator) -> None:
@@ -76,7 +78,7 @@ class ExternalQueue(ExternalReports):
         self._pause, self._next_wake = LOOK, 0.0
 
     async def open(self) -> None:
-        """Reads the secret by which leases are signed. Raises `StoreUnavailable`."""
+        """Read the secret that signs leases. Raises `StoreUnavailable`."""
         for saga in self.coordinator.registry.sagas.values():
             for pattern in shape_validation.patterns(saga):
                 step = pattern.step
@@ -94,18 +96,18 @@ class ExternalQueue(ExternalReports):
         self._look_later()
 
     def close(self) -> None:
-        """Nobody takes anything any more."""
+        """Wake all waiting claims, so that they end."""
         if self._timer:
             self._timer.cancel()
         for waiting in list(self._waiting.values()):
             for future in list(waiting):
                 _set(future)
 
-    # -- what is offered
+    # -- offers
 
     def offer(self, attempt: Attempt) -> None:
-        """It waits for a worker, or for the one that has it."""
-        self._withdrawing.discard(attempt)  # its commit was not made, or nobody knows
+        """Offer an attempt to workers, or wait for the worker that has it."""
+        self._withdrawing.discard(attempt)  # its commit failed, or its outcome is unknown
         if self.coordinator.closed or attempt.pending:
             return
         if attempt.offered is not None:
@@ -120,7 +122,7 @@ class ExternalQueue(ExternalReports):
             runner.keep(shard.offered(attempt, self.coordinator.clock()))
 
     def offered(self, attempt: Attempt) -> None:
-        """Its row is in the store."""
+        """Handle that the row of an attempt is stored."""
         self._offering.discard(attempt)
         self._check.offered(attempt)
         if committed := self._dispatched.get(attempt):
@@ -131,30 +133,32 @@ class ExternalQueue(ExternalReports):
         self.wake(task_of(attempt))
 
     def withdraw(self, attempt: Attempt) -> None:
-        """Its saga is being undone: it is taken back, unless a worker has it. That is a commit of
-        its shard, behind the one that offered it, so that no other node's offer is taken back.
+        """Withdraw an attempt of a saga that is being undone, unless a worker has it.
+
+        That is a commit of its shard after the offer, so that no offer of another node is
+        withdrawn.
         """
         if self._is_moving(attempt):
-            return  # once it is offered, its saga is drained again
+            return  # the saga is drained again when the offer is stored
         shard = attempt.instance.shard
         if shard and (runner := self.coordinator.runner(shard)):
             self._withdrawing.add(attempt)
             runner.keep(shard.withdrawn(attempt, self.coordinator.clock()))
 
     def withdrawn(self, attempt: Attempt, is_done: bool) -> None:
-        """The store has answered its withdrawal."""
+        """Handle the reply of the store to a withdrawal."""
         self._withdrawing.discard(attempt)
         if is_done:
             self.coordinator.executor.withdrawn(attempt)
 
     def gone(self, attempt: Attempt) -> None:
-        """Its outcome is known, or it is not this program's any more."""
+        """Forget an attempt that is finished, or that another program has."""
         self._offering.discard(attempt)
         self._withdrawing.discard(attempt)
         self._check.gone(attempt)
 
     def _is_moving(self, attempt: Attempt) -> bool:
-        """Whether a commit that offers or withdraws it is not answered."""
+        """Return whether an offer or a withdrawal of the attempt is being stored."""
         return attempt in self._offering or attempt in self._withdrawing
 
     def _offer(self, attempt: Attempt) -> None:
@@ -162,10 +166,12 @@ class ExternalQueue(ExternalReports):
         self._store_offer(attempt)
 
     async def dispatch(self, attempt: Attempt) -> int:
-        """Its row is in the store, with the lease for a message; where it has been reported
-        already, that is told."""
+        """Store the row of an attempt; return the lease for its message.
+
+        If the attempt has been reported already, the report is delivered.
+        """
         number, attempt.rare.offered = attempt.offered, None
-        while attempt.pending:  # a commit has one word for its row
+        while attempt.pending:  # a commit writes its row once
             await self.coordinator.executor.changes.wait(attempt)
         committed = self._dispatched[attempt] = self.coordinator.loop.create_future()
         try:
@@ -178,7 +184,7 @@ class ExternalQueue(ExternalReports):
         return number
 
     async def _dispatched_under(self, attempt: Attempt, is_committed: bool) -> int | None:
-        """The lease of its row; None where that is not known to be in the store."""
+        """Return the lease of a stored row; None if the row may not be stored."""
         with contextlib.suppress(StoreUnavailable):
             row = await self._table.find(attempt.token())
             if row is not None and row.outcome is not None:
@@ -191,7 +197,7 @@ class ExternalQueue(ExternalReports):
     # -- claims
 
     def wake(self, task: str, count: int = 1) -> None:
-        """There may be so many tasks of a step for who waits here."""
+        """Wake up to `count` claims that wait for tasks of a step."""
         for future in self._waiting.get(task, ()):
             if count <= 0:
                 break
@@ -200,7 +206,7 @@ class ExternalQueue(ExternalReports):
                 count -= 1
 
     def offered_elsewhere(self) -> None:
-        """Another node has offered something."""
+        """Wake waiting claims, because another node has offered a task."""
         for task in self._waiting:
             self.wake(task)
 
@@ -213,7 +219,7 @@ class ExternalQueue(ExternalReports):
         worker: str,
         holder: str,
     ) -> list[LeasedTask]:
-        """As `Store.take`."""
+        """Claim tasks. See `Workers.claim`."""
         deadline, tasks = self.coordinator.loop.time() + wait, [
             *dict.fromkeys((task_name(*step) for step in steps))
         ]
@@ -226,7 +232,7 @@ class ExternalQueue(ExternalReports):
             left = deadline - self.coordinator.loop.time()
             if leased or left <= 0:
                 return leased
-            if claims:  # none of them could be handed out
+            if claims:  # no claimed task could be handed out
                 await asyncio.sleep(min(left, 1.0))
             else:
                 await self._wait_for_tasks(tasks, left)
@@ -242,9 +248,10 @@ class ExternalQueue(ExternalReports):
     async def _all_leased(
         self, claims: Sequence[Claim], worker: str, holder: str
     ) -> list[LeasedTask]:
-        """What a worker gets, of `BUDGET` as far as sizes are known; the other claims are given
-        back. If the store does not answer, all are. A claim whose values cannot be decoded is set
-        aside, so that it does not block the others.
+        """Return tasks with their leases, within `BUDGET`; give back the other claims.
+
+        If the store does not answer, all claims are given back. A claim with undecodable values is
+        set aside, so that it does not block others.
         """
         leased: list[LeasedTask | None] = []
         size = largest = 0
@@ -265,13 +272,13 @@ class ExternalQueue(ExternalReports):
         return [claim for claim in leased if claim]
 
     def _give_back_all(self, claims: Sequence[Claim]) -> None:
-        """Give back claims whose caller was cancelled."""
+        """Give back claims in the background."""
         if not self.coordinator.closed:
             for claim in claims:
                 self.coordinator.spawn(self._give_back(claim.attempt, claim.lease))
 
     async def give_back(self, tasks: Iterable[LeasedTask], holder: str) -> None:
-        """As `Store.workers.give_back`."""
+        """Give back tasks. See `Workers.give_back`."""
         self._raise_if_closed()
         numbers = {
             task.attempt_id: self._signer.number(task.attempt_id, task.lease, holder)
@@ -280,18 +287,18 @@ class ExternalQueue(ExternalReports):
         await asyncio.gather(*(self._give_back(*task) for task in numbers.items()))
 
     async def set_aside(self, task: LeasedTask, holder: str, why: str) -> None:
-        """As `Store.workers.set_aside`."""
+        """Set a task aside. See `Workers.set_aside`."""
         self._raise_if_closed()
         number = self._signer.number(task.attempt_id, task.lease, holder)
         await self.park(task.attempt_id, number, CannotDecode(why))
 
     async def _give_back(self, attempt: str, lease: int) -> None:
-        with contextlib.suppress(StoreUnavailable):  # then it runs out
+        with contextlib.suppress(StoreUnavailable):  # then the lease expires
             await self._table.heartbeat(attempt, lease, 0.0)
             self.offered_elsewhere()
 
     async def _wait_for_tasks(self, tasks: Sequence[str], seconds: float) -> None:
-        """Waits until there may be something."""
+        """Wait until there may be tasks of these steps."""
         future: asyncio.Future[None] = self.coordinator.loop.create_future()
         timer = self.coordinator.loop.call_later(seconds, _set, future)
         for task in tasks:
@@ -307,7 +314,7 @@ class ExternalQueue(ExternalReports):
                     self._waiting.pop(task, None)
 
     async def _leased(self, claim: Claim, worker: str, holder: str) -> LeasedTask | None:
-        """What a worker is handed; None where that cannot be computed."""
+        """Return the task of a claim; None if its values cannot be computed here."""
         now, attempt = self.coordinator.clock(), self.find(claim.attempt)
         if attempt is None:
             kind, task = await self._task(claim)
@@ -341,14 +348,14 @@ class ExternalQueue(ExternalReports):
             logger.warning("%s: %s", claim.attempt, error)
             await self._give_back(claim.attempt, claim.lease)
             return None
-        except Exception as error:  # of the user's function
-            with contextlib.suppress(SagasError):  # the lease ends, and it is handed out again
+        except Exception as error:  # raised by the user's function
+            with contextlib.suppress(SagasError):  # the lease expires, and the task is free again
                 await self.report(claim.attempt, lease, holder, given_values.failure(error))
             return None
         return LeasedTask(claim.attempt, lease, now + claim.seconds, task, given)
 
     async def _task(self, claim: Claim) -> tuple[Kind, Task[Any]]:
-        """The definition, and what a worker is handed, of an attempt that another node drives."""
+        """Return definition and task of an attempt that another node executes."""
         read, undo = self.coordinator.store.read, claim.action == "undo"
         rows = await read(OF_SAGA, claim.id)
         ((key, text, deadline, traceparent, definition, shape),) = rows
@@ -384,7 +391,7 @@ class ExternalQueue(ExternalReports):
     async def heartbeat(
         self, token: str, lease: str, holder: str, seconds: float, progress: Progress | None
     ) -> Heartbeat:
-        """Keep a worker's lease, and how far it is."""
+        """Extend the lease of a worker, and store its progress."""
         number = self._signer.number(token, lease, holder)
         self._raise_if_closed()
         extension = await self._table.heartbeat(token, number, seconds)
@@ -401,7 +408,7 @@ class ExternalQueue(ExternalReports):
         return Heartbeat(until, extension.cancelled)
 
     async def queues(self) -> list[Queue]:
-        """The tasks that wait or are leased, at any node, by step."""
+        """Return how many tasks wait or are leased at any node, by step."""
         counts = []
         for task, ready, oldest, claimed in await self._table.waiting():
             saga, _, named = task.partition("/")
@@ -409,7 +416,7 @@ class ExternalQueue(ExternalReports):
             counts.append(Queue(saga, step, action == "undo", ready, oldest, claimed))
         return counts
 
-    # -- looks
+    # -- periodic checks
 
     def _look_later(self) -> None:
         loop = self.coordinator.loop
@@ -422,7 +429,7 @@ class ExternalQueue(ExternalReports):
             self.coordinator.spawn(self._wake_all())
 
     async def _wake_all(self) -> None:
-        """Leases may have run out, or others' words been lost."""
+        """Wake claims for tasks whose leases expired, or whose notification was lost."""
         with contextlib.suppress(StoreUnavailable):
             for task, ready, _, _ in await self._table.waiting():
                 self.wake(task, ready)

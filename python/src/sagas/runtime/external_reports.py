@@ -1,8 +1,8 @@
 """Reports of external workers, taken into their shards.
 
-*Done* counts under any lease of the attempt, since it is the same effect; *failed* and *unknown*
-only under the newest. A report is kept in the table `external_attempts`; then the node that drives
-the shard of the attempt reports it there, and settles the row in the same commit.
+*Done* counts under any lease of the attempt, because it is the same effect. *Failed* and *unknown*
+count only under the newest lease. A report is stored in the table `external_attempts`. Then the
+node that owns the shard reports it there, and settles the row in the same commit.
 """
 
 from __future__ import annotations
@@ -52,7 +52,7 @@ EVENT = "SELECT event, value FROM attempts WHERE id = ? AND step = ? AND action 
 
 
 class ExternalReports:
-    """Takes reports, also those that other nodes or workers have left in the table."""
+    """Accepts reports, also those that other nodes wrote into the table."""
 
     def __init__(self, coordinator: Coordinator) -> None:
         self.coordinator = coordinator
@@ -67,7 +67,7 @@ class ExternalReports:
 
     @contextlib.contextmanager
     def reports(self, attempt: Attempt) -> Iterator[asyncio.Future[Outcome]]:
-        """What is reported of one whose message is out."""
+        """Provide the future of the report of an attempt whose message is sent."""
         token = attempt.token()
         future = self._reports[token] = self.coordinator.loop.create_future()
         try:
@@ -77,7 +77,7 @@ class ExternalReports:
                 del self._reports[token]
 
     def find(self, token: str) -> Attempt | None:
-        """The attempt with this id, if it is under way here."""
+        """Return the attempt with this id, if it is in progress here."""
         parts = tokens.parse(token)
         if not parts:
             raise NoSuchTask(f"{token!r} is not the attempt id of a task")
@@ -86,12 +86,16 @@ class ExternalReports:
         saga = shard.sagas.get(number) if shard else None
         if shard is None or saga is None or step not in saga.kind.names:
             return None
-        word = (saga.kind.names.index(step), kind)
-        busy = saga.busy.get(word)
+        action_key = (saga.kind.names.index(step), kind)
+        busy = saga.busy.get(action_key)
         if busy is not None and busy.attempt == count:
             return busy
         for candidate in shard.unkept():  # finished
-            if candidate.instance is saga and candidate.word == word and candidate.attempt == count:
+            if (
+                candidate.instance is saga
+                and candidate.word == action_key
+                and candidate.attempt == count
+            ):
                 return candidate
         return None
 
@@ -103,10 +107,10 @@ class ExternalReports:
         outcome: Outcome,
         stored: Callable[[], object] | None = None,
     ) -> bool:
-        """As `Store.workers.report`.
+        """Report a task. See `Workers.report`.
 
-        The lease is judged before anything is looked up, so that who has none learns nothing about
-        the task."""
+        The lease is verified first, so that a caller without one learns nothing about the task.
+        """
         number = self._signer.number(token, lease, holder)
         self._raise_if_closed()
         value = self._encoded(outcome)
@@ -122,22 +126,24 @@ class ExternalReports:
         return True
 
     def _encoded(self, outcome: Outcome) -> str:
-        """The value of an outcome, as the table has it: a result is encoded."""
+        """Return the value of an outcome as the table stores it: a result is encoded."""
         payloads = self.coordinator.registry.payloads
         is_result = payloads.codec is not None and outcome.kind is SUCCEEDED
         return outcomes.stored(payloads, outcome.value) if is_result else outcome.value
 
     def _delivered(self, outcome: OutcomeKind, value: str) -> Outcome:
-        """What was reported, by what the table has."""
+        """Return the outcome of a stored report."""
         reported = outcomes.delivered(outcome, value)
         return reported._replace(encoded=self.coordinator.registry.payloads.is_encoded(value))
 
     async def park(self, token: str, number: int, why: CannotDecode | BlobUnavailable) -> None:
-        """Set a claimed task aside that cannot be handed out: it waits for a program that can read
-        what is stored for it, or for an operator; or until its values can be got."""
+        """Set a claimed task aside whose values cannot be read.
+
+        It waits for a program that can read them, for an operator, or for the blob store.
+        """
         logger.warning("%s cannot be handed out: %s", token, why)
         outcome = outcomes.unreadable(str(why), passes=isinstance(why, BlobUnavailable))
-        with contextlib.suppress(StoreUnavailable):  # the lease ends, and it is claimed again
+        with contextlib.suppress(StoreUnavailable):  # the lease expires, and is claimed again
             shard = await self._table.report(token, number, str(outcome.kind), outcome.value)
             if shard in self.coordinator.shards.runners:
                 await self._apply(Report(token, str(outcome.kind), outcome.value))
@@ -145,17 +151,16 @@ class ExternalReports:
                 await self._table.tell()
 
     async def _apply(self, report: Report) -> None:
-        """Reports it into its shard here, where it can be now, and waits until it is there."""
+        """Report an outcome into its shard if possible now, and wait until it is stored."""
         attempt = self.find(report.attempt)
         if attempt is None or not self._deliver(report, attempt):
             return
         if attempt.state is FINISHED:
-            with contextlib.suppress(SagasError):  # it is kept, and is looked at again
+            with contextlib.suppress(SagasError):  # it is stored, and is checked again
                 await self.coordinator.executor.kept.wait(attempt)
 
     def _deliver(self, report: Report, attempt: Attempt) -> bool:
-        """Whether what was reported of an attempt that is under way here could be said of it
-        now."""
+        """Deliver a report to an attempt in progress here; return whether that worked."""
         outcome = self._delivered(OutcomeKind(report.outcome), report.value)
         if attempt.pending:
             return False
@@ -167,7 +172,7 @@ class ExternalReports:
         if attempt.state is not SUSPENDED or not (is_known or awaits_worker(attempt)):
             return False
         if outcome.kind in (UNKNOWN, CANNOT_DECODE) and attempt.lease:
-            attempt.rare.lease = None  # it ended with that: whoever claims it next has another
+            attempt.rare.lease = None  # the lease has ended: the next claim gets another
         if outcome.kind is SUCCEEDED or not is_known:
             self.coordinator.executor.ended(attempt, outcome)
         elif outcome.kind is not UNKNOWN and attempt.reason is Suspension.UNKNOWN:
@@ -175,7 +180,7 @@ class ExternalReports:
         return True
 
     def look(self) -> None:
-        """Something may have been reported."""
+        """Read reports, because there may be some."""
         self._looks_again = True
         if not self._is_looking and not self.coordinator.closed and self._has_any:
             self._is_looking = True
@@ -189,18 +194,18 @@ class ExternalReports:
                     if attempt := self.find(report.attempt):
                         self._deliver(report, attempt)
         except StoreUnavailable:
-            pass  # the next look finds it
+            pass  # the next check finds it
         finally:
             self._is_looking = False
 
     async def find_done(self, token: str) -> Outcome | None:
-        """A worker's *done* of an attempt; asks until the store answers."""
+        """Return a worker's success of an attempt, or None; retry until the store answers."""
         row = await until_answered(lambda: self._table.find(token))
         is_done = row is not None and row.outcome == SUCCEEDED
         return self._delivered(SUCCEEDED, row.value or "null") if row and is_done else None
 
     async def _repeated(self, token: str, number: int, outcome: Outcome) -> bool:
-        """False where it was reported so before; else raises why it does not count."""
+        """Return False if the same outcome was reported before; otherwise raise an error."""
         row = await self._table.find(token)
         if row is None or row.outcome == "settled":
             return await self._settled(token, outcome)
@@ -228,8 +233,10 @@ class ExternalReports:
         raise ConflictingReport(f"{token} was reported before, with another outcome ({event})")
 
     async def outcome_of(self, token: str) -> tuple[str, str | None]:
-        """The event that a reported task came to, and its value. Raises `NoSuchTask`,
-        `OwnerUnavailable`."""
+        """Return the event of a reported task, and its value.
+
+        Raises `NoSuchTask` and `OwnerUnavailable`.
+        """
         parts, read = tokens.parse(token), self.coordinator.store.read
         rows = await read(OF_TOKEN, parts.number, parts.shard) if parts else []
         for _, id, phase, text in rows:
@@ -244,7 +251,7 @@ class ExternalReports:
 
 
 def _raise_lost(row: Row, token: str, number: int, subject: str, outcome: Outcome) -> None:
-    """Why a report of an attempt that is not over does not count."""
+    """Raise why a report of an unfinished attempt does not count."""
     if row.outcome == "person" and outcome.kind is SUCCEEDED:
         raise LeaseLost(
             f"{token}: its outcome is unknown, and a person must report it. Tell an "

@@ -1,11 +1,11 @@
 """Concurrency and rate limits over all nodes.
 
-Steps that are limited over all nodes. An attempt that may be called has a place in the database;
-one that got none is suspended, takes no slot, and keeps nobody back.
+A running attempt of a limited step holds a slot in the database. An attempt that gets no slot is
+suspended, uses no slot of this program, and delays no other attempt.
 
-A place of `fleet_concurrency` is its node's as long as that node's lease holds, and no longer than
-the call; one of `rate_limit` is taken until a time. Each statement says which places this node
-has, takes more and gives back the others: if an answer was lost, the next one makes it good.
+A slot of `fleet_concurrency` belongs to its node until the call ends or the lease of the node
+expires. A slot of `rate_limit` is taken until a point in time. Each statement lists the slots of
+this node, takes more, and releases the others. So the next statement repairs a lost reply.
 """
 
 from __future__ import annotations
@@ -26,32 +26,33 @@ from sagas.definition.step import Bounds
 if TYPE_CHECKING:
     from sagas.storage.interface import Database
 
-LOOK = 1.0  # seconds: a node that has places may be gone, which nobody tells
-MAX_LOOK = 30.0  # seconds: the database's clock may jump
+LOOK = 1.0  # seconds between checks: a node that holds slots may stop without notice
+MAX_LOOK = 30.0  # seconds between checks at most: the database's clock may jump
 MOST_GATES = 1000
-"""So many gates are kept before those are dropped that nobody uses."""
-DOUBT = 25.0  # seconds in which a statement whose answer was lost is over
+"""Number of gates at which unused ones are dropped."""
+DOUBT = 25.0  # seconds after which a statement with a lost reply has ended
 
 
 def digest_of(name: str, key: str) -> str:
-    """Name the key of a step's limit, as JSON, in the database. Each step has names of its own."""
+    """Return the name of a limit's key in the database. Each step has its own names."""
     return hashlib.sha256(f"{name} {key}".encode("utf-8", "surrogatepass")).hexdigest()[:40]
 
 
 class CoordinatorForLimits(Protocol):
-    """What the limits need of the open store around them."""
+    """The coordinator, as the limits use it."""
 
     loop: asyncio.AbstractEventLoop
     store: Database
     closed: SagasError | None
 
     def spawn(self, work: Coroutine[None, None, None]) -> asyncio.Task[None]:
-        """Do it in the background."""
+        """Run a coroutine in the background."""
 
 
 class Gate:
-    """The limit of one step, or of a key of it: who asks for a place, who waits, and the places of
-    this node.
+    """The limit of a step, or of one key of it.
+
+    It has the attempts that ask for a slot, those that wait, and the slots of this node.
     """
 
     def __init__(
@@ -63,25 +64,25 @@ class Gate:
         enter: Callable[[Attempt], None],
     ) -> None:
         self.name, self.bounds = name, bounds
-        # the key is of the input: of any length, and in no log or table
+        # the key comes from the input: it may be long, and must not be in a log or table
         self._limit_name = f"{name}/{digest_of(name, key)}" if key else name
         self._coordinator, self._enter = coordinator, enter
         self._asking: list[tuple[Attempt, asyncio.Future[bool]]] = []
         self._waiting: deque[Attempt] = deque()
         self._held_slots: dict[Attempt, int] = {}
         self._is_asking = self._has_released = self._was_notified = False
-        self._resends = 0  # times that it is still to tell once more what this node has
-        self._last_error = ""  # the last that was told
+        self._resends = 0  # how often this node still has to send its slots again
+        self._last_error = ""  # the last logged error
         self._timer: asyncio.TimerHandle | None = None
 
     def is_waited_for(self) -> bool:
-        """Whether others wait: an attempt that comes now waits behind them."""
+        """Return whether attempts wait, so that a later one must wait after them."""
         while self._waiting and not self._still_waits(self._waiting[0]):
             self._waiting.popleft()
         return bool(self._waiting)
 
     def is_used(self) -> bool:
-        """Whether somebody asks, waits or has a place, or it is in doubt what this node has."""
+        """Return whether attempts ask, wait or hold a slot, or whether a reply was lost."""
         is_busy = self._asking or self._held_slots or self._is_asking or self._resends
         return bool(is_busy or self.is_waited_for())
 
@@ -89,12 +90,12 @@ class Gate:
         return attempt.state is SUSPENDED and attempt.reason is Suspension.FLEET_LIMIT
 
     def hold(self, attempt: Attempt, first: bool = False) -> None:
-        """Let it wait without a slot. `first`: it was its turn, and there was no place."""
+        """Let an attempt wait without a slot. With `first`, it waits before all others."""
         attempt.suspend(Suspension.FLEET_LIMIT)
         (self._waiting.appendleft if first else self._waiting.append)(attempt)
 
     async def ask(self, attempt: Attempt) -> bool:
-        """Ask for a place, and return whether it has one. One that is cancelled has none."""
+        """Ask for a slot; return whether it was granted. A cancelled attempt gets none."""
         future: asyncio.Future[bool] = self._coordinator.loop.create_future()
         self._asking.append((attempt, future))
         self._work()
@@ -105,13 +106,13 @@ class Gate:
             return False
 
     def leave(self, attempt: Attempt) -> None:
-        """Give back its place: its call is over, or will not be."""
+        """Release the slot of an attempt, whose call is over or will not start."""
         if self._held_slots.pop(attempt, None) is not None:
             self._has_released = True
             self._work()
 
     def look(self) -> None:
-        """There may be places."""
+        """Ask again, because slots may be free."""
         self._was_notified = True
         if not self._is_asking:
             self._wake(1)
@@ -153,14 +154,14 @@ class Gate:
                         self._coordinator.loop.call_later(pause, self._resend)
                 if (
                     has_released and not self._coordinator.store.shared
-                ):  # where there are other nodes, the database tells all of them
+                ):  # if there are other nodes, the database notifies all of them
                     self._was_notified = True
                 self._distribute(asking, grant)
         finally:
             self._is_asking = False
 
     def _resend(self) -> None:
-        """What this node has is told once more."""
+        """Send the slots of this node again, because a reply was lost."""
         self._resends -= 1
         if not self._coordinator.closed:
             self._has_released = True
@@ -174,7 +175,7 @@ class Gate:
             if number < grant.calls and slots:
                 self._held_slots[attempt] = slots.popleft()
             future.set_result(number < grant.calls)
-        if slots:  # of those that were cancelled meanwhile
+        if slots:  # of attempts that were cancelled in the meantime
             self._has_released = True
         if grant.calls and grant.calls >= len(asking):
             self._coordinator.loop.call_soon(self._wake, 2 * grant.calls)
@@ -189,12 +190,12 @@ class Gate:
         )
 
     def _wake(self, count: int) -> None:
-        """Let those that have waited longest ask, once they have a slot."""
+        """Let the attempts that have waited longest ask for slots."""
         while count and self.is_waited_for() and not self._coordinator.closed:
             attempt = self._waiting.popleft()
             count -= 1
             self._enter(attempt)
-        if self._waiting:  # those who were woken may never come to ask
+        if self._waiting:  # a woken attempt may never ask
             self._look_later(LOOK)
 
 
@@ -207,7 +208,7 @@ class Fleet:
         self._max_gates = MOST_GATES
 
     def gate(self, attempt: Attempt) -> Gate | None:
-        """Return the gate of a step's function, if it has one. Its compensation has none."""
+        """Return the gate of a step's function, or None. A compensation has no gate."""
         if not attempt.instance.kind.has_bounds:
             return None
         step = attempt.instance.kind.steps[attempt.step]
@@ -225,11 +226,11 @@ class Fleet:
         return gate
 
     def _drop(self) -> None:
-        """Forget gates at which nobody is: keys come and go."""
+        """Drop unused gates, because keys come and go."""
         self._gates = {gate_key: gate for gate_key, gate in self._gates.items() if gate.is_used()}
         self._max_gates = max(MOST_GATES, 2 * len(self._gates))
 
     def look(self) -> None:
-        """Another node gave places back."""
+        """Let gates ask again, because another node released slots."""
         for gate in self._gates.values():
             gate.look()

@@ -1,4 +1,4 @@
-"""What an included saga is given by the one that includes it, for workers elsewhere."""
+"""The value `task.given` of included sagas, for workers."""
 
 from __future__ import annotations
 
@@ -20,7 +20,7 @@ def text_of(task: Task[Any]) -> str:
 
     Raises:
         DeclarationMissing: The program does not have this version of the saga.
-        Exception: Whatever the function raises.
+        Exception: What the function raises.
     """
     if task.lacks_given:
         raise DeclarationMissing(
@@ -32,6 +32,6 @@ def text_of(task: Task[Any]) -> str:
 
 
 def failure(error: Exception) -> Outcome:
-    """Return what the attempt comes to: the worker was not asked."""
+    """Return the outcome of an attempt whose `given=` function raised."""
     message = f"given= raised {outcomes.described(error)}"
     return outcomes.failure(message, final=isinstance(error, Fail))

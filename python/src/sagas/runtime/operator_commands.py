@@ -19,17 +19,20 @@ if TYPE_CHECKING:
 
 
 MOST, PAUSE = 1000, 0.5
-"""Requests that are read at once, and seconds until further ones are read if so many are under
-way."""
+"""Maximum number of requests of one read, and seconds until the next read if that many are in
+progress.
+"""
 
 
 class CommandExecutor(Protocol):
-    """What carries out a command, of a saga by its key. `request`: the command's number; `of`: the
-    id of the saga that is meant.
+    """Executes commands on sagas, by key.
+
+    In its methods, `request` is the number of the command, and `of` the id of the saga that is
+    meant.
     """
 
     async def abort(self, key: str, request: Wanted, of: int | None = None) -> bool:
-        """As `Store.abort`."""
+        """See `Store.abort`."""
 
     async def report(
         self,
@@ -41,25 +44,25 @@ class CommandExecutor(Protocol):
         of: int | None = None,
         early: bool = True,
     ) -> None:
-        """As `Store.complete` and `Store.fail`."""
+        """See `Store.complete` and `Store.fail`."""
 
     async def retry(
         self, key: str, step: str, undo: bool, request: Wanted, of: int | None = None
     ) -> None:
-        """As `Store.retry`."""
+        """See `Store.retry`."""
 
 
 class ReportCompensator(Protocol):
-    """What has reports undone that were not used."""
+    """Has unused reports compensated."""
 
     async def compensate(self, key: str, step: str, request: Wanted, of: int | None = None) -> None:
-        """As `Store.compensate`."""
+        """See `Store.compensate`."""
 
 
 def report_command(
     step: str, kind: str, outcome: Outcome, early: bool, payloads: Payloads
 ) -> tuple[str, dict[str, Any]]:
-    """The command that says how a step ended, and what is kept of it."""
+    """Return the command that reports the outcome of a step, and its stored arguments."""
     arguments, value = step_arguments(step, kind, early), json.loads(outcome.value)
     if outcome.kind is OutcomeKind.SUCCEEDED:
         return "complete", arguments | {"result": payloads.encode_value(value)}
@@ -67,13 +70,16 @@ def report_command(
 
 
 def step_arguments(step: str, kind: str, early: bool) -> dict[str, Any]:
-    """What a command says of a step; whether it may come early, only where it may not."""
+    """Return the arguments of a command about a step.
+
+    `early` is included only if it is false.
+    """
     arguments: dict[str, Any] = {"step": step, "kind": kind}
     return arguments if early else arguments | {"early": False}
 
 
 class RequestExecutor:
-    """Does what rows without an answer ask, and answers in the commit that holds its events."""
+    """Executes requests of the store, and replies in the commit that has their events."""
 
     def __init__(
         self, coordinator: Coordinator, executor: CommandExecutor, compensator: ReportCompensator
@@ -85,12 +91,12 @@ class RequestExecutor:
         self._again = False
 
     def stop(self) -> None:
-        """Nothing more is done; what has no answer yet is asked again of the next program."""
+        """Stop. The next program executes the requests without a reply."""
         for job in (*self._doing.values(), *([self._looking] if self._looking else [])):
             job.cancel()
 
     def look(self) -> None:
-        """There may be some."""
+        """Read requests, because there may be some."""
         if self._looking is None or self._looking.done():
             self._looking = self._loop.create_task(self._look())
         else:
@@ -108,7 +114,7 @@ class RequestExecutor:
                 for row in rows:
                     self._begin(row)
                 after = rows[-1][0] if len(rows) == MOST else None
-                if len(self._doing) >= MOST:  # reports may wait for long, and hold up nobody
+                if len(self._doing) >= MOST:  # reports may wait for a long time
                     await asyncio.wait(self._doing.values(), timeout=PAUSE)
             if not self._again:
                 return
@@ -126,7 +132,7 @@ class RequestExecutor:
     async def _do(self, id: int, key: str, command: str, value: str | None, of: int | None) -> None:
         try:
             answer = await self._ask(id, key, command, json.loads(value or "null"), of)
-        except (Closed, Moved):  # the next program, or the node that has the saga, answers
+        except (Closed, Moved):  # the next program, or the node that has the saga, replies
             return
         except SagasError as error:
             answer = {"error": f"{type(error).__name__}: {error}"}

@@ -19,29 +19,29 @@ from sagas.storage.interface import Database
 
 
 class ShardsForPlacement(Protocol):
-    """The shards of the program."""
+    """The shards of the program, as the placement of sagas uses them."""
 
     closed: SagasError | None
 
     def run(self, driver: ShardDriver) -> ShardRunner:
-        """Drive a shard from now on."""
+        """Execute a shard from now on."""
 
     def refuse(self, saga: SagaInstance, error: SagasError) -> None:
-        """It is not begun."""
+        """Refuse the start of a saga."""
 
     def key_taken(self, saga: SagaInstance, row: SagaRow) -> None:
-        """Another shard has its key."""
+        """Handle that another shard has a saga with the key."""
 
     def close_if_over(self, runner: ShardRunner) -> None:
-        """Nothing of a shard may be open any more."""
+        """Close a shard if it has no open saga any more."""
 
 
 class Placement:
-    """Puts sagas into shards.
+    """Assigns sagas to shards.
 
     Attributes:
-        current: The shards that take sagas, by the digest of their definitions.
-        waiting: Sagas that go into a shard in this turn of the loop.
+        current: The shards that accept sagas, by the digest of their definitions.
+        waiting: Sagas that are assigned in this turn of the loop.
     """
 
     def __init__(
@@ -58,9 +58,10 @@ class Placement:
         self.waiting: list[SagaInstance] = []
 
     def assign(self, saga: SagaInstance) -> None:
-        """Put a saga into a shard, with what else is placed in this turn of the loop, unless its
-        key is there, where that is looked for. Its callers, who may wait in a moment, hear why it
-        is not.
+        """Assign a saga to a shard, together with others of this turn of the loop.
+
+        If the store is a file, the key is looked up first. If the key is taken, callers receive the
+        reason in a later turn, so that they can wait for it.
         """
         self.waiting.append(saga)
         if len(self._sagas.by_key) == 1:
@@ -69,7 +70,7 @@ class Placement:
             self._loop.call_soon(self.fill)
 
     def fill(self, asker: ShardRunner | None = None) -> None:
-        """Put those into shards that wait. `asker` is about to ask its engine."""
+        """Assign all waiting sagas. `asker` is a shard that is about to ask its engine."""
         if not self.waiting:
             return
         waiting, self.waiting = self.waiting, []
@@ -96,12 +97,12 @@ class Placement:
                 runner.poke(at_once=True)
 
     def forget(self, runner: ShardRunner) -> None:
-        """A shard takes no more sagas."""
+        """Have a shard accept no more sagas."""
         if self.is_current(runner):
             del self.current[runner.driver.identity.definitions.digest]
 
     def is_current(self, runner: ShardRunner) -> bool:
-        """Whether a shard takes sagas."""
+        """Return whether a shard accepts sagas."""
         return self.current.get(runner.driver.identity.definitions.digest) is runner
 
     def _put(self, saga: SagaInstance) -> ShardRunner | None:
@@ -118,12 +119,12 @@ class Placement:
         return runner
 
     def _takes(self, runner: ShardRunner, kind: Kind) -> bool:
-        """Whether a shard takes one more saga, of this definition."""
+        """Return whether a shard has room for one more saga of this definition."""
         has_room = runner.driver.identity.definitions.has_room(kind)
         return has_room and runner.driver.has_room(self._definitions.room)
 
     def _create(self, definitions: DefinitionSet, kind: Kind) -> ShardRunner:
-        """Make a shard. None is without a definition: an audit of it would have none to read."""
+        """Create a shard. It has at least one definition, because an audit needs one."""
         before = self.current.get(definitions.digest)
         number, name = self._store.new_log(), secrets.token_hex(8)
         of = ShardDefinitions(definitions.kinds or [kind], definitions.digest)

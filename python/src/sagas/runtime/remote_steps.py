@@ -1,7 +1,7 @@
 """Steps on workers of a queue: the message out, the report back.
 
-Steps whose functions workers of a queue call: an attempt goes out as a message, and its report
-comes back through the store.
+Workers of a queue call the functions of these steps. An attempt is sent as a message, and its
+report returns through the store.
 """
 
 from __future__ import annotations
@@ -24,18 +24,16 @@ if TYPE_CHECKING:
     from sagas.storage.interface import Database
 
 MAX_CARRIED = 64 << 10
-"""Bytes of input and results that an order carries; what is more is fetched from the store by
-who has the order.
-"""
+"""Maximum bytes of input and results in an order. The worker reads larger values from the store."""
 FIRST_PAUSE, MAX_PAUSE = 0.05, 2.0  # seconds between two tries to send
 
 
 class Unsent(SagasError):
-    """The order could not be handed over, or nobody knows whether it was: it is sent again."""
+    """The order was not sent, or it is unknown whether it was. It is sent again."""
 
 
 def order_of(attempt: Attempt, lease: int) -> Order:
-    """The attempt's order, with no more than `MAX_CARRIED` bytes of texts."""
+    """Return the order of an attempt, with at most `MAX_CARRIED` bytes of values."""
     saga, kind = attempt.instance, attempt.instance.kind
     assert saga.shard
     left = MAX_CARRIED
@@ -83,8 +81,9 @@ def _declared(attempt: Attempt) -> Declared | None:
 
 
 async def check(database: Database, sagas: Iterable[Saga]) -> None:
-    """Looks whether reports can come, where a step is called by a queue's workers. Raises
-    `WrongStore`, `DefinitionError`.
+    """Check that reports of queue workers can reach this database.
+
+    Raises `WrongStore` and `DefinitionError`.
     """
     queues: dict[int, tuple[RemoteQueue, list[tuple[Step[Any], str]]]] = {}
     for saga in sagas:
@@ -98,8 +97,10 @@ async def check(database: Database, sagas: Iterable[Saga]) -> None:
 
 
 async def call(external: ExternalTasks, manner: Manner, attempt: Attempt) -> Outcome | None:
-    """Sends it and waits for its report. None: it was cancelled here, and nobody knows what
-    became of it.
+    """Send an attempt, and wait for its report.
+
+    Returns:
+        The outcome. None if the call was cancelled here, and the outcome is unknown.
     """
     remote_queue = manner.queue
     assert remote_queue
@@ -118,7 +119,7 @@ async def call(external: ExternalTasks, manner: Manner, attempt: Attempt) -> Out
 
 
 async def _send(queue: RemoteQueue, order: Order) -> None:
-    """Sends it, again and again while that does not go: the caller has the time."""
+    """Send an order, with retries until it is sent. The caller limits the time."""
     pause = FIRST_PAUSE
     while True:
         try:

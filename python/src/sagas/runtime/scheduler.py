@@ -1,4 +1,4 @@
-"""Starts the sagas of schedules when their times come."""
+"""Starts the sagas of schedules when they are due."""
 
 from __future__ import annotations
 
@@ -16,23 +16,25 @@ if TYPE_CHECKING:
     from sagas.runtime.coordinator import Coordinator
 
 MOST_PAUSE = 5.0
-"""Seconds until schedules are looked at by themselves: another node may have changed one."""
+"""Maximum seconds between checks: another node may have changed a schedule."""
 AGAIN = 1.0
-"""Seconds until what the store could not do is tried again."""
+"""Seconds until a failed operation of the store is tried again."""
 MOST = 100
-"""Sagas of one schedule that are started in a turn."""
+"""Maximum number of sagas of one schedule that are started in a turn."""
 
 OPEN = "SELECT 1 FROM sagas WHERE key = ? AND phase IS NULL"
 """Whether a saga is open."""
 StartSaga = Callable[[Schedule, str], Awaitable[object]]
 """Starts the saga of a schedule under a key."""
 Advance = Callable[[Schedule, float, "float | None", "str | None"], Awaitable[object]]
-"""Says which time is the next one, which was the last, and why that could not be started."""
+"""Stores the next time of a schedule, its last time, and why that could not be started."""
 
 
 class Scheduler:
-    """Starts what is due, of definitions that this program has. Other nodes do the same at the
-    same time: a time's saga is one by its key, and the first who advances the schedule counts.
+    """Starts what is due, for definitions that this program has.
+
+    Other nodes do the same concurrently. The key identifies the saga of a time, and the first node
+    that advances the schedule counts.
     """
 
     def __init__(self, coordinator: Coordinator, start: StartSaga, advance: Advance) -> None:
@@ -41,11 +43,11 @@ class Scheduler:
         self._left: dict[str, str] = {}  # schedules that are left to other nodes, and why
 
     def look(self) -> None:
-        """Something may have changed."""
+        """Check the schedules, because one may have changed."""
         self._changed.set()
 
     async def run(self) -> None:
-        """Start what is due, until it is cancelled."""
+        """Start what is due, until cancelled."""
         while True:
             self._changed.clear()
             try:
@@ -62,7 +64,7 @@ class Scheduler:
                 pass
 
     async def _turn(self) -> float:
-        """Start what is due; return how many seconds there is nothing to do."""
+        """Start what is due; return the seconds until the next check."""
         coordinator = self._coordinator
         pause = MOST_PAUSE
         for row in await coordinator.store.read(schedules.DUE):
@@ -77,18 +79,19 @@ class Scheduler:
                 continue
             if schedule.next_at > now:
                 pause = min(pause, schedule.next_at - now)
-                break  # the others come later
+                break  # the others are due later
             pause = min(pause, await self._fire(schedule, now))
         return max(pause, 0.0)
 
     async def _fire(self, schedule: Schedule, now: float) -> float:
-        """Start what is due of a schedule as it was read, as long as it is that one; return in how
-        many seconds its next time comes.
+        """Start what is due of a schedule; return the seconds until its next time.
+
+        It stops if the schedule was changed since it was read.
         """
         try:
             times, next_at = schedule.timing.due(schedule.next_at, now, MOST)
             first = schedule.timing.first_of(schedule.next_at, now)
-        except InvalidSchedule as invalid:  # a node whose system has its time zone starts them
+        except InvalidSchedule as invalid:  # a node that has the time zone starts them
             self._leave(schedule.name, schedule.saga, str(invalid))
             return MOST_PAUSE
         self._left.pop(schedule.name, None)
@@ -125,14 +128,15 @@ class Scheduler:
         return next_at - self._coordinator.clock()
 
     async def _is_open(self, schedule: Schedule, before: float | None) -> bool:
-        """Whether the saga of the time before is open, where that counts."""
+        """Return whether the saga of the previous time is open, if that matters."""
         if schedule.overlap == timing.Overlap.ALLOW or before is None:
             return False
         return bool(await self._coordinator.store.read(OPEN, timing.key_of(schedule.name, before)))
 
     async def _report_missing(self, schedule: Schedule, now: float) -> None:
-        """This program does not have its definition: if no other node starts it, that is told, and
-        the schedule has it as its error.
+        """Report that no node has the definition of a schedule that is overdue.
+
+        The schedule stores the reason as its error.
         """
         grace = timing.LATE if self._coordinator.store.shared else 0.0
         if schedule.next_at + grace > now:
@@ -143,20 +147,21 @@ class Scheduler:
             await self._advance(schedule, schedule.next_at, None, why)
 
     def _leave(self, name: str, saga: str, why: str) -> None:
-        """Leave a schedule to other nodes, which is told once."""
+        """Leave a schedule to other nodes, and report that once."""
         if self._left.get(name) != why:
             self._left[name] = why
             detail = f"{name}: {why}"
             self._coordinator.teller.tell("schedule_failed", saga=saga, detail=detail)
 
     async def _is_unchanged(self, schedule: Schedule) -> bool:
-        """Whether nobody has paused, removed or changed it, and no node has advanced it."""
+        """Return whether the schedule is still as it was read."""
         rows = await self._coordinator.store.read(schedules.ONE, schedule.name)
         return [schedules.of_row(row) for row in rows] == [schedule]
 
     async def _try(self, schedule: Schedule, key: str) -> str | None:
-        """Start a saga of it; return why it cannot be started. Raises `TemporaryError`: the same
-        times are due again.
+        """Start a saga of a schedule; return why it cannot be started, or None.
+
+        Raises `TemporaryError`: the same times are due again.
         """
         try:
             await self._start(schedule, key)

@@ -8,15 +8,15 @@ from typing import Generic, TypeVar
 
 K = TypeVar("K")
 MANY = 64
-"""Whenever one event has so many more callers, those that gave up are dropped."""
+"""After each such number of callers of an event, cancelled ones are dropped."""
 
 
 class Waiters(Generic[K]):
-    """The callers that wait for one event, by what it is an event of.
+    """Callers that wait for one kind of event, by its subject.
 
     Attributes:
-        futures: The waiting callers. Only this class changes it.
-        told: If set, is called before the callers are notified of success.
+        futures: The futures of the callers. Only this class changes them.
+        before_notify: If set, called before callers are notified of success.
     """
 
     def __init__(self, loop: asyncio.AbstractEventLoop) -> None:
@@ -28,7 +28,7 @@ class Waiters(Generic[K]):
         return key in self.futures
 
     def wait(self, key: K) -> asyncio.Future[None]:
-        """Return a future that is done once it is so."""
+        """Return a future that is done when the event happens."""
         future = self._loop.create_future()
         waiting = self.futures.setdefault(key, [])
         waiting.append(future)
@@ -37,7 +37,7 @@ class Waiters(Generic[K]):
         return future
 
     def notify(self, key: K, error: Exception | None = None) -> bool:
-        """Tell those who wait that it is so, or why it is not; return whether anybody waited."""
+        """Notify the callers of success, or of an error; return whether there were any."""
         if not self.futures:
             return False
         waiting = self.futures.pop(key, ())
@@ -49,10 +49,10 @@ class Waiters(Generic[K]):
                     future.set_result(None)
                 else:
                     future.set_exception(error)
-                    future.exception()  # whoever waited may be gone
+                    future.exception()  # the caller may have been cancelled
         return bool(waiting)
 
     def move(self, before: K, after: K) -> None:
-        """Let those who wait for the one wait for the other."""
+        """Move the callers of one subject to another."""
         if waiting := self.futures.pop(before, None):
             self.futures.setdefault(after, []).extend(waiting)
