@@ -184,7 +184,7 @@ def test_a_schedule_starts_sagas(place: str) -> None:
 @pytest.mark.parametrize("catch_up", ["last", "all", "skip"])
 def test_times_that_were_missed(place: str, catch_up: str, monkeypatch: pytest.MonkeyPatch) -> None:
     """No program ran for two days; a paused schedule misses nothing; what is changed is new."""
-    monkeypatch.setattr(scheduler, "MOST", 3)
+    monkeypatch.setattr(scheduler, "MAX_STARTS", 3)
     clock = Clock()
 
     async def main() -> None:
@@ -257,7 +257,7 @@ def test_a_time_zone_that_this_system_does_not_have(
     place: str, monkeypatch: pytest.MonkeyPatch
 ) -> None:
     """Its schedule is left to other nodes, which is told; all others go on, and so does it once its zone is there."""
-    monkeypatch.setattr(scheduler, "MOST_PAUSE", 0.1)
+    monkeypatch.setattr(scheduler, "MAX_PAUSE", 0.1)
     clock, kind, said = Clock(), nightly(), list[str | None]()
 
     def zone(name: str) -> None:

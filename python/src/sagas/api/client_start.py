@@ -103,39 +103,39 @@ async def start(link: Connection, request: dict[str, Any]) -> Written:
     In this order, no concurrent start of the same key can be missed. An existing row may belong to
     a commit that no standby has yet.
     """
-    own = await caller_connection.rows(link, START, request)
+    own_rows = await caller_connection.rows(link, START, request)
     rows = await caller_connection.rows(
-        link, EXISTING, {"key": request["key"], "own": [id for (id,) in own]}
+        link, EXISTING, {"key": request["key"], "own": [id for (id,) in own_rows]}
     )
-    if rows and own:
-        await psycopg.AsyncCursor(link).execute(BACK, {"own": [id for (id,) in own]})
+    if rows and own_rows:
+        await psycopg.AsyncCursor(link).execute(BACK, {"own": [id for (id,) in own_rows]})
     check_same(request, rows)
-    if not (own or rows):
+    if not (own_rows or rows):
         check_written(request, await caller_connection.rows(link, NOTED, request))
     if renewed := has_other_definition(request, rows):
         await caller_connection.rows(link, RENEW, request)
-    if not own:
+    if not own_rows:
         await psycopg.AsyncCursor(link).execute(replication.REPLICATED)
-    is_new = bool(own) and not rows
+    is_new = bool(own_rows) and not rows
     return Written(is_new, is_new or renewed)
 
 
 def start_now(link: psycopg.Connection[Any], request: dict[str, Any]) -> Written:
     """Write a row in a blocking transaction. See `start`."""
-    own = caller_connection.rows_now(link, START, request)
+    own_rows = caller_connection.rows_now(link, START, request)
     rows = caller_connection.rows_now(
-        link, EXISTING, {"key": request["key"], "own": [id for (id,) in own]}
+        link, EXISTING, {"key": request["key"], "own": [id for (id,) in own_rows]}
     )
-    if rows and own:
-        psycopg.Cursor(link).execute(BACK, {"own": [id for (id,) in own]})
+    if rows and own_rows:
+        psycopg.Cursor(link).execute(BACK, {"own": [id for (id,) in own_rows]})
     check_same(request, rows)
-    if not (own or rows):
+    if not (own_rows or rows):
         check_written(request, caller_connection.rows_now(link, NOTED, request))
     if renewed := has_other_definition(request, rows):
         caller_connection.rows_now(link, RENEW, request)
-    if not own:
+    if not own_rows:
         psycopg.Cursor(link).execute(replication.REPLICATED)
-    is_new = bool(own) and not rows
+    is_new = bool(own_rows) and not rows
     return Written(is_new, is_new or renewed)
 
 

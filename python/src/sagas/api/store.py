@@ -190,7 +190,7 @@ class Store(RetryCalls):
             coordinator.spawn(scheduler.run())
         steps = [step for saga in self._registry.sagas.values() for step in saga.all_steps]
         if any(step.early_unused == "compensate" for step in steps):
-            coordinator.sagas.unused = self._reports.look
+            coordinator.sagas.on_unused_report = self._reports.look
             coordinator.spawn(self._reports.run())
         database.watch(coordinator)
         if isinstance(database, BlobDatabase):
@@ -371,8 +371,8 @@ class Store(RetryCalls):
 
     async def _start_scheduled(self, schedule: Schedule, key: str) -> None:
         saga = self._registry.sagas[schedule.saga, schedule.version]
-        given = self._registry.payloads.decode_value(schedule.input)
-        await self._starter.start(saga, key, given, schedule.labels, None)
+        input = self._registry.payloads.decode_value(schedule.input)
+        await self._starter.start(saga, key, input, schedule.labels, None)
 
     async def _advance(self, schedule: Schedule, *change: Any) -> None:
         await over_own_connection(

@@ -66,29 +66,29 @@ class UnusedReports:
         reason, text = rows[0] if rows else (None, None)
         if reason == EarlyReason.UNDONE and report_undos.fault(kind.steps[number]) is None:
             return
-        where = f"saga {key!r}, step {step!r}"
+        subject = f"saga {key!r}, step {step!r}"
         if reason != EarlyReason.RESULT:
-            raise StepNotWaiting(f"{where}: there is no unused report of it")
+            raise StepNotWaiting(f"{subject}: there is no unused report of it")
         if row.note is not None:
-            raise StepNotWaiting(f"{where}: the saga is resolved already")
+            raise StepNotWaiting(f"{subject}: the saga is resolved already")
         declared = kind.steps[number]
         if kind.saga is None or declared is None:
             if coordinator.store.shared:
                 await self._hand_over(row, step, request)
                 return
             raise StepNotWaiting(
-                f"{where}: this program does not have the definition. Ask one that has it, or undo "
-                "the step by hand, and resolve the saga"
+                f"{subject}: this program does not have the definition. Ask one that has it, or "
+                "undo the step by hand, and resolve the saga"
             )
         if fault := report_undos.fault(declared):
-            raise StepNotWaiting(f"{where}: {fault}. Undo it by hand, and resolve the saga")
+            raise StepNotWaiting(f"{subject}: {fault}. Undo it by hand, and resolve the saga")
         saga = coordinator.registry.report_undo(kind.saga, declared)
-        given = await self._input(row, known, kind, number, text or "null")
+        input = await self._input(row, known, kind, number, text or "null")
         labels = {
             str(name): str(value) for name, value in await coordinator.store.read(LABELS, row.id)
         }
         options = StartOptions(labels, parent=row.id)
-        await self.starter.start_child(saga, children.key_of(key, step, undo=True), given, options)
+        await self.starter.start_child(saga, children.key_of(key, step, undo=True), input, options)
         batch = Batch(-1, coordinator.clock())
         batch.more.undone.append((row.id, number))
         batch.answer(request, "true")
@@ -130,12 +130,14 @@ class UnusedReports:
         store = self._access.coordinator.store
         ((shard,),) = await store.read(NAME, row.id // SHARD_CAPACITY)
         token = tokens.saga_token(shard, row.id % SHARD_CAPACITY)
-        given = decode(await stored_values.input_of(store, row.id, row.input))
+        saga_input = decode(await stored_values.input_of(store, row.id, row.input))
         values = ShapeValues() if known.shape is None else ShapeValues.read(decode(known.shape))
-        location = kind.place(name, values, given)
-        done = {index: value for index, _, _, event, value, _ in known.results if event == "commit"}
-        below = [index for index in kind.below[step] if index in done]
-        results = {kind.names[index]: decode(done[index] or "null") for index in below}
+        location = kind.place(name, values, saga_input)
+        committed = {
+            index: value for index, _, _, event, value, _ in known.results if event == "commit"
+        }
+        needed = [index for index in kind.below[step] if index in committed]
+        results = {kind.names[index]: decode(committed[index] or "null") for index in needed}
         task: Task[Any] = Task(
             Told(
                 kind.name,
@@ -144,25 +146,25 @@ class UnusedReports:
                 True,
                 1,
                 token,
-                location.input if location else given,
+                location.input if location else saga_input,
                 results,
                 decode(text),
                 place=location,
             )
         )
-        plain = task.plain
+        fields_of_task = task.plain
         location_data = None
         if location is not None:
             fields = ("shape", "declared_step", "index", "item_key", "item")
-            location_data = {name: plain[name] for name in fields} | {"step": name}
+            location_data = {field: fields_of_task[field] for field in fields} | {"step": name}
             location_data["given"] = serialization.read(given_values.text_of(task))
         return {
             "key": row.key,
             "token": token,
             "saga": task.saga,
             "step": name,
-            "input": plain["input"],
-            "results": plain["results"] | {name: plain["result"]},
+            "input": fields_of_task["input"],
+            "results": fields_of_task["results"] | {name: fields_of_task["result"]},
             "place": location_data,
         }
 

@@ -221,7 +221,7 @@ class Worker:
     def stop(self) -> None:
         """Claim nothing more; running functions end and are reported.
 
-        Tasks that have not started are given back.
+        Tasks that have not started are released.
         """
         self._stop.set()
 
@@ -351,7 +351,7 @@ class Worker:
     def _keep_leases(self) -> None:
         """Renew the leases of running tasks.
 
-        Tasks that were claimed ahead are given back if no thread has started them since the last
+        Tasks that were claimed ahead are released if no thread has started them since the last
         check, and at a stop.
         """
         looks, seen, ends = max(1, round(self.lease / 3 / LOOK)), -1, True  # checks per heartbeat
@@ -378,7 +378,7 @@ class Worker:
                 self._renew(task, self.lease)
 
     def _give_back(self) -> None:
-        """Give back tasks that were claimed ahead, by shortening their leases.
+        """Release tasks that were claimed ahead, by shortening their leases.
 
         If the service does not receive that, the leases expire.
         """

@@ -95,7 +95,7 @@ class Workers:
         return await external.heartbeat(attempt_id, lease, holder, seconds, reported_progress)
 
     async def give_back(self, tasks: Iterable[LeasedTask], *, holder: str = "") -> None:
-        """Give back tasks that are not performed, so that others may claim them at once.
+        """Release tasks that are not performed, so that others may claim them at once.
 
         If the database does not answer, the leases expire.
 

@@ -39,7 +39,7 @@ class Acknowledgements:
     def follow(self, sagas: Instances, kept: Waiters[Attempt]) -> None:
         """Have this object called before callers are notified."""
         sagas.starts.before_notify, sagas.ends.before_notify = self.started, self.ended
-        sagas.answered = self.aborted
+        sagas.before_abort_answer = self.aborted
         kept.before_notify, self._report_waiters = self.reported, kept.futures
 
     # -- what is decided

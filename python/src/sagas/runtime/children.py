@@ -64,7 +64,7 @@ class ChildEnd(NamedTuple):
 class SagaOperations(Protocol):
     """Starts, finds and aborts sagas by their keys, on any node."""
 
-    async def start(self, saga: Saga | Kind, key: str, given: Any, options: StartOptions) -> bool:
+    async def start(self, saga: Saga | Kind, key: str, input: Any, options: StartOptions) -> bool:
         """Start a saga; return False if the key is used.
 
         A store that accepts no new sagas starts it too.
@@ -204,7 +204,7 @@ class Children:
         while (stored_key := await self._stored_key(attempt, key)) is None:
             await self._values.fill(attempt)
             try:
-                saga, given = await self._new(attempt)
+                saga, input = await self._new(attempt)
             except SagasError:
                 raise
             except Exception as error:  # of the step's function
@@ -213,7 +213,7 @@ class Children:
                 attempt.instance.release()
             if saga is None:
                 return Outcome(SUCCEEDED, "null")  # there is no compensation to be called
-            if await self._operations.start(saga, key, given, await self._options(attempt, saga)):
+            if await self._operations.start(saga, key, input, await self._options(attempt, saga)):
                 return key
         return stored_key
 
@@ -245,8 +245,8 @@ class Children:
         undone = await self._child_to_undo(attempt)
         if undone is None:
             call = children.child_input(attempt)
-            given = await self._coordinator.declared.call(attempt.instance.kind.name, call)
-            return attempt.declared.child, given
+            input = await self._coordinator.declared.call(attempt.instance.kind.name, call)
+            return attempt.declared.child, input
         ended = await self._operations.end(undone)
         kind = self._coordinator.registry.undo_kind(ended.kind)
         if kind is None:
@@ -272,8 +272,8 @@ class Children:
         result = attempt.task().result
         key = result.get("key") if isinstance(result, dict) else None
         if isinstance(key, str):
-            is_own = child_keys.is_of_step(key, attempt.key, attempt.name) or BELOW not in key
-            rows = await self._coordinator.store.read(PARENT, key) if is_own else ()
+            is_child_key = child_keys.is_of_step(key, attempt.key, attempt.name) or BELOW not in key
+            rows = await self._coordinator.store.read(PARENT, key) if is_child_key else ()
             if any(parent == attempt.instance.id for _, parent, _ in rows):
                 return key
         raise InvalidResult(
@@ -285,8 +285,8 @@ class Children:
         """Return the keys of sagas that have undone a part of the same child, in order."""
         keys = []
         if child_keys.undoes_child(attempt.key):
-            given = attempt.task().input
-            for before in given.get("earlier", ()):
+            undone_child = attempt.task().input
+            for before in undone_child.get("earlier", ()):
                 number = 1
                 while await self._is_known(key := child_keys.key_of(before, attempt.name, number)):
                     keys.append(key)

@@ -113,7 +113,7 @@ class Coordinator:
             idle,
         )
         self.deadlines = Deadlines(self.sagas, self.shards.abort, teller, clock)
-        self.sagas.driven = self.deadlines.add
+        self.sagas.on_executed = self.deadlines.add
         self.shards.abort_overdue = self.deadlines.look
         self.waits = DeadlockCheck(self)
         self.listeners.append(self.executor.children.look)
@@ -152,7 +152,7 @@ class Coordinator:
         self._timer = self.loop.call_later(1.0, self._tick, 0.0)
 
     def missing_functions(
-        self, texts: list[str], places: list[int], completed: Sequence[CompletedChild]
+        self, texts: list[str], indexes: list[int], completed: Sequence[CompletedChild]
     ) -> str | None:
         """Return which function this program does not have, or None.
 
@@ -161,9 +161,9 @@ class Coordinator:
             places: The indexes of those that its open sagas have.
             completed: The completed children that its open sagas may undo.
         """
-        for place in places:
+        for index in indexes:
             try:
-                kind = self.registry.kind(texts[place])
+                kind = self.registry.kind(texts[index])
             except (ValueError, LookupError, TypeError, SagasError):
                 continue  # the shard of an invalid definition is set aside
             missing = kind.lacks()

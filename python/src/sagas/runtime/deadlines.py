@@ -11,7 +11,7 @@ from sagas.base.events import Teller
 from sagas.core.model import SagaInstance
 from sagas.runtime.instances import Instances
 
-MOST = 1000
+MAX_ENTRIES = 1000
 """Number of deadlines at which those of ended sagas are dropped."""
 
 
@@ -31,7 +31,7 @@ class Deadlines:
         self._sagas, self._abort, self._teller, self._clock = sagas, abort, teller, clock
         self._heap: list[tuple[float, int, SagaInstance]] = []
         self._order = itertools.count()
-        self._max_entries = MOST
+        self._max_entries = MAX_ENTRIES
 
     def add(self, saga: SagaInstance) -> None:
         """Add the deadline of a saga that this program executes from now on."""
@@ -46,7 +46,7 @@ class Deadlines:
         entries = {entry[2]: entry for entry in self._heap if by_key.get(entry[2].key) is entry[2]}
         self._heap = [*entries.values()]
         heapq.heapify(self._heap)
-        self._max_entries = max(MOST, 2 * len(self._heap))
+        self._max_entries = max(MAX_ENTRIES, 2 * len(self._heap))
 
     def look(self) -> None:
         """Abort the open sagas of this program whose deadlines have passed."""

@@ -110,7 +110,7 @@ class Dispatcher:
     def call(self, attempts: Sequence[Attempt]) -> None:
         """Call the simple functions of these attempts soon."""
         self._ready.extend(
-            [one for one in attempts if not self._starts_own_task(one)]
+            [attempt for attempt in attempts if not self._starts_own_task(attempt)]
             if self._waiters
             else attempts
         )
@@ -225,7 +225,7 @@ class Dispatcher:
     def _call(self, attempt: Attempt) -> Coroutine[Any, Any, None] | None:
         """Call the function until it ends or waits; return the rest if it waits."""
         function, began, context = attempt.action.simple, time.monotonic(), self._context.copy()
-        turns, inside = self._driver, self._inside
+        driver, inside = self._driver, self._inside
         assert function
         context.run(CALLED.set, attempt)
         task: Task[Any] = Task(attempt)
@@ -238,16 +238,16 @@ class Dispatcher:
             work = function(task)
             if type(work) is not types.CoroutineType:  # an awaitable of another type
                 work = _awaited(work)
-            waits_for = context.run(turns.go, work)
+            waits_for = context.run(driver.send, work)
         except BaseException as error:
             self._driver = _CoroutineDriver()
             if inside and task.leave() is not None:
                 return self._wait(attempt, began, task, inside.end(attempt, task, _raised(error)))
             self._failed(attempt, began, inside.raised(error) if inside else error)
             return None
-        if waits_for is not turns.over:
+        if waits_for is not driver.over:
             self._driver = _CoroutineDriver()
-            rest = _whole_result(_Continuation(turns, waits_for, context))
+            rest = _whole_result(_Continuation(driver, waits_for, context))
             return self._suspended(attempt, function, began, task, rest)
         value, attempt.took = waits_for.pop(), time.monotonic() - began
         try:
@@ -323,14 +323,14 @@ class _CoroutineDriver:
     coroutine.
     """
 
-    __slots__ = ("over", "go", "fail")
+    __slots__ = ("over", "send", "throw")
 
     def __init__(self) -> None:
         self.over: list[Any] = []
-        turns = _drive(self.over)
-        next(turns)
-        self.go: Callable[[Any], Any] = turns.send
-        self.fail: Callable[[BaseException], Any] = turns.throw
+        generator = _drive(self.over)
+        next(generator)
+        self.send: Callable[[Any], Any] = generator.send
+        self.throw: Callable[[BaseException], Any] = generator.throw
 
 
 @types.coroutine
@@ -350,25 +350,25 @@ class _Continuation:
 
     def __init__(
         self,
-        turns: _CoroutineDriver,
+        driver: _CoroutineDriver,
         waits_for: Any,
         context: contextvars.Context,
         work: Coroutine[Any, Any, Any] | None = None,
     ) -> None:
         """Make one. `work` is a coroutine that has not started, to be continued first."""
-        self._driver, self._waits_for, self.context, self._work = turns, waits_for, context, work
+        self._driver, self._waits_for, self.context, self._work = driver, waits_for, context, work
 
     def __await__(self) -> Generator[Any, Any, Any]:
-        turns, waits_for, work = self._driver, self._waits_for, self._work
-        while waits_for is not turns.over:
+        driver, waits_for, work = self._driver, self._waits_for, self._work
+        while waits_for is not driver.over:
             try:
-                go_on, told = turns.go, (yield waits_for)
+                resume, value = driver.send, (yield waits_for)
             except BaseException as error:
-                go_on, told = turns.fail, error
+                resume, value = driver.throw, error
                 if work is not None:
                     work.close()
             else:
                 if work is not None:
-                    told, work = work, None
-            waits_for = self.context.run(go_on, told)
+                    value, work = work, None
+            waits_for = self.context.run(resume, value)
         return waits_for.pop()

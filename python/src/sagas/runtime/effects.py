@@ -224,7 +224,7 @@ class EffectHandler:
         names = " and ".join(saga.kind.names[step] for step in steps)
         detail = f"{names}: a success was reported before the step began, and was not used"
         self._teller.tell("saga_unused_report", key=saga.key, saga=saga.kind.name, detail=detail)
-        self._sagas.unused()
+        self._sagas.on_unused_report()
 
     def _emit_undo_failed(self, saga: SagaInstance, steps: Sequence[int]) -> None:
         """Emit that a saga ended, but effects of these steps remain against its plan."""

@@ -232,7 +232,7 @@ class ExternalQueue(ExternalReports):
             left = deadline - self.coordinator.loop.time()
             if leased or left <= 0:
                 return leased
-            if claims:  # no claimed task could be handed out
+            if claims:  # no claimed task could be leased
                 await asyncio.sleep(min(left, 1.0))
             else:
                 await self._wait_for_tasks(tasks, left)
@@ -248,9 +248,9 @@ class ExternalQueue(ExternalReports):
     async def _all_leased(
         self, claims: Sequence[Claim], worker: str, holder: str
     ) -> list[LeasedTask]:
-        """Return tasks with their leases, within `BUDGET`; give back the other claims.
+        """Return tasks with their leases, within `BUDGET`, and release the other claims.
 
-        If the store does not answer, all claims are given back. A claim with undecodable values is
+        If the store does not answer, all claims are released. A claim with undecodable values is
         set aside, so that it does not block others.
         """
         leased: list[LeasedTask | None] = []
@@ -267,18 +267,18 @@ class ExternalQueue(ExternalReports):
                 await self.park(claim.attempt, claim.lease, error)
             except BaseException as error:
                 is_passing = isinstance(error, (StoreUnavailable, asyncio.CancelledError))
-                self._give_back_all([claim for claim in claims if is_passing or claim is not claim])
+                self._give_back_all([other for other in claims if is_passing or other is not claim])
                 raise
         return [claim for claim in leased if claim]
 
     def _give_back_all(self, claims: Sequence[Claim]) -> None:
-        """Give back claims in the background."""
+        """Release claims in the background."""
         if not self.coordinator.closed:
             for claim in claims:
                 self.coordinator.spawn(self._give_back(claim.attempt, claim.lease))
 
     async def give_back(self, tasks: Iterable[LeasedTask], holder: str) -> None:
-        """Give back tasks. See `Workers.give_back`."""
+        """Release claimed tasks. See `Workers.give_back`."""
         self._raise_if_closed()
         numbers = {
             task.attempt_id: self._signer.number(task.attempt_id, task.lease, holder)
@@ -343,7 +343,7 @@ class ExternalQueue(ExternalReports):
             task = compensation_task.of(task, kind.undoes, sees)
         lease = self._signer.issue(claim.attempt, claim.lease, holder)
         try:
-            given = given_values.text_of(task)
+            given_text = given_values.text_of(task)
         except given_values.DeclarationMissing as error:
             logger.warning("%s: %s", claim.attempt, error)
             await self._give_back(claim.attempt, claim.lease)
@@ -352,7 +352,7 @@ class ExternalQueue(ExternalReports):
             with contextlib.suppress(SagasError):  # the lease expires, and the task is free again
                 await self.report(claim.attempt, lease, holder, given_values.failure(error))
             return None
-        return LeasedTask(claim.attempt, lease, now + claim.seconds, task, given)
+        return LeasedTask(claim.attempt, lease, now + claim.seconds, task, given_text)
 
     async def _task(self, claim: Claim) -> tuple[Kind, Task[Any]]:
         """Return definition and task of an attempt that another node executes."""

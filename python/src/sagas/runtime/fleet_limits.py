@@ -28,7 +28,7 @@ if TYPE_CHECKING:
 
 LOOK = 1.0  # seconds between checks: a node that holds slots may stop without notice
 MAX_LOOK = 30.0  # seconds between checks at most: the database's clock may jump
-MOST_GATES = 1000
+MAX_GATES = 1000
 """Number of gates at which unused ones are dropped."""
 DOUBT = 25.0  # seconds after which a statement with a lost reply has ended
 
@@ -205,10 +205,10 @@ class Fleet:
     def __init__(self, coordinator: CoordinatorForLimits, enter: Callable[[Attempt], None]) -> None:
         self._coordinator, self._enter = coordinator, enter
         self._gates: dict[tuple[str, str, str], Gate] = {}
-        self._max_gates = MOST_GATES
+        self._max_gates = MAX_GATES
 
     def gate(self, attempt: Attempt) -> Gate | None:
-        """Return the gate of a step's function, or None. A compensation has no gate."""
+        """Return the limit of a step's function, or None. A compensation has none."""
         if not attempt.instance.kind.has_bounds:
             return None
         step = attempt.instance.kind.steps[attempt.step]
@@ -228,7 +228,7 @@ class Fleet:
     def _drop(self) -> None:
         """Drop unused gates, because keys come and go."""
         self._gates = {gate_key: gate for gate_key, gate in self._gates.items() if gate.is_used()}
-        self._max_gates = max(MOST_GATES, 2 * len(self._gates))
+        self._max_gates = max(MAX_GATES, 2 * len(self._gates))
 
     def look(self) -> None:
         """Let gates ask again, because another node released slots."""

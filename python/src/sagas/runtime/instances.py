@@ -20,18 +20,18 @@ class Instances:
         by_key: The sagas.
         starts: Callers that wait until a saga is stored.
         ends: Callers that wait until the end of a saga is stored.
-        driven: Called with each saga that is stored and executed here.
-        unused: Called when a saga has ended without using an accepted report.
-        answered: If set, called before a caller is notified of the outcome of an abort.
+        on_executed: Called with each saga that is stored and executed here.
+        on_unused_report: Called when a saga has ended without using an accepted report.
+        before_abort_answer: If set, called before a caller is notified of the outcome of an abort.
     """
 
     def __init__(self, loop: asyncio.AbstractEventLoop) -> None:
         self.by_key: dict[str, SagaInstance] = {}
         self.starts: Waiters[SagaInstance] = Waiters(loop)
         self.ends: Waiters[SagaInstance] = Waiters(loop)
-        self.driven: Callable[[SagaInstance], None] = lambda saga: None
-        self.unused: Callable[[], None] = lambda: None
-        self.answered: Callable[[Abort], object] | None = None
+        self.on_executed: Callable[[SagaInstance], None] = lambda saga: None
+        self.on_unused_report: Callable[[], None] = lambda: None
+        self.before_abort_answer: Callable[[Abort], object] | None = None
         self._loop = loop
         self._aborts: dict[Abort, asyncio.Future[bool]] = {}
         self._has_notified = False
@@ -76,7 +76,7 @@ class Instances:
 
     def notify_started(self, saga: SagaInstance) -> None:
         """Notify callers that a saga is stored."""
-        self.driven(saga)
+        self.on_executed(saga)
         self._has_notified = self.starts.notify(saga) or self._has_notified
 
     def notify_ended(self, saga: SagaInstance) -> None:
@@ -95,8 +95,8 @@ class Instances:
         """Notify the caller whether the saga is aborted by its command."""
         future = self._aborts.pop(abort, None)
         if future and not future.done():
-            if self.answered:
-                self.answered(abort)
+            if self.before_abort_answer:
+                self.before_abort_answer(abort)
             future.set_result(bool(abort.done))
 
     def fail_abort(self, abort: Abort, error: SagasError) -> None:

@@ -33,8 +33,8 @@ class LeasedTask:
     def size(self) -> int:
         """Number of characters of its values, as JSON."""
         texts = self.task.texts
-        own = (self.given, texts["input"], texts["result"] or "")
-        return sum(map(len, own)) + sum(map(len, texts["results"].values()))
+        own_texts = (self.given, texts["input"], texts["result"] or "")
+        return sum(map(len, own_texts)) + sum(map(len, texts["results"].values()))
 
 
 @dataclasses.dataclass(frozen=True, slots=True)

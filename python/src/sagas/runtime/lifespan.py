@@ -23,8 +23,8 @@ class Lifespan:
         hurry: Done when a further call asks to close the store sooner.
     """
 
-    def __init__(self, given: Any, shared: Context) -> None:
-        self._given, self._shared = given, shared
+    def __init__(self, source: Any, shared: Context) -> None:
+        self._source, self._shared = source, shared
         self._job: asyncio.Task[None] | None = None
         self._is_over = asyncio.Event()
         self._closing: asyncio.Task[None] | None = None
@@ -32,9 +32,9 @@ class Lifespan:
 
     async def enter(self) -> None:
         """Enter the context. Raises what the factory or the context manager raises."""
-        if not context.is_factory(self._given):
-            if self._given is not None:
-                self._shared.put(self._given)
+        if not context.is_factory(self._source):
+            if self._source is not None:
+                self._shared.put(self._source)
             return
         ready = asyncio.get_running_loop().create_future()
         job = asyncio.create_task(self._hold(ready))
@@ -83,7 +83,7 @@ class Lifespan:
             await job
 
     async def _hold(self, ready: asyncio.Future[None]) -> None:
-        async with _entered(context.made(self._given)) as value:
+        async with _entered(context.made(self._source)) as value:
             self._shared.put(value)
             ready.set_result(None)
             try:

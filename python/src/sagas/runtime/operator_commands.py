@@ -18,7 +18,7 @@ if TYPE_CHECKING:
     from sagas.runtime.coordinator import Coordinator
 
 
-MOST, PAUSE = 1000, 0.5
+MAX_REQUESTS, PAUSE = 1000, 0.5
 """Maximum number of requests of one read, and seconds until the next read if that many are in
 progress.
 """
@@ -108,13 +108,13 @@ class RequestExecutor:
             after: int | None = -1
             while after is not None:
                 try:
-                    rows = await self._coordinator.store.requests(after, MOST)
+                    rows = await self._coordinator.store.requests(after, MAX_REQUESTS)
                 except StoreUnavailable:
                     return
                 for row in rows:
                     self._begin(row)
-                after = rows[-1][0] if len(rows) == MOST else None
-                if len(self._doing) >= MOST:  # reports may wait for a long time
+                after = rows[-1][0] if len(rows) == MAX_REQUESTS else None
+                if len(self._doing) >= MAX_REQUESTS:  # reports may wait for a long time
                     await asyncio.wait(self._doing.values(), timeout=PAUSE)
             if not self._again:
                 return

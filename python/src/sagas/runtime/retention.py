@@ -32,7 +32,7 @@ from sagas.storage.queries import RESOLVABLE
 if TYPE_CHECKING:
     from sagas.runtime.coordinator import Coordinator
 
-MOST = 100_000
+MAX_SAGAS = 100_000
 """Maximum number of sagas that one run deletes."""
 HOUR, SOON = 3600.0, 60.0
 """Seconds until the next run: if nothing more is due, and if there is more."""
@@ -98,12 +98,12 @@ def prune(
     keep: float,
     export: str | os.PathLike[str] | None = None,
     *,
-    most: int = MOST,
+    max_sagas: int = MAX_SAGAS,
     has_blobs: bool = False,
     clock: Callable[[], float] = time.time,
     stop: threading.Event | None = None,
 ) -> Pruned:
-    """Delete sagas that ended more than `keep` seconds ago, at most `most` of them.
+    """Delete sagas that ended more than `keep` seconds ago, at most `max_sagas` of them.
 
     Shards are deleted in order. Call it in a thread. The time is the earlier one of `clock` and of
     the store's clock, so that a clock that is set forward deletes nothing. With `export`, each
@@ -124,7 +124,7 @@ def prune(
             ((shard, log, sagas),) = rows
             if shard in kept:
                 continue
-            if pruned.sagas + sagas > most:
+            if pruned.sagas + sagas > max_sagas:
                 pruned.more = True
                 break
             if export is not None and archive.write(link, shard, pathlib.Path(export)) is None:

@@ -15,11 +15,11 @@ from sagas.storage.schedules import Schedule
 if TYPE_CHECKING:
     from sagas.runtime.coordinator import Coordinator
 
-MOST_PAUSE = 5.0
+MAX_PAUSE = 5.0
 """Maximum seconds between checks: another node may have changed a schedule."""
 AGAIN = 1.0
 """Seconds until a failed operation of the store is tried again."""
-MOST = 100
+MAX_STARTS = 100
 """Maximum number of sagas of one schedule that are started in a turn."""
 
 OPEN = "SELECT 1 FROM sagas WHERE key = ? AND phase IS NULL"
@@ -66,7 +66,7 @@ class Scheduler:
     async def _turn(self) -> float:
         """Start what is due; return the seconds until the next check."""
         coordinator = self._coordinator
-        pause = MOST_PAUSE
+        pause = MAX_PAUSE
         for row in await coordinator.store.read(schedules.DUE):
             now = coordinator.clock()
             try:
@@ -89,11 +89,11 @@ class Scheduler:
         It stops if the schedule was changed since it was read.
         """
         try:
-            times, next_at = schedule.timing.due(schedule.next_at, now, MOST)
+            times, next_at = schedule.timing.due(schedule.next_at, now, MAX_STARTS)
             first = schedule.timing.first_of(schedule.next_at, now)
         except InvalidSchedule as invalid:  # a node that has the time zone starts them
             self._leave(schedule.name, schedule.saga, str(invalid))
-            return MOST_PAUSE
+            return MAX_PAUSE
         self._left.pop(schedule.name, None)
         if times and schedule.catch_up == timing.CatchUp.ALL and first > schedule.next_at:
             reason = f"{schedule.name}: only the last {schedule.max:,} missed times are started"
@@ -154,7 +154,7 @@ class Scheduler:
             self._coordinator.teller.tell("schedule_failed", saga=saga, detail=detail)
 
     async def _is_unchanged(self, schedule: Schedule) -> bool:
-        """Return whether the schedule is still as it was read."""
+        """Return whether the stored schedule is unchanged since it was read."""
         rows = await self._coordinator.store.read(schedules.ONE, schedule.name)
         return [schedules.of_row(row) for row in rows] == [schedule]
 

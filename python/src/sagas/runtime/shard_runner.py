@@ -20,7 +20,7 @@ from sagas.runtime.shard_parts import Parts, ShardsForRunner, engine_on, named, 
 
 FEW = 64  # number of requests that are answered quickly
 TURN = 0.1  # seconds for which a shard keeps its engine while other shards wait for one
-FIRST_PAUSE, MOST_PAUSE = 0.02, 2.0  # seconds until a shard is loaded again
+FIRST_PAUSE, MAX_PAUSE = 0.02, 2.0  # seconds until a shard is loaded again
 PAUSE_ASIDE = 60.0  # seconds until a shard that is set aside is loaded again
 STALE, LOADING, IDLE = ShardState.STALE, ShardState.LOADING, ShardState.IDLE
 STARTING, ACTIVE, CLOSED = ShardState.STARTING, ShardState.ACTIVE, ShardState.CLOSED
@@ -133,8 +133,8 @@ class ShardRunner:
     def _requests(self) -> list[str]:
         is_closing, driver = self._shards.is_closing, self.driver
         lines = driver.requests(0 if is_closing else self._slots.free(), self._clock())
-        if (asked := driver.asked) and asked.claims:
-            self._slots.reserve(asked.claims)
+        if (request := driver.asked) and request.claims:
+            self._slots.reserve(request.claims)
         elif driver.hungry and not is_closing:
             self._slots.starve(self)
         return lines
@@ -344,7 +344,7 @@ class ShardRunner:
         if self._is_coming:
             return
         self._is_coming = True
-        pause, self._pause = self._pause, min(MOST_PAUSE, max(FIRST_PAUSE, 2 * self._pause))
+        pause, self._pause = self._pause, min(MAX_PAUSE, max(FIRST_PAUSE, 2 * self._pause))
         if self.is_set_aside:
             pause = PAUSE_ASIDE
         if pause:

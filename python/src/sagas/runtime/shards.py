@@ -107,7 +107,7 @@ class Shards:
             EngineError: An engine process cannot be started, or its output is invalid.
             StoreUnavailable: The store cannot be read.
         """
-        adopted = [each for each in self.adopt(rows) if each.driver.state is STALE]
+        adopted = [runner for runner in self.adopt(rows) if runner.driver.state is STALE]
         self._opening.begin(adopted)
         for runner in adopted:
             self.engines.want(runner)
@@ -252,8 +252,8 @@ class Shards:
 
     def coming(self) -> int:
         """Return how many replies of engines, and how many new sagas, are expected."""
-        asked = sum(runner.pending_answers() for runner in self.engines.up())
-        return asked + len(self._placement.waiting)
+        pending = sum(runner.pending_answers() for runner in self.engines.up())
+        return pending + len(self._placement.waiting)
 
     def abort(self, saga: SagaInstance, command: Wanted = None) -> asyncio.Future[bool]:
         """Ask to abort a saga; return a future of whether this command aborts it."""
@@ -318,9 +318,9 @@ class Shards:
         If that failed, or the shard could not be read, refuse them. A server may still receive a
         late commit of them, until the shard is loaded.
         """
-        asked, new = recovery.unopened(driver, rows, self._sagas.by_key)
+        sent, new = recovery.unopened(driver, rows, self._sagas.by_key)
         if fault is None:
-            for saga in asked + new:
+            for saga in sent + new:
                 self.assign(saga) if driver.is_full else driver.open(saga)
             return
         store_path, message = str(self._store.path), str(fault)
@@ -333,7 +333,7 @@ class Shards:
             f"{message}. It is unknown whether the saga was started. Start it again, with "
             "the same key"
         )
-        for saga in asked:
+        for saga in sent:
             self.refuse(saga, nothing if rows or not self._store.shared else unsure)
         for saga in new:
             self.refuse(saga, nothing)
