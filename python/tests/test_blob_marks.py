@@ -95,7 +95,7 @@ def test_a_copy_deletes_nothing_of_the_original(
             make_older(folder)
             assert await swept(store) == 0
             await until(lambda: gone(store))
-            await until(lambda: "of which this store is a copy" in caplog.text)
+            await until(lambda: "this store is a copy of it" in caplog.text)
 
     async def gone(store: sagas.Store) -> bool:
         return [one.key for one in await store.list()] == ["own"]

@@ -207,7 +207,7 @@ def test_a_start_that_is_not_kept(
             assert (await store.wait("k", 60)).ok
 
     run(main())
-    assert "was not understood" not in caplog.text
+    assert "could not be parsed" not in caplog.text
 
 
 async def started(store: sagas.Store, kind: sagas.Saga) -> bool:

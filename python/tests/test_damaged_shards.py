@@ -34,7 +34,7 @@ DAMAGES = {
     ),
     "contradiction": (
         "UPDATE sagas SET phase = 'ended', outcome = '{}' WHERE key = 'k0'",
-        "its data was not understood",
+        "its data could not be parsed",
     ),
 }
 SAVE = [

@@ -171,10 +171,10 @@ class Commands:
             if attempt is not None and live.busy.get(attempt.word) is not attempt:
                 continue
             if attempt is None or not exhaustion.may_retry(attempt):
-                why = "nothing of it failed that waits"
+                why = "it has no failed attempt that waits for a retry"
                 if attempt is not None:
                     why = progress.described(attempt, self._access.coordinator.clock())
-                raise StepNotWaiting(f"saga {key!r}, step {step!r} is not to be retried: {why}")
+                raise StepNotWaiting(f"saga {key!r}, step {step!r} cannot be retried: {why}")
             try:
                 await self._access.coordinator.executor.retry(attempt, request)
                 return
@@ -327,4 +327,6 @@ def _over(live: SagaInstance, rows: Iterable[tuple[Any, ...]], word: Word) -> st
 def _check_is(live: SagaInstance, of: int | None) -> None:
     """Raise `NoSuchSaga` if a command was for another saga with the same key."""
     if of is not None and (live.shard is None or live.id != of):
-        raise NoSuchSaga(f"no saga has the key {live.key!r} that this request was for")
+        raise NoSuchSaga(
+            f"the saga with the key {live.key!r} that this request was for does not exist any more"
+        )

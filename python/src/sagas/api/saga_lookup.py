@@ -59,8 +59,11 @@ class SagaLookup:
         """
         row = await self._access.coordinator.store.find(key)
         if row is None or (of is not None and row.id != of):
-            which = "" if row is None else " that this was asked of"
-            raise NoSuchSaga(f"no saga has the key {key!r}{which}")
+            if row is None:
+                raise NoSuchSaga(f"no saga has the key {key!r}")
+            raise NoSuchSaga(
+                f"the saga with the key {key!r} that this request was for does not exist any more"
+            )
         return row
 
     def wait(self, key: str, timeout: float | None) -> Coroutine[Any, Any, SagaResult]:

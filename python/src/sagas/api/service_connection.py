@@ -78,7 +78,10 @@ class ServiceConnection:
         if not self._urls:
             raise ValueError("no service is given. Write, for example, http://127.0.0.1:8080")
         if token and not (token.isascii() and token.isprintable()):
-            raise ValueError("the token has a character that no token has. Copy it again")
+            raise ValueError(
+                "the token has an invalid character: a token consists of printable ASCII "
+                "characters. Copy it again"
+            )
         self._headers = {"Authorization": f"Bearer {token}"} if token else {}
         self._patience, self._stop = patience, stop
         self._lock = threading.Lock()

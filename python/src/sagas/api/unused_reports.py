@@ -117,7 +117,7 @@ class UnusedReports:
         row = await self._lookup.row(key, of)
         if row.phase is None:
             raise StepNotWaiting(
-                f"saga {key!r} has not ended. Reports that it does not use are undone behind its "
+                f"saga {key!r} has not ended. Reports that it does not use are undone after its "
                 "end"
             )
         return row

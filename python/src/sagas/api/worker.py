@@ -48,7 +48,7 @@ AHEAD, MAX_AHEAD = 0.1, 10
 """One request claims as many tasks as were recently done in `AHEAD` seconds, but at most
 `MAX_AHEAD`.
 """
-NO_CONTEXT = "the worker was made without one: give it by sagas.Worker(.., context=..)"
+NO_CONTEXT = "the worker has no context. Pass one with sagas.Worker(..., context=...)"
 HEARTBEAT, REPORT = 10.0, 40.0
 """Maximum seconds of one try. It is less with a short lease, so that the next service is reached in
 time.
@@ -160,7 +160,7 @@ class Worker:
         def declare(function: Function) -> Function:
             if cancel_on_abort and not inspect.iscoroutinefunction(function):
                 raise DefinitionError(
-                    f"{step}: cancel_on_abort is for async functions. A plain function asks "
+                    f"{step}: cancel_on_abort needs an async function. In a plain function, check "
                     "task.cancelled"
                 )
             existing = self._steps.get(step)

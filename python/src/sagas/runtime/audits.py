@@ -38,7 +38,7 @@ async def verdict(program_path: str, text: str, definitions: list[str]) -> tuple
     message = (process.stdout + process.stderr).strip()
     if process.returncode < 0 or process.returncode == program.CANNOT:
         raise EngineError(
-            f"sagas audit ended with {process.returncode}: {message or 'it was killed'}"
+            f"sagas audit exited with status {process.returncode}: {message or 'it was killed'}"
         )
     return process.returncode == 0, message
 

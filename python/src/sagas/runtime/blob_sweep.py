@@ -15,9 +15,9 @@ if TYPE_CHECKING:
 DAY, HOUR = 86_400.0, 3600.0
 """Seconds between two sweeps, and between two checks of the blob store's owner."""
 COPY = (
-    "%s: the values in the blob store are those of %s, of which this store is a copy. None of them "
-    "is deleted. Give this store a blob store of its own, with a copy of the values. Or run `sagas "
-    "store STORE own-blobs --blobs ...` if it replaces the other one"
+    "%s: the values in the blob store belong to %s, and this store is a copy of it. No value is "
+    "deleted. Give this store its own blob store, with a copy of the values. Or run `sagas store "
+    "STORE own-blobs --blobs ...` if this store replaces the original"
 )
 
 

@@ -150,10 +150,10 @@ class Children:
                 outcome = outcomes.parked(str(error))
                 break
             except (TemporaryError, Moved, NoSuchSaga) as error:
-                logger.info("child of %r is looked at again: %s", attempt.key, error)
+                logger.info("retrying the child of %r: %s", attempt.key, error)
                 await asyncio.sleep(RETRY_DELAY)
             except Exception as error:  # otherwise the attempt would never be reported
-                logger.error("child of %r is looked at again", attempt.key, exc_info=error)
+                logger.error("retrying the child of %r after an error", attempt.key, exc_info=error)
                 await asyncio.sleep(RETRY_DELAY)
         self.gone(attempt)
         is_here = attempt.instance.busy.get(attempt.word) is attempt
@@ -339,7 +339,7 @@ class Children:
             except Closed:
                 return
             except (TemporaryError, Moved, NoSuchSaga) as error:
-                logger.info("child %r is aborted in a moment: %s", key, error)
+                logger.info("retrying the abort of child %r: %s", key, error)
                 await asyncio.sleep(RETRY_DELAY)
 
     async def _abort_if_dropped(self, attempt: Attempt) -> None:
@@ -358,7 +358,7 @@ class Children:
             except (Closed, NoSuchSaga, CannotDecode):
                 return
             except (TemporaryError, Moved) as error:
-                logger.info("child of %r is looked at again: %s", attempt.key, error)
+                logger.info("retrying the child of %r: %s", attempt.key, error)
                 await asyncio.sleep(RETRY_DELAY)
 
     async def _others_ended(self, attempt: Attempt) -> None:

@@ -188,7 +188,10 @@ class StartReader:
 
     @staticmethod
     def _misfit(saga: str, error: Exception) -> Fitted:
-        invalid_input = InvalidInput(f"saga {saga!r}: {type(error).__name__} for this input")
+        invalid_input = InvalidInput(
+            f"saga {saga!r}: a function of the definition raised {type(error).__name__} for this "
+            "input. Correct the input or the function"
+        )
         return Fitted(None, None, invalid_input)
 
     async def _fit(self, row: Start, declared: Saga, value: str) -> None:
@@ -202,7 +205,7 @@ class StartReader:
             if not self._coordinator.closed:
                 await self._put(row, fitted)
         except Exception as error:
-            logger.info("a start of a client is taken again: %s", error)
+            logger.info("retrying the start of a client: %s", error)
             self._doubt.doubt(not self._coordinator.closed)
             if not isinstance(error, StoreUnavailable):
                 raise

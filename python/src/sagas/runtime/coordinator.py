@@ -304,7 +304,7 @@ class Coordinator:
         After `shutdown_timeout` seconds, running functions are cancelled. See `Lifespan.end`.
         """
         self.closed = self.closed or Closed(
-            f"{self.store.path}: the store is closed. Open sagas go on when it is opened again"
+            f"{self.store.path}: the store is closed. Open sagas continue when it is opened again"
         )
         work = functools.partial(self._close, self.closed, shutdown_timeout)
         await self._lifespan.end(work, shutdown_timeout)

@@ -388,7 +388,7 @@ class Executor:
             return
         if done:
             subject = f"saga {attempt.key!r}, step {attempt.name!r}"
-            message = f"{subject}: its worker has reported success"
+            message = f"{subject}: its worker has reported success, and that counts"
             self._refuse(attempt, StepNotWaiting(message))
             attempt.outcome = done
         self.machine.report(attempt)

@@ -398,7 +398,10 @@ class ExternalQueue(ExternalReports):
         if extension is None:
             if await self._table.find(token) is None:
                 await self.outcome_of(token)
-            raise LeaseLost(f"lease {number} of {token} is not the newest, or has ended")
+            raise LeaseLost(
+                f"lease {number} of {token} is not the newest, or has ended. Stop the task, "
+                "because another worker may perform it"
+            )
         until = self.coordinator.clock() + extension.seconds
         if progress is not None:
             await self._table.advance(token, *progress, self.coordinator.clock())

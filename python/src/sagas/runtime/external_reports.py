@@ -80,7 +80,9 @@ class ExternalReports:
         """Return the attempt with this id, if it is in progress here."""
         parts = tokens.parse(token)
         if not parts:
-            raise NoSuchTask(f"{token!r} is not the attempt id of a task")
+            raise NoSuchTask(
+                f"{token!r} is not the attempt id of a task. Pass the attempt_id of a claimed task"
+            )
         name, number, step, kind, count = parts
         shard = self.coordinator.shards.named(name)
         saga = shard.sagas.get(number) if shard else None
@@ -141,7 +143,7 @@ class ExternalReports:
 
         It waits for a program that can read them, for an operator, or for the blob store.
         """
-        logger.warning("%s cannot be handed out: %s", token, why)
+        logger.warning("task %s cannot be given to a worker: %s", token, why)
         outcome = outcomes.unreadable(str(why), passes=isinstance(why, BlobUnavailable))
         with contextlib.suppress(StoreUnavailable):  # the lease expires, and is claimed again
             shard = await self._table.report(token, number, str(outcome.kind), outcome.value)
@@ -254,8 +256,8 @@ def _raise_lost(row: Row, token: str, number: int, subject: str, outcome: Outcom
     """Raise why a report of an unfinished attempt does not count."""
     if row.outcome == "person" and outcome.kind is SUCCEEDED:
         raise LeaseLost(
-            f"{token}: its outcome is unknown, and a person must report it. Tell an "
-            "operator what you know"
+            f"{token}: its outcome is unknown, and an operator must report it. Ask an operator to "
+            "complete the step"
         )
     if row.reported == row.lease == number:
         raise ConflictingReport(f"{subject} was reported as unknown before")

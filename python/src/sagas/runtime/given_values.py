@@ -24,9 +24,9 @@ def text_of(task: Task[Any]) -> str:
     """
     if task.lacks_given:
         raise DeclarationMissing(
-            f"step {task.step!r} of saga {task.saga!r} cannot be handed out here, because this "
+            f"step {task.step!r} of saga {task.saga!r} cannot be claimed here, because this "
             "program does not have the version that the saga was started with. Claim it at a node "
-            "that has it"
+            "that has the version"
         )
     return serialization.write_value(task.given, "what given= returned")
 

@@ -112,7 +112,7 @@ def stack_of(thread: int | None) -> str:
         frames.append(f"{code.co_filename}:{frame.f_lineno} in {code.co_qualname}")
         frame = frame.f_back
     if len(frames) > MAX_FRAMES:
-        frames[MAX_FRAMES // 2 : -MAX_FRAMES // 2] = [".."]
+        frames[MAX_FRAMES // 2 : -MAX_FRAMES // 2] = ["..."]
     return " < ".join(frames) or "it waits for a thread"
 
 

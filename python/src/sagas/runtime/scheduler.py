@@ -55,7 +55,7 @@ class Scheduler:
             except Closed:
                 return
             except SagasError as error:
-                logger.info("schedules are looked at again: %s", error)
+                logger.info("retrying the schedules: %s", error)
                 pause = AGAIN
             try:
                 async with asyncio.timeout(pause):
@@ -105,7 +105,7 @@ class Scheduler:
             before = schedule.last_at if last is None else last
             if await self._is_open(schedule, before):
                 if schedule.overlap == timing.Overlap.SKIP:
-                    reason = f"{schedule.name}: the saga of the time before is open"
+                    reason = f"{schedule.name}: the saga of the previous time is still open"
                     self._coordinator.teller.tell(
                         "schedule_missed", saga=schedule.saga, detail=reason
                     )

@@ -126,6 +126,6 @@ def not_understood(error: Exception) -> DamagedShard:
 
     The text of the error may contain values of the rows.
     """
-    damaged = DamagedShard(f"its data was not understood ({type(error).__name__})")
+    damaged = DamagedShard(f"its data could not be parsed ({type(error).__name__})")
     damaged.__cause__ = error
     return damaged

@@ -150,7 +150,9 @@ class ShardRunner:
             logger.warning("shard %s: %s. Recovering", self.driver.name, error)
             self.fail(None)
         except Exception as error:
-            logger.exception("shard %s: a reply was not understood", self.driver.name)
+            logger.exception(
+                "shard %s: a reply of the engine could not be parsed", self.driver.name
+            )
             self.fail(error)
         else:
             if isinstance(outcome, Effects):
