@@ -57,7 +57,7 @@ WITH done AS (
     WHERE key = %(key)s AND {queries.RESOLVABLE} AND note IS NULL RETURNING 1
 ),
 noted AS (INSERT INTO operator_commands(key, command, value, at, answer)
-  SELECT %(key)s, 'resolve', %(told)s::text, extract(epoch FROM clock_timestamp()), 'true'
+  SELECT %(key)s, 'resolve', %(details)s::text, extract(epoch FROM clock_timestamp()), 'true'
   FROM done)
 SELECT 1 FROM done
 """
@@ -168,7 +168,7 @@ class Client(Schedules):
         except BaseException:
             await self._asker.close()
             raise
-        self._notifier = notifications.News(self._url, lambda what: None)
+        self._notifier = notifications.News(self._url, lambda message: None)
         self._asker.attach(self._notifier.listener)
 
     def _look_at_hosts(self) -> None:
@@ -376,8 +376,8 @@ class Client(Schedules):
         """Mark a saga as resolved. See `Store.resolve`."""
         arguments.text("note", note, "what was done about it")
         note = serialization.clean(note)
-        command = serialization.write({"by": by, "note": note})
-        if not await self._ask(RESOLVE, key=key, note=note, told=command):
+        details = serialization.write({"by": by, "note": note})
+        if not await self._ask(RESOLVE, key=key, note=note, details=details):
             row = await self._row(key)
             unused = await self._ask(queries.named(attention.UNUSED, "id"), id=row.id)
             attention.is_to_resolve(row, note, bool(unused))

@@ -21,7 +21,7 @@ from sagas.definition.saga import Saga
 from sagas.definition.shape import Shape
 from sagas.definition.start_options import Deadline, deadline_at
 from sagas.runtime import relocation
-from sagas.runtime.declared_calls import DeclaredCalls
+from sagas.runtime.declared_calls import DefinitionCaller
 from sagas.storage import codec_note
 from sagas.storage.postgresql import caller_connection, connections, notifications, replication
 
@@ -185,7 +185,7 @@ class ClientStarter:
         self._payloads, self._tracer = payloads, tracing.tracer()
         self._asker, self._path, self._max_connections = asker, path, max_connections
         self._digests: WeakKeyDictionary[Saga, str | None] = WeakKeyDictionary()
-        self._notifier, self._declared = StartNotifier(asker), DeclaredCalls(max_connections)
+        self._notifier, self._declared = StartNotifier(asker), DefinitionCaller(max_connections)
         self._checked: WeakSet[caller_connection.Given] = WeakSet()
         """Connections of callers that are known to lead to the store's database."""
 

@@ -187,10 +187,10 @@ class Starter:
         """Start a saga whose key seems to be free; return False if another node was first."""
         live.guessed = guessed
         # before it is assigned, since it may be stored or refused at once
-        begun = coordinator.sagas.started(live)
+        stored = coordinator.sagas.started(live)
         coordinator.shards.assign(live)
         try:
-            await begun
+            await stored
         except KeyConflict:
             self._lookup.guessing.told(was_there=True)
             raise

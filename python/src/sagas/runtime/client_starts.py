@@ -21,7 +21,7 @@ from sagas.definition.saga import Saga
 from sagas.definition.shelf import Fitted, Shelf
 from sagas.definition.start_options import StartOptions
 from sagas.runtime.commit_queue import CommitQueue
-from sagas.runtime.declared_calls import DeclaredCalls
+from sagas.runtime.declared_calls import DefinitionCaller
 from sagas.runtime.instances import Instances
 from sagas.runtime.relocation import conflict_with_stored
 from sagas.storage.interface import Database
@@ -60,7 +60,7 @@ class CoordinatorForStarts(Protocol):
     """The coordinator, as the reader of starts uses it."""
 
     closed: SagasError | None
-    declared: DeclaredCalls
+    declared: DefinitionCaller
 
     def spawn(self, work: Coroutine[None, None, None]) -> object:
         """Run a coroutine in the background."""

@@ -26,7 +26,7 @@ from sagas.runtime.client_starts import StartReader
 from sagas.runtime.commit_queue import CommitQueue
 from sagas.runtime.deadlines import Deadlines
 from sagas.runtime.deadlocks import DeadlockCheck
-from sagas.runtime.declared_calls import DeclaredCalls
+from sagas.runtime.declared_calls import DefinitionCaller
 from sagas.runtime.executor import Executor
 from sagas.runtime.external_queue import ExternalQueue
 from sagas.runtime.instances import Instances
@@ -89,7 +89,7 @@ class Coordinator:
         self._threads = ThreadPoolExecutor(threads, "sagas-step")
         self._jobs: set[asyncio.Task[None]] = set()
         self._timer: asyncio.TimerHandle | None = None
-        self.declared = DeclaredCalls(threads)
+        self.declared = DefinitionCaller(threads)
         self.external = ExternalQueue(self)
         self.sagas = Instances(self.loop)
         self.executor = Executor(self, self.external, concurrency, self._threads, tracer)

@@ -16,7 +16,7 @@ MIN_THREADS = 4
 """Minimum number of threads. Slow functions of one definition use only some of them."""
 
 
-class DeclaredCalls:
+class DefinitionCaller:
     """Calls functions of definitions: which steps exist, and when they run.
 
     They have their own threads, because steps may occupy all threads of the steps for a long time.
@@ -54,7 +54,7 @@ class DeclaredCalls:
         return True
 
     async def fit(self, registry: Shelf, saga: Saga, text: str) -> Fitted:
-        """Return the definition of a saga with an input. See `Shelf.fit`."""
+        """Return the definition of a saga with an input."""
         fitted = registry.fit(saga, text)
         if fitted is None:
             fitted = registry.shaped(text, await self.call(saga.name, registry.shaping(saga, text)))

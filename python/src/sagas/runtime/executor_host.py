@@ -15,7 +15,7 @@ from sagas.core.outcomes import Outcome
 from sagas.core.shard import ShardDriver
 from sagas.core.suspensions import SuspensionRow
 from sagas.definition.shelf import Shelf
-from sagas.runtime.declared_calls import DeclaredCalls
+from sagas.runtime.declared_calls import DefinitionCaller
 from sagas.runtime.dispatcher import TurnPolicy
 from sagas.storage.interface import Database
 
@@ -29,7 +29,7 @@ class CoordinatorForExecutor(TurnPolicy, Protocol):
     teller: Teller
     clock: Callable[[], float]
     closed: SagasError | None
-    declared: DeclaredCalls
+    declared: DefinitionCaller
 
     def feed(self) -> None:
         """Resume shards that wait for slots."""

@@ -50,8 +50,8 @@ def conflict(
             f"key {key!r} belongs to a saga {stored_name!r}, not {saga!r}. Use another key"
         )
     if stored_input != text:
-        own: Payloads = getattr(kind, "payloads", PLAIN)
-        stored = payloads or own
+        kind_payloads: Payloads = getattr(kind, "payloads", PLAIN)
+        stored = payloads or kind_payloads
         text = stored.decode(text)
         if reference := Reference.of(stored_input):
             if reference.is_of(text):

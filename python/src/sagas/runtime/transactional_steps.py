@@ -83,7 +83,7 @@ class Record:
     """The last chunk of its shard at the start: it has the attempt's start, or comes later."""
     line: str = ""
     """The timeline of the server that it is sent to, set before it is sent."""
-    begun: bool = False
+    was_sent: bool = False
     done: bool = False
     prepared: bool = False
     """Whether it is sent as a prepared statement."""
@@ -94,7 +94,7 @@ class Record:
         """Return the error of an unknown commit, or None if the outcome is known."""
         return (
             Lost(f"{self.location}: it is unknown whether {self.attempt.token()} was committed")
-            if self.begun and not self.done
+            if self.was_sent and not self.done
             else None
         )
 
@@ -108,9 +108,9 @@ class Record:
             error.diag.schema_name,
             error.diag.table_name,
         ) != TABLE:
-            self.begun = False
-        elif self.begun and self.prepared and error.sqlstate in UNPREPARED:
-            self.begun, self.again = False, True
+            self.was_sent = False
+        elif self.was_sent and self.prepared and error.sqlstate in UNPREPARED:
+            self.was_sent, self.again = False, True
             self.prepares.refused()
 
     def judged(self, error: psycopg.Error) -> Exception:
@@ -120,7 +120,7 @@ class Record:
 
     def sending(self) -> None:
         """Note that the commit is about to be sent. Before that, nothing can be committed."""
-        self.begun = True
+        self.was_sent = True
 
     def fence(self) -> Fence:
         """Return who must own the shard for the commit to be valid, and on which server.
