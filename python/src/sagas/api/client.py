@@ -319,7 +319,7 @@ class Client(Schedules):
         await self._report(key, step, reported(None, error), undo, early)
 
     async def retry(self, key: str, step: Step[Any] | str, *, undo: bool = False) -> None:
-        """Attempt a step again whose attempts are exhausted. See `Store.retry`."""
+        """Attempt an exhausted step again. See `Store.retry`."""
         row, kind = await self._row(key), "undo" if undo else "run"
         if row.phase is not None:
             raise step_reports.over(row)

@@ -89,7 +89,7 @@ class ServiceSaga(Answering):
 
     @property
     def fan(self) -> Fan:
-        """The steps of a declared one: a service names only single steps."""
+        """The steps of each declared step: a service names only single steps."""
         return FIXED
 
     @property

@@ -74,7 +74,7 @@ class Workers:
             seconds: How long the lease lasts from now (default: 30).
             holder: As given to `claim`.
             progress: How far the worker is, from 0 to 1 (default: not reported).
-            detail: A text with it, for people, of which 200 characters are kept (default: None).
+            detail: A text with it, for people; at most 200 characters are kept (default: None).
 
         Returns:
             When the lease ends, and whether the saga is being undone. The worker still reports how

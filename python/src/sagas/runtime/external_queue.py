@@ -60,7 +60,7 @@ class ExternalQueue(ExternalReports):
 
     Attributes:
         leased: Whether this program serves workers. If not, other nodes serve its tasks, or
-            `Store.finish` reports them.
+            `Store.complete` and `Store.fail` report them.
         takeovers: How many tasks were claimed after a lease had expired.
     """
 
