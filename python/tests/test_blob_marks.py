@@ -126,7 +126,7 @@ def test_a_copy_deletes_nothing_of_the_original(
     done = command("store", other, "own-blobs", "--blobs", str(folder))
     assert done.returncode == 0 and "are those of" in done.stdout, done
     run(replaced())
-    assert "None of them is deleted" in caplog.text and LARGE not in caplog.text
+    assert "No value is deleted" in caplog.text and LARGE not in caplog.text
 
 
 def test_an_exact_copy_at_the_same_place(tmp_path: pathlib.Path) -> None:
