@@ -75,7 +75,7 @@ def early_report_dropped() -> None:
     """A report before the step is acknowledged, and not stored."""
 
     def put(self: EarlyReports, report: Any) -> asyncio.Future[None]:
-        future: asyncio.Future[None] = self._host.loop.create_future()
+        future: asyncio.Future[None] = self._coordinator.loop.create_future()
         future.set_result(None)
         return future
 

@@ -139,7 +139,7 @@ class Stage:
         )
         await store.__aenter__()
         if room:
-            inner(store).shelf.room = room
+            inner(store).registry.room = room
         try:
             yield node, store
         finally:
@@ -198,8 +198,8 @@ class Stage:
 
 def inner(store: sagas.Store) -> Coordinator:
     """The inside of a store."""
-    assert store._inside
-    return store._inside
+    assert store._coordinator
+    return store._coordinator
 
 
 async def nothing_happens(stage: Stage) -> int:

@@ -68,8 +68,8 @@ class Twice(sagas.Worker):
 
     def __init__(self, *words: Any, **more: Any) -> None:
         super().__init__(*words, **more)
-        self._right = self._service.until_told
-        self._service.until_told = self._twice  # type: ignore[method-assign]
+        self._right = self._service.ask_until_answered
+        self._service.ask_until_answered = self._twice  # type: ignore[method-assign]
 
     def _twice(
         self, path: str, body: dict[str, Any], giving_up: bool = False

@@ -32,7 +32,7 @@ def wait_for_name(store: sagas.Store) -> Any:
 
 
 def blobs_of(store: sagas.Store) -> Any:
-    return store._access.inside.store.blobs
+    return store._access.coordinator.store.blobs
 
 
 async def asked(store: sagas.Store, key: str) -> None:
@@ -41,7 +41,7 @@ async def asked(store: sagas.Store, key: str) -> None:
 
 
 async def swept(store: sagas.Store) -> int:
-    database: Any = store._access.inside.store
+    database: Any = store._access.coordinator.store
     return int(await database.swept())
 
 
@@ -95,7 +95,7 @@ def test_a_copy_deletes_nothing_of_the_original(
             make_older(folder)
             assert await swept(store) == 0
             await until(lambda: gone(store))
-            await until(lambda: "of which this store is a copy" in caplog.text)
+            await until(lambda: "this store is a copy of it" in caplog.text)
 
     async def gone(store: sagas.Store) -> bool:
         return [one.key for one in await store.list()] == ["own"]
@@ -126,7 +126,7 @@ def test_a_copy_deletes_nothing_of_the_original(
     done = command("store", other, "own-blobs", "--blobs", str(folder))
     assert done.returncode == 0 and "are those of" in done.stdout, done
     run(replaced())
-    assert "None of them is deleted" in caplog.text and LARGE not in caplog.text
+    assert "No value is deleted" in caplog.text and LARGE not in caplog.text
 
 
 def test_an_exact_copy_at_the_same_place(tmp_path: pathlib.Path) -> None:
@@ -238,7 +238,7 @@ def test_a_value_that_is_not_given_parks_its_attempt_alone(
             for key in [*bad, "good"]:
                 await store.start(saga, key, LARGE)
                 await asked(store, key)
-            prefixes = await store._access.inside.store.read_stored(
+            prefixes = await store._access.coordinator.store.read_stored(
                 "SELECT a.value FROM attempts a JOIN sagas s ON s.id = a.id WHERE s.key <> ? AND a.step = 0",
                 "good",
             )

@@ -90,7 +90,7 @@ def at(place: str, blobs: Any, *saga: sagas.Saga, **words: Any) -> sagas.Store:
 
 async def texts(store: sagas.Store) -> list[str]:
     """What the rows have, without the blob store."""
-    database: Any = store._access.inside.store
+    database: Any = store._access.coordinator.store
     inner = getattr(database, "_inner", database)
     query = "SELECT input FROM sagas UNION ALL SELECT value FROM attempts WHERE event = 'commit'"
     return [text for (text,) in await inner.read(query)]
@@ -198,7 +198,7 @@ def test_large_values_are_outside(
             blobs.put("0123456789abcdef/1/0a", b"another store's")
             monkeypatch.setattr(blob_layer, "AGE", -60.0)
             # the orphan, and the values of starts that were refused
-            assert await store._access.inside.store.swept() >= 1  # type: ignore[attr-defined]
+            assert await store._access.coordinator.store.swept() >= 1  # type: ignore[attr-defined]
             assert len(files()) == 6
         del large
         nothing = datetime.timedelta(0)
@@ -214,7 +214,7 @@ def test_large_values_are_outside(
         return await store.attention()
 
     def prefix(store: sagas.Store) -> str:
-        found = store._access.inside.store.blobs
+        found = store._access.coordinator.store.blobs
         assert found is not None
         return found.prefix
 
@@ -249,7 +249,7 @@ def test_large_items_are_outside(place: str, tmp_path: pathlib.Path, codec: Any)
         return len(values_in(folder))
 
     async def shapes(store: sagas.Store) -> list[str]:
-        inner: Any = store._access.inside.store._inner  # type: ignore[attr-defined]
+        inner: Any = store._access.coordinator.store._inner  # type: ignore[attr-defined]
         return [text for (text,) in await inner.read("SELECT shape FROM shapes")]
 
     async def main() -> None:
@@ -267,7 +267,7 @@ def test_large_items_are_outside(place: str, tmp_path: pathlib.Path, codec: Any)
             end = await store.wait("large", 60)
             assert end.results["total"] == 3 * THRESHOLD
             assert end.each("weigh") == {f"key {n}": [f"key {n}", THRESHOLD] for n in range(3)}
-            assert await store._access.inside.store.swept() == 0  # type: ignore[attr-defined]
+            assert await store._access.coordinator.store.swept() == 0  # type: ignore[attr-defined]
             await store.complete("small", "sign")
             await store.wait("small", 60)
         async with at(place, blobs, saga, codec=codec) as store:

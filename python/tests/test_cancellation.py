@@ -230,7 +230,7 @@ def test_a_plain_function_past_its_time_is_named_with_where_it_is(tmp_path: path
             goes_on.set()
             await started.wait()
             frames = str(event.detail).split(" < ")
-            assert len(frames) == 13 and frames[6] == ".." and "threading.py" in frames[0]
+            assert len(frames) == 13 and frames[6] == "..." and "threading.py" in frames[0]
             assert frames[-1].startswith(f"{__file__}:") and frames[-1].endswith(".long")
 
     run(main())
@@ -391,7 +391,7 @@ def test_a_worker_hears_that_its_task_is_not_wanted(
             await asyncio.Event().wait()
             return "never"
 
-        with pytest.raises(sagas.DefinitionError, match="is for async functions"):
+        with pytest.raises(sagas.DefinitionError, match="needs an async function"):
             worker.step("two", "c", cancel_on_abort=True)(plain)
         worker.compensation("two", "b")(lambda task: None)
         assert start(client, "two", "hears").status_code == 201

@@ -22,7 +22,7 @@ import sagas.testing
 from sagas.core.outcomes import SUCCEEDED, Outcome, failure, unknown
 from sagas.core.dispatch import Order
 from sagas.core.states import AttemptState
-from sagas.runtime.remote_steps import MOST_CARRIED
+from sagas.runtime.remote_steps import MAX_CARRIED
 from sagas.storage.worker_session import desk_of
 
 T = TypeVar("T")
@@ -224,7 +224,7 @@ def test_large_texts_are_fetched(either: Shop, tmp_path: pathlib.Path) -> None:
     for call in either.calls():
         assert (call["size"], call["input"]) == (BIG, BIG)
     assert [call["letter"] for call in either.calls() if not call["undo"]] == ["x", "x"]
-    assert len(sent) == 5 and max(len(repr(order.written())) for order in sent) < MOST_CARRIED
+    assert len(sent) == 5 and max(len(repr(order.written())) for order in sent) < MAX_CARRIED
 
 
 async def _large(shop: Shop, fail: bool) -> sagas.SagaResult:
@@ -638,7 +638,7 @@ def test_a_database_slower_than_a_back_off(url: str) -> None:
             (attempt,) = await until(
                 lambda: [
                     one
-                    for saga in store._inside.sagas.by_key.values()
+                    for saga in store._coordinator.sagas.by_key.values()
                     for one in saga.busy.values()
                 ]
             )

@@ -64,7 +64,7 @@ class Late:
         async with sagas.open(self.place, [self.saga]) as store:
             await store.start(self.saga, "k")
             await until(lambda: asked_of(store), 30)
-            external = store._inside.external
+            external = store._coordinator.external
             await until(lambda: not (external._is_looking or external._looks_again))
             yield store
 
@@ -207,7 +207,7 @@ def test_a_start_that_is_not_kept(
             assert (await store.wait("k", 60)).ok
 
     run(main())
-    assert "was not understood" not in caplog.text
+    assert "could not be parsed" not in caplog.text
 
 
 async def started(store: sagas.Store, kind: sagas.Saga) -> bool:

@@ -92,7 +92,7 @@ def test_a_compensation_that_is_gone(place: str, steps: tuple[str, ...], lacks: 
         async with contextlib.AsyncExitStack() as stack:
             if place.startswith("postgresql"):
                 lacking = await stack.enter_async_context(sagas.open(place, new, node="new"))
-                assert len(lacking._inside.store.lease.left) == 1 and not lacking.active_attempts("t")  # type: ignore[attr-defined]
+                assert len(lacking._coordinator.store.lease.left) == 1 and not lacking.active_attempts("t")  # type: ignore[attr-defined]
             else:
                 with pytest.raises(sagas.MissingStep) as error:
                     await stack.enter_async_context(sagas.open(place, new))
@@ -501,7 +501,7 @@ def test_a_task_that_an_older_release_offered(tmp_path: pathlib.Path) -> None:
             await until(lambda: [a for a in store.active_attempts("t") if a.waits == "approval"])
             await store.fail("t", "sign", "no")
             await until(store.workers.queues)
-            store._inside.store._writer._db.execute("UPDATE external_attempts SET task = 'leaf-undo/room/run' WHERE outcome IS NULL")  # type: ignore[attr-defined]
+            store._coordinator.store._writer._db.execute("UPDATE external_attempts SET task = 'leaf-undo/room/run' WHERE outcome IS NULL")  # type: ignore[attr-defined]
         async with opened(place, "") as store:
             (undo,) = await store.workers.claim([("leaf", "room", "undo")], wait=60, lease=60)
             await store.workers.report(undo.attempt_id, undo.lease, result=None)

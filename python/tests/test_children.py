@@ -531,7 +531,7 @@ def test_children_stay_with_their_parents(place: str, monkeypatch: pytest.Monkey
 
         async def are() -> bool:
             return (
-                len(await store._inside.store.read("SELECT 1 FROM shards WHERE closed = 1"))
+                len(await store._coordinator.store.read("SELECT 1 FROM shards WHERE closed = 1"))
                 == count
             )
 

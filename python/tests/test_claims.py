@@ -232,7 +232,7 @@ def test_tasks_that_cannot_be_read_are_given_back(
         async with opened(place, saga) as store:
             for number in range(3):
                 await store.start(saga, f"k{number}")
-            external, reading = store._inside.external, asyncio.Event()
+            external, reading = store._coordinator.external, asyncio.Event()
             whole, count = external._leased, 0
 
             async def leased(*words: Any) -> Any:

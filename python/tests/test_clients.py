@@ -842,7 +842,7 @@ def test_a_start_whose_key_has_a_saga_goes_away(
                 late = await client.start(kind, "k", "same", connection=link)
                 assert (await (await store.start(kind, "k", "same")).wait()).ok
                 if not is_seen:
-                    database, is_blind = store._inside.store, True
+                    database, is_blind = store._coordinator.store, True
                     right = database.find
 
                     async def find(key: str) -> Any:
@@ -868,7 +868,7 @@ def test_a_start_that_fails_at_first_is_taken_again(
 
     async def main() -> None:
         async with sagas.open(url, [kind]) as store, sagas.Client(url) as client:
-            database = store._inside.store
+            database = store._coordinator.store
             right: Any = getattr(database, where)
             left = 1
 
@@ -902,7 +902,7 @@ def test_a_race_for_one_key_fails_no_other_start(url: str, monkeypatch: pytest.M
     async def main() -> None:
         async with sagas.open(url, [kind]) as one, sagas.open(url, [kind]) as two:
             assert (await (await two.start(kind, "k5", 5)).wait()).ok
-            database = one._inside.store
+            database = one._coordinator.store
             right, blind = database.find, 10
 
             async def find(key: str) -> Any:

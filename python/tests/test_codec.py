@@ -413,7 +413,7 @@ def test_a_result_of_a_worker_is_never_plain(place: str) -> None:
             async def report(result: Any) -> bool:
                 return await store.workers.report(task.attempt_id, task.lease, result, holder="w")
 
-            table: Any = store._access.inside.store.external
+            table: Any = store._access.coordinator.store.external
             seen, keep = list[str](), table.report
 
             async def kept(token: str, lease: int, outcome: str, value: str) -> Any:

@@ -34,7 +34,7 @@ DAMAGES = {
     ),
     "contradiction": (
         "UPDATE sagas SET phase = 'ended', outcome = '{}' WHERE key = 'k0'",
-        "its data was not understood",
+        "its data could not be parsed",
     ),
 }
 SAVE = [
@@ -148,7 +148,7 @@ async def is_whole(store: sagas.Store) -> bool:
 
 def counted(store: sagas.Store) -> list[int]:
     """The shards that are loaded from now on."""
-    database: Any = store._inside.store
+    database: Any = store._coordinator.store
     loads, load = list[int](), database.load
 
     def noted(log: int, *words: Any) -> Any:

@@ -56,7 +56,7 @@ def test_a_saga_that_is_over_is_not_kept_for_its_deadline(
     tmp_path: pathlib.Path, monkeypatch: pytest.MonkeyPatch
 ) -> None:
     """A deadline is days away, and sagas end at once: the program keeps few of them. Those that are open are aborted in time."""
-    monkeypatch.setattr(deadlines, "MOST", 4, raising=False)
+    monkeypatch.setattr(deadlines, "MAX_ENTRIES", 4, raising=False)
     kind, clock = slow(deadline=datetime.timedelta(days=1)), Clock()
 
     def count() -> int:

@@ -56,7 +56,7 @@ def test_it_is_stored_and_used(place: str, capsys: pytest.CaptureFixture[str]) -
         assert "secret" not in str(error.value)
 
     async def rows() -> list[Any]:
-        inside = store._access.inside
+        inside = store._access.coordinator
         return await inside.store.read("SELECT step, number, reason FROM suspensions ORDER BY step")
 
     async def main() -> None:
@@ -112,7 +112,7 @@ def test_a_failure_ends_it(place: str) -> None:
             end = await run.wait(60)
             assert end.states["flight"] == "failed" and end.errors["flight"] == "no seat"
             assert end.states["open"] == "undone"
-            read = store._access.inside.store.read
+            read = store._access.coordinator.store.read
             assert await read("SELECT 1 FROM suspensions") == []
 
     run(main())
@@ -215,7 +215,7 @@ def test_with_a_codec(place: str) -> None:
                 await store.start(saga, "k")
                 await asks(store)
                 await store.complete("k", "visa", "secret")
-                read = store._access.inside.store.read
+                read = store._access.coordinator.store.read
                 ((text,),) = await read("SELECT detail FROM suspensions WHERE number = 0")
                 assert text.startswith('{"$codec":"') and "secret" not in text
                 return
@@ -339,7 +339,7 @@ def test_one_whose_needs_are_committed_is_committed_before_a_recovery(place: str
                 "ship": "undone",
             }
             assert calls == [("ship", "boxed", 1), ("pay", {"euros": 40}, 1), "release"]
-            assert await store._access.inside.store.read("SELECT 1 FROM suspensions") == []
+            assert await store._access.coordinator.store.read("SELECT 1 FROM suspensions") == []
             assert all(said.startswith("yes") for said in (await store.audit()).values())
 
     run(main())

@@ -140,7 +140,7 @@ def test_a_refund_that_fails_asks(
         async with opened(place, kind) as store:
             count = len(notes.lines)
             (one,) = await until(lambda: asked(store))
-            with pytest.raises(sagas.StepNotWaiting, match="'send' is not to be retried"):
+            with pytest.raises(sagas.StepNotWaiting, match="'send' cannot be retried"):
                 await store.retry("k", "send")
             assert len(notes.lines) == count
             notes.broken.unlink()

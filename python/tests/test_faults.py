@@ -1248,8 +1248,8 @@ def test_a_commit_fails_again_and_again(
     tmp_path: pathlib.Path, monkeypatch: pytest.MonkeyPatch
 ) -> None:
     """The pauses between two tries grow to two seconds, and no further."""
-    assert shard_runner.MOST_PAUSE == 2.0
-    monkeypatch.setattr(shard_runner, "MOST_PAUSE", 2 * shard_runner.FIRST_PAUSE)
+    assert shard_runner.MAX_PAUSE == 2.0
+    monkeypatch.setattr(shard_runner, "MAX_PAUSE", 2 * shard_runner.FIRST_PAUSE)
     gate, tries = asyncio.Event(), Counter[str]()
 
     async def hold(task: Task) -> int:

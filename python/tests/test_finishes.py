@@ -159,7 +159,7 @@ def held(url: str, *, lost: bool = False) -> Iterator[Callable[[], Awaitable[Non
 @contextlib.asynccontextmanager
 async def busy(store: sagas.Store, saga: sagas.Saga) -> AsyncIterator[None]:
     """The engine of the one shard does not answer until the block ends, and is asked nothing."""
-    [runner] = store._access.inside.shards.runners.values()
+    [runner] = store._access.coordinator.shards.runners.values()
     assert runner.engine
     process = runner.engine.process
     process.send_signal(signal.SIGSTOP)

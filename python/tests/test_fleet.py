@@ -275,7 +275,7 @@ def test_what_is_in_doubt_is_told_by_its_own_gate(
     url: str, monkeypatch: pytest.MonkeyPatch
 ) -> None:
     """An answer for a key is lost, and other keys come meanwhile: what is told of that later gives back no place of the key's next call."""
-    monkeypatch.setattr(fleet_limits, "MOST_GATES", 1)
+    monkeypatch.setattr(fleet_limits, "MAX_GATES", 1)
     monkeypatch.setattr(fleet_limits, "LOOK", 0.05)
     monkeypatch.setattr(fleet_limits, "DOUBT", 1.0)
     told: list[tuple[str, int]] = []

@@ -236,7 +236,7 @@ def test_who_asks_meanwhile(url: str, looks: list[str]) -> None:
         async with sagas.open(url, [kind]) as store:
             starting = asyncio.create_task(store.start(kind, "k", 1))
             await asyncio.sleep(0)  # it has begun
-            assert store._inside and "k" in store._inside.sagas.by_key
+            assert store._coordinator and "k" in store._coordinator.sagas.by_key
             told = await asyncio.gather(
                 store.abort("k"),
                 store.wait("k"),

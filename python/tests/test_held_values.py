@@ -50,7 +50,7 @@ def kinds() -> list[sagas.Saga]:
 def held(store: sagas.Store) -> list[str]:
     """What the program holds of its sagas."""
     found = []
-    for saga in store._access.inside.sagas.by_key.values():
+    for saga in store._access.coordinator.sagas.by_key.values():
         found += [saga.text, saga.options.shape or "", *saga.results.values()]
         for attempt in saga.busy.values():
             found += attempt.results.values()

@@ -100,7 +100,7 @@ def test_a_limit_holds_for_each_key_by_itself(place: str, limit: str, in_thread:
             runs = [await store.start(saga, f"k{n}", Order(f"a{n % 3}", n)) for n in range(12)]
             for one in runs:
                 assert (await one.wait()).ok
-            coordinator = store._inside
+            coordinator = store._coordinator
             assert not coordinator.slots._limits
             assert not any(gate.is_used() for gate in coordinator.executor.fleet._gates.values())
 
@@ -293,7 +293,7 @@ def test_a_small_tenant_does_not_wait_for_a_large_one(
         async with sagas.open(place, [saga], concurrency=1, codec=codec) as store:
             if not again:
                 await start(store)
-            await until(lambda: called and len(store._inside.slots._queued) == 10)
+            await until(lambda: called and len(store._coordinator.slots._queued) == 10)
             opened.set()
             await store.wait_idle()
             assert (await store.wait("small")).ok and called.index("small") <= 2, called

@@ -144,7 +144,7 @@ def test_all_sagas_of_a_filter_are_aborted_and_resolved(
 ) -> None:
     """In several transactions; others stay as they are, and who did it is kept."""
     monkeypatch.setattr(batches, "MOST", 4)
-    monkeypatch.setattr(operator_commands, "MOST", 3)
+    monkeypatch.setattr(operator_commands, "MAX_REQUESTS", 3)
 
     async def main() -> None:
         async with sagas.open(place, [kind := signed(), stuck := must()]) as store:

@@ -237,7 +237,7 @@ def test_a_node_that_slept_past_its_lease_writes_nothing(tmp_path: pathlib.Path,
 
 def pair_of(store: sagas.Store) -> sagas.Saga:
     """The saga that a store was opened with."""
-    return next(iter(store._shelf.sagas.values()))
+    return next(iter(store._registry.sagas.values()))
 
 
 def test_sigterm_hands_over_at_once(tmp_path: pathlib.Path, url: str) -> None:
@@ -288,7 +288,7 @@ def test_a_node_that_opens_keeps_its_lease(url: str, tmp_path: pathlib.Path) -> 
             process.kill()
             process.wait()
             async with sagas.open(url, [pair()], node="other", lease=2.0, on_event=tell) as other:
-                beats = other._inside.store.lease  # type: ignore[attr-defined]
+                beats = other._coordinator.store.lease  # type: ignore[attr-defined]
 
                 @contextlib.asynccontextmanager
                 async def slow() -> AsyncIterator[None]:
@@ -342,8 +342,8 @@ def test_a_log_that_another_wrote_while_its_child_was_let_go(
         async with sagas.open(url, [kinds[0]], node="same", lease=600, idle=0.01) as first:
             await first.start(kinds[0], "k")
             await until(lambda: calls[0])
-            assert first._inside
-            (runner,) = first._inside.shards.runners.values()
+            assert first._coordinator
+            (runner,) = first._coordinator.shards.runners.values()
             await until(lambda: runner.driver.state is ShardState.IDLE)
             async with sagas.open(url, [kinds[1]], node="same", lease=600) as second:
                 gates[1].set()
@@ -387,7 +387,7 @@ def test_a_log_that_was_left_is_judged_again(url: str, caplog: pytest.LogCapture
                 await both.start(kind, kind.name)
             await until(lambda: len(calls) == 2)
         async with sagas.open(url, [stays], lease=2.0) as store:
-            lease = store._inside.store.lease  # type: ignore[attr-defined]
+            lease = store._coordinator.store.lease  # type: ignore[attr-defined]
             assert len(lease.left) == len(records.read(url).logs) == 1
             async with sagas.open(url, [goes, stays], shutdown_timeout=0.0) as both:
                 gates["goes"].set()
@@ -422,7 +422,7 @@ def test_what_no_node_drives_is_told(url: str, caplog: pytest.LogCaptureFixture)
                 await store.start(old, f"old {number}")
             await until(lambda: len(calls) == 3)
         async with sagas.open(url, [new], lease=6.0, on_event=told.append) as store:
-            lease = store._inside.store.lease  # type: ignore[attr-defined]
+            lease = store._coordinator.store.lease  # type: ignore[attr-defined]
             (log,) = lease.left
             with psycopg.connect(url) as stranger:
                 stranger.execute("LOCK TABLE sagas.sagas IN ACCESS EXCLUSIVE MODE")
@@ -484,12 +484,12 @@ def test_nothing_is_kept_of_reports_that_another_node_waits_for(url: str) -> Non
         async with sagas.open(url, [first], node="same", shutdown_timeout=0.0) as store:
             for number in range(3):
                 await store.start(first, f"k{number}")
-            waiting = store._inside.external._reports
+            waiting = store._coordinator.external._reports
             await until(lambda: asked_all(store, 3))
             await until(lambda: len(waiting) == 3)
             tokens = {held.attempt_id for held in await store.unknown()}
             async with sagas.open(url, [second], node="same", shutdown_timeout=0.0) as other:
-                await until(lambda: not store._inside.sagas.by_key)
+                await until(lambda: not store._coordinator.sagas.by_key)
                 await until(lambda: not waiting)
                 assert {held.attempt_id for held in await other.unknown()} == tokens
 
@@ -619,8 +619,8 @@ def test_no_function_begins_behind_the_lease(url: str) -> None:
             await until(lambda: calls)
             with psycopg.connect(url) as stranger:
                 stranger.execute("LOCK TABLE sagas.nodes IN EXCLUSIVE MODE")
-                assert store._inside
-                holds = store._inside.store.holds
+                assert store._coordinator
+                holds = store._coordinator.store.holds
                 await until(lambda: not holds())
                 gate.set()
                 await until(
@@ -658,7 +658,7 @@ def test_behind_its_lease_a_node_keeps_what_is_still_its_own(
             for key in ("kept", "taken"):
                 await store.start(kind, key)
             await until(lambda: len(calls) == 2)
-            inside = store._inside
+            inside = store._coordinator
             assert inside
             before = {runner.engine for runner in inside.shards.runners.values()}
             with psycopg.connect(url) as stranger:
@@ -792,7 +792,7 @@ def test_a_node_says_between_two_lots_that_it_lives(
                 end.ok
                 for end in await asyncio.gather(*(store.wait(f"k{number}") for number in range(3)))
             )
-            await until(lambda: len(store._inside.store.lease.left) == 3)  # type: ignore[attr-defined]
+            await until(lambda: len(store._coordinator.store.lease.left) == 3)  # type: ignore[attr-defined]
 
     run(main())
     assert len(turns) >= 6 and len({*turns}) == len(turns)
@@ -868,7 +868,7 @@ def test_a_start_that_comes_late(postgresql: Server, url: str, is_born: bool) ->
             ) as store:
                 for number in range(2):
                     assert (await ended(store, kind, f"k{number}")).ok
-                inside = store._inside
+                inside = store._coordinator
                 assert inside
                 if not is_born:
                     inside.shards._placement.current.clear()
@@ -1087,7 +1087,7 @@ def test_who_looks_for_a_key_hears_that_the_store_is_closed(
         with relaying(postgresql.port) as relay:
             place = postgresql.url(url.rpartition("/")[2], port=relay.port)
             async with sagas.open(place, [kind]) as store:
-                keys = store._inside.store._keys  # type: ignore[attr-defined]
+                keys = store._coordinator.store._keys  # type: ignore[attr-defined]
                 relay.cut()
                 await until(lambda: not keys._link.is_open)
                 relay._loop.call_soon_threadsafe(silent.wait)
@@ -1282,7 +1282,7 @@ def test_who_reads_holds_up_nobody(url: str, table: str) -> None:
         async with sagas.open(url, [kind], lease=lease, on_event=told_of) as store:
             assert (await ended(store, kind, "k")).ok
             await until(lambda: "shard_closed" in told)
-            node = store._inside.store.lease  # type: ignore[attr-defined]
+            node = store._coordinator.store.lease  # type: ignore[attr-defined]
             with psycopg.connect(url) as stranger:
                 stranger.execute(f"LOCK TABLE sagas.{table} IN ACCESS EXCLUSIVE MODE")
                 free = FREE.get(table, ())
@@ -1322,10 +1322,10 @@ def test_the_ends_of_many_sagas_at_once(postgresql: Server, url: str) -> None:
                     ends = await asyncio.gather(*(store.wait(key) for key in keys))
                     assert [end.results["a"] for end in ends] == [{"of": key} for key in keys]
                 relay.before = relay.after = 0.0
-                row = await store._inside.store.find("k0")
+                row = await store._coordinator.store.find("k0")
                 assert row
                 with pytest.raises(sagas.NoSuchSaga, match="'k0' was deleted meanwhile"):
-                    await store._inside.store.known(row._replace(id=row.id + 990))
+                    await store._coordinator.store.known(row._replace(id=row.id + 990))
                 asked = [asyncio.ensure_future(store.wait(key)) for key in keys]
                 await asyncio.sleep(0)
             over = await asyncio.wait_for(asyncio.gather(*asked, return_exceptions=True), 60)
@@ -1359,7 +1359,7 @@ def test_an_audit_in_the_background_holds_up_nobody(url: str) -> None:
             stranger.execute("LOCK TABLE sagas.event_log IN ACCESS EXCLUSIVE MODE")
             async with Turns() as turns:
                 async with sagas.open(url, [kind], lease=lease, on_event=tell) as store:
-                    node = store._inside.store.lease  # type: ignore[attr-defined]
+                    node = store._coordinator.store.lease  # type: ignore[attr-defined]
                     await until(lambda: asyncio.to_thread(waits_in, url))
                     since = node._until
                     await until(lambda: node._until > since + lease + 0.5)

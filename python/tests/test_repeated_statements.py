@@ -127,7 +127,7 @@ def test_workers_go_on_while_the_server_has_no_connection_to_spare() -> None:
 
     async def main(url: str) -> None:
         async with sagas.open(url, [kind], lease=60) as store:
-            coordinator = store._inside
+            coordinator = store._coordinator
             assert coordinator
             begun = await store.start(kind, "k", None)
             with contextlib.ExitStack() as strangers:

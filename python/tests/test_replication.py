@@ -253,7 +253,7 @@ def test_a_canceled_wait_of_a_node(away: Away, store: str) -> None:
                         f"SELECT 1 {WAITS} AND (query = 'COMMIT' OR query LIKE '%takeovers%')"
                     )
                 )
-                assert await two._inside.store.find("k")
+                assert await two._coordinator.store.find("k")
                 other = asyncio.create_task(two.start(kind, "k"))
                 await until(lambda: away.rows(f"SELECT 1 {WAITS} AND query LIKE '%emit%'"))
                 assert not mine.done() and not other.done() and called == ["first"]

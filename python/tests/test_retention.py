@@ -413,12 +413,12 @@ def test_a_forked_child_keeps_no_archive(tmp_path: pathlib.Path) -> None:
 
 def test_a_run_takes_no_more_than_its_most(place: str) -> None:
     """In order of the logs' numbers, and the rest in further runs; by itself 100,000 sagas."""
-    assert retention.MOST == 100_000
+    assert retention.MAX_SAGAS == 100_000
     logs = run(fill(place, shop(), 3 * ROOM))
     age(place, *logs)
-    gone = retention.prune(place, MONTH, most=2 * ROOM)
+    gone = retention.prune(place, MONTH, max_sagas=2 * ROOM)
     assert gone.sagas == 2 * ROOM and gone.more and set(records.read(place).logs) == {logs[-1]}
-    gone = retention.prune(place, MONTH, most=2 * ROOM)
+    gone = retention.prune(place, MONTH, max_sagas=2 * ROOM)
     assert gone.sagas == ROOM and not gone.more
 
 

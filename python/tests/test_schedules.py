@@ -184,7 +184,7 @@ def test_a_schedule_starts_sagas(place: str) -> None:
 @pytest.mark.parametrize("catch_up", ["last", "all", "skip"])
 def test_times_that_were_missed(place: str, catch_up: str, monkeypatch: pytest.MonkeyPatch) -> None:
     """No program ran for two days; a paused schedule misses nothing; what is changed is new."""
-    monkeypatch.setattr(scheduler, "MOST", 3)
+    monkeypatch.setattr(scheduler, "MAX_STARTS", 3)
     clock = Clock()
 
     async def main() -> None:
@@ -257,7 +257,7 @@ def test_a_time_zone_that_this_system_does_not_have(
     place: str, monkeypatch: pytest.MonkeyPatch
 ) -> None:
     """Its schedule is left to other nodes, which is told; all others go on, and so does it once its zone is there."""
-    monkeypatch.setattr(scheduler, "MOST_PAUSE", 0.1)
+    monkeypatch.setattr(scheduler, "MAX_PAUSE", 0.1)
     clock, kind, said = Clock(), nightly(), list[str | None]()
 
     def zone(name: str) -> None:
@@ -527,7 +527,7 @@ def test_a_time_while_the_saga_before_is_open(place: str, overlap: str) -> None:
             await store.schedule("n", kind, every=EVERY, overlap=overlap)
             for turn in (1, 2):
                 clock.now += EVERY.total_seconds()
-                store._inside.look()
+                store._coordinator.look()
                 if turn == 1 or overlap == "allow":
                     await until(lambda: len(keys(place)) == turn)
                 elif overlap == "skip":
@@ -564,7 +564,7 @@ def test_a_program_that_lacks_the_definition(place: str) -> None:
                 return (await store.schedules())[0].error
 
             await until(error)
-            store._inside.look()
+            store._coordinator.look()
             await asyncio.sleep(0)
             assert await error() == "no program has its saga 'simple' (version 1)"
         assert told == ["schedule_failed: n: no program has its saga 'simple' (version 1)"]

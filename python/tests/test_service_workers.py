@@ -365,16 +365,16 @@ class Asking(sagas.Worker):
     def __init__(self, url: str, **more: Any) -> None:
         super().__init__(url, wait=0.2, **more)
         self.given: list[int] = []
-        right = self._service.until_told
+        right = self._service.ask_until_answered
 
-        def until_told(*words: Any, **more: Any) -> dict[str, Any] | None:
+        def ask_until_answered(*words: Any, **more: Any) -> dict[str, Any] | None:
             told = right(*words, **more)
             claimed = (told.get("next") or told) if told else {}
             if claimed.get("tasks"):
                 self.given.append(len(claimed["tasks"]))
             return told
 
-        self._service.until_told = until_told  # type: ignore[method-assign]
+        self._service.ask_until_answered = ask_until_answered  # type: ignore[method-assign]
 
 
 class Calls:

@@ -251,7 +251,7 @@ def test_the_child_dies_as_the_step_is_over(url: str) -> None:
     @kind.step(transaction=True)
     async def book(task: Task) -> str:
         calls.append(task.attempt_id)
-        (runner,) = stores[0]._inside.shards.runners.values()  # type: ignore[union-attr]
+        (runner,) = stores[0]._coordinator.shards.runners.values()  # type: ignore[union-attr]
         said = await write(task, "book")
         assert runner.engine
         os.kill(runner.engine.process.pid, signal.SIGKILL)
@@ -391,7 +391,7 @@ def test_connections_that_rest_are_let_go() -> None:
                     *(ended(store, kind, f"k{number}", "together") for number in range(4))
                 )
             )
-            coordinator = store._inside
+            coordinator = store._coordinator
             with contextlib.ExitStack() as strangers:
                 while coordinator:
                     try:
@@ -427,7 +427,7 @@ def test_few_statements_are_kept(url: str, monkeypatch: pytest.MonkeyPatch) -> N
                     )
                 )
                 assert all(end.phase in ("completed", "recovered") for end in ends)
-            coordinator = store._inside
+            coordinator = store._coordinator
             assert coordinator and 0 < len(coordinator.store._writer._wire._names) <= 3  # type: ignore[attr-defined]
             await audited(store)
 

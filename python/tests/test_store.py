@@ -962,8 +962,8 @@ def test_one_transaction_takes_what_all_logs_have(
                 await store.start(far, f"far-{number}")
                 runs.append(await store.start(saga, f"k{number}"))
             await until(lambda: len(calls) == 8)
-            assert store._inside
-            runners = store._inside.shards.runners.values()
+            assert store._coordinator
+            runners = store._coordinator.shards.runners.values()
             await until(
                 lambda: len(runners) == 8 and not any(one.driver.unwritten for one in runners)
             )
@@ -984,7 +984,7 @@ def test_a_file_is_synced_at_each_commit(tmp_path: pathlib.Path) -> None:
     async def main() -> None:
         async with sagas.open(tmp_path / "store.db", [saga]) as store:
             assert (await ended(store, saga)).ok
-            inside: Any = store._inside
+            inside: Any = store._coordinator
             assert inside.store._db.execute("PRAGMA journal_mode").fetchone() == ("wal",)
             assert inside.store._db.execute("PRAGMA synchronous").fetchone() == (2,)  # FULL
 
@@ -1093,8 +1093,8 @@ def test_nobody_waits_for_rows_of_an_answer_that_is_late(tmp_path: pathlib.Path)
             (pid,) = set(children(os.getpid())) - others
             os.kill(pid, signal.SIGSTOP)
             going = asyncio.ensure_future(ended(store, saga, "late"))
-            assert store._inside
-            (runner,) = store._inside.shards.runners.values()
+            assert store._coordinator
+            (runner,) = store._coordinator.shards.runners.values()
             await until(lambda: runner.engine and runner.engine.asked)
             with contextlib.closing(sqlite3.connect(path, timeout=0)) as db:
                 db.execute("BEGIN IMMEDIATE")
@@ -1543,7 +1543,7 @@ def test_callers_that_gave_up_are_not_kept(tmp_path: pathlib.Path) -> None:
             for _ in range(300):
                 with pytest.raises(TimeoutError):
                     await running.wait(0)
-            (callers,) = store._inside.sagas.ends.futures.values()
+            (callers,) = store._coordinator.sagas.ends.futures.values()
             assert len(callers) < 100
             await running.complete("a")
             assert (await waits).ok

@@ -230,7 +230,7 @@ def test_a_step_of_a_lost_log_is_rolled_back(url: str) -> None:
             ) as second:
                 await until(lambda: inside == [0, 1])
                 gates[0].set()
-                await until(lambda: first._inside and not first._inside.shards.runners)
+                await until(lambda: first._coordinator and not first._coordinator.shards.runners)
                 assert booked(url) == {} and not records.read(url).results
                 gates[1].set()
                 assert (

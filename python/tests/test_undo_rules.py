@@ -492,7 +492,7 @@ def test_what_an_undo_has_of_its_child(place: str) -> None:
             assert waits == "room waits for a slot of its concurrency"
             tenants = {
                 key: one.tenant
-                for key, one in store._inside.sagas.by_key.items()
+                for key, one in store._coordinator.sagas.by_key.items()
                 if children.undoes_child(key)
             }
             assert tenants == {"s/:kid:undo": '"7"', "t/:kid:undo": '"7"', "u/:kid:undo": '"8"'}
@@ -517,7 +517,7 @@ def test_nobody_starts_what_undoes_a_child(url: str) -> None:
                 "results": {"a": 1, "b": 1, "c": 1},
             }
             (undoing,) = [
-                saga for saga in store._shelf.sagas.values() if saga.undoes is world.child
+                saga for saga in store._registry.sagas.values() if saga.undoes is world.child
             ]
             with pytest.raises(
                 sagas.DefinitionError, match="only parents of such children start it"

@@ -209,7 +209,7 @@ def test_over_a_kill_between_the_start_and_the_acknowledgement(place: str) -> No
             async def first() -> None:
                 async with sagas.open(place, [saga], node="one", lease=1) as store:
                     await aborted(store, saga, gate)
-                    inside = store._access.inside
+                    inside = store._access.coordinator
 
                     async def kept(batch: Any) -> None:
                         os.kill(os.getpid(), signal.SIGKILL)
@@ -274,7 +274,7 @@ def test_with_items_a_codec_and_blobs(place: str, tmp_path: Any) -> None:
             await begun.wait(60)
             (one,) = await store.attention()
             assert (one.step, one.by, json.loads(one.detail or "")) == ("pay-1", None, large)
-            ((stored,),) = await store._access.inside.store.read(
+            ((stored,),) = await store._access.coordinator.store.read(
                 "SELECT detail FROM suspensions WHERE number = 0"
             )
             assert large not in stored
@@ -420,7 +420,7 @@ def test_of_a_node_without_the_definition(url: str) -> None:
         assert sorted(call[1] for call in calls if call != "release") == ["k", "l"]
 
     async def requests(store: Any, count: int) -> bool:
-        ((found,),) = await store._access.inside.store.read(
+        ((found,),) = await store._access.coordinator.store.read(
             "SELECT count(*) FROM operator_commands WHERE answer IS NULL AND command = 'compensate'"
         )
         return bool(found == count)

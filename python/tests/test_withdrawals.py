@@ -75,7 +75,7 @@ async def two(
 
 def has_offered(store: sagas.Store) -> bool:
     """Whether a node has taken the saga over, and its offers are in the store."""
-    inside = store._inside
+    inside = store._coordinator
     return any(saga.busy for saga in inside.sagas.by_key.values()) and not inside.external._offering
 
 
@@ -131,7 +131,7 @@ def test_an_answer_to_a_withdrawal_counts_under_its_epoch_alone(
             await until(lambda: (row[0], "withdrawn", None) in asked(url, ROWS))
             relay.still = b"SET outcome = 'withdrawn'"  # a second one would come before the worker
             claiming = asyncio.create_task(other.workers.claim(PAY, wait=60, lease=600))
-            for runner in slow._inside.shards.runners.values():
+            for runner in slow._coordinator.shards.runners.values():
                 if runner.engine:
                     runner.engine.process.kill()
             await until(lambda: [event for event in events if event.name == "engine_died"])

@@ -19,6 +19,6 @@ def apply() -> None:
     def at_once(self: EffectHandler, effects: Effects) -> None:
         right(self, effects)
         for saga in effects.opened:
-            self._sagas.tell_started(saga)
+            self._sagas.notify_started(saga)
 
     setattr(EffectHandler, "at_once", at_once)

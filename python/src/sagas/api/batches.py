@@ -1,4 +1,4 @@
-"""The calls for many sagas: lists, counts, and commands to all of a filter."""
+"""The calls for many sagas: lists, counts, and commands for all sagas of a filter."""
 
 from __future__ import annotations
 
@@ -26,18 +26,20 @@ from sagas.storage.filters import Filter
 T = TypeVar("T")
 
 
-def name_of(saga: Saga | str | None) -> str | None:
-    """The name of a definition."""
+def definition_name(saga: Saga | str | None) -> str | None:
+    """Return the name of a definition."""
     return saga.name if isinstance(saga, Saga) else saga
 
 
-def _page(of: Filter, after: Summary | int | None, limit: int) -> Question[builtins.list[Summary]]:
-    place = yield from pages.position(after)
-    return (yield from pages.page(of=of, after=place, newest=False, most=limit))
+def _page(
+    filter: Filter, after: Summary | int | None, limit: int
+) -> Question[builtins.list[Summary]]:
+    after_position = yield from pages.position(after)
+    return (yield from pages.page(of=filter, after=after_position, newest=False, most=limit))
 
 
-async def beside(name: str, work: Callable[[admin.Source], T]) -> T:
-    """Do something with a store over a connection of its own, in a thread.
+async def over_own_connection(name: str, work: Callable[[admin.Source], T]) -> T:
+    """Run a function over a separate connection to the store, in a thread.
 
     Raises:
         StoreUnavailable: It cannot be written.
@@ -54,7 +56,7 @@ async def beside(name: str, work: Callable[[admin.Source], T]) -> T:
 
 
 class Batches:
-    """What stores and clients share."""
+    """The calls for many sagas that stores and clients share."""
 
     async def _answer(self, question: Question[T]) -> T:
         raise NotImplementedError
@@ -63,7 +65,7 @@ class Batches:
         raise NotImplementedError
 
     def _location(self) -> str:
-        """The store's file or URL. Raises `Closed` where it is not open."""
+        """Return the store's file or URL. Raises `Closed` if it is not open."""
         raise NotImplementedError
 
     async def list(
@@ -77,17 +79,17 @@ class Batches:
     ) -> builtins.list[Summary]:
         """Return a page of sagas, ordered by their starts, the oldest first.
 
-        Pages neither repeat a saga nor leave out one that was there when the first was asked for.
-        A saga that starts meanwhile may come before `after`, because clocks of nodes differ. So use
-        `on_event` to learn of new sagas, and not `after`. A client's starts that no node has begun
-        are left out.
+        Pages do not repeat a saga, and contain each saga that existed when the first page was
+        requested. A saga that starts later may be listed before `after`, because the clocks of
+        nodes differ. To learn of new sagas, use `on_event` in place of `after`. Starts of clients
+        that no node has opened are left out.
 
         Args:
             phase: `open`, `completed`, `recovered`, `stuck` or `resolved`; or `undo_failed`, for
-                those recovered sagas of which a compensation failed permanently (default: all).
+                recovered sagas with a compensation that failed permanently (default: all).
             saga: A definition, or its name (default: all).
             labels: Labels that the sagas have, all of these (default: any).
-            after: The last saga of the page before, which may be deleted meanwhile; or its `id`,
+            after: The last saga of the previous page, which may be deleted by now; or its `id`,
                 while the store has the saga (default: from the start).
             limit: Maximum number of sagas (default: 100).
 
@@ -99,8 +101,8 @@ class Batches:
             Closed: The store is closed.
         """
         pages.check(phase, after, limit)
-        of = Filter(phase, name_of(saga), checked(labels))
-        return await self._answer(_page(of, after, limit))
+        filter = Filter(phase, definition_name(saga), checked(labels))
+        return await self._answer(_page(filter, after, limit))
 
     async def count(
         self,
@@ -112,9 +114,9 @@ class Batches:
         """Return how many sagas there are.
 
         Args:
-            phase: As of `list`.
-            saga: As of `list`.
-            labels: As of `list`.
+            phase: As for `list`.
+            saga: As for `list`.
+            labels: As for `list`.
 
         Raises:
             ValueError: The phase is not valid.
@@ -123,7 +125,9 @@ class Batches:
             Closed: The store is closed.
         """
         pages.check(phase, None, 1)
-        return await self._answer(lists.count(Filter(phase, name_of(saga), checked(labels))))
+        return await self._answer(
+            lists.count(Filter(phase, definition_name(saga), checked(labels)))
+        )
 
     async def definitions(self) -> builtins.list[DefinitionCount]:
         """Return how many sagas there are of each version of each definition.
@@ -135,13 +139,16 @@ class Batches:
         return await self._answer(lists.definitions())
 
     async def attention(self, *, limit: int = 100) -> builtins.list[Attention]:
-        """Return what needs a person, the oldest first.
+        """Return what needs an operator, the oldest first.
 
-        That is: stuck sagas, and those of which a compensation failed permanently, until somebody
-        resolves them; successes that were reported before their steps began, and that their sagas
-        did not use; steps and compensations whose attempts are used up (`on_exhausted="ask"`);
-        attempts with an unknown outcome that are not repeated; and attempts whose stored values
-        no program could read.
+        The list contains:
+
+        - stuck sagas, and sagas with a compensation that failed permanently, until an operator
+        resolves them;
+        - successes that were reported before their steps started, and that their sagas did not use;
+        - steps and compensations whose attempts are exhausted (`on_exhausted="ask"`);
+        - attempts with an unknown outcome that are not retried;
+        - attempts with stored values that no program could read.
 
         Args:
             limit: Maximum number of entries (default: 100).
@@ -163,31 +170,31 @@ class Batches:
         note: str | None = None,
         timeout: float | None = None,
     ) -> BatchResult:
-        """Abort every open saga of a filter, and wait for the answers of their nodes.
+        """Abort every open saga of a filter, and wait for the replies of their nodes.
 
-        The commands are durable, at most 1,000 in a transaction: a node that is down executes its
-        own when it is back. If the call is interrupted, repeat it for the rest. A client's start
-        that no node has begun is withdrawn.
+        The commands are durable, at most 1,000 in a transaction. A node that is down executes its
+        commands when it is back. If the call is interrupted, repeat it for the rest. A client's
+        start that no node has opened is withdrawn.
 
         Args:
             saga: A definition, or its name (default: all).
             labels: Labels that the sagas have, all of these (default: any).
-            by: Who asks for it. The store keeps it with `note` and the time.
-            note: Why.
-            timeout: Seconds to wait for answers (default: until all nodes that run answered).
+            by: The person or program that requests it. The store keeps it with `note` and the time.
+            note: The reason.
+            timeout: Seconds to wait for replies (default: until all running nodes have replied).
 
         Returns:
-            The keys of the sagas, by what came of it. If the filter selects nothing, its `warnings`
-            say which labels no saga has.
+            The keys of the sagas, by outcome. If the filter selects nothing, `warnings` says which
+                labels no saga has.
 
         Raises:
             InvalidLabel: A label is not valid, or `labels` is empty, which would mean every saga.
-            StoreUnavailable: The database does not answer; what was asked before is executed.
+            StoreUnavailable: The database does not answer. Commands that are stored are executed.
             Closed: The store is closed.
         """
-        told = {"by": by, "note": note}
-        found = Filter(saga=name_of(saga), labels=selecting(labels))
-        return await self._run(found, lambda batch: batch.abort(told, timeout))
+        command = {"by": by, "note": note}
+        selection = Filter(saga=definition_name(saga), labels=selecting(labels))
+        return await self._run(selection, lambda batch: batch.abort(command, timeout))
 
     async def resolve_all(
         self,
@@ -197,29 +204,30 @@ class Batches:
         labels: Labels | None = None,
         by: str | None = None,
     ) -> BatchResult:
-        """Mark every saga of a filter as seen to. See `Store.resolve`.
+        """Mark every saga of a filter as resolved. See `Store.resolve`.
 
-        These are the stuck sagas, and those with a failed compensation, that nobody has resolved.
+        The call applies to stuck sagas, and to sagas with a failed compensation, that are not
+        resolved.
 
         Args:
             saga: A definition, or its name (default: all).
             labels: Labels that the sagas have, all of these (default: any).
 
         Returns:
-            The keys of the sagas, as `done`; `warnings` as of `abort_all`.
+            The keys of the sagas, as `done`; `warnings` as for `abort_all`.
 
         Raises:
-            InvalidLabel: As of `abort_all`.
+            InvalidLabel: As for `abort_all`.
         """
         arguments.text("note", note, "what was done about it")
-        found = Filter(saga=name_of(saga), labels=selecting(labels))
-        return await self._run(found, lambda batch: batch.resolve(note, by))
+        selection = Filter(saga=definition_name(saga), labels=selecting(labels))
+        return await self._run(selection, lambda batch: batch.resolve(note, by))
 
     async def _run(self, filter: Filter, work: Callable[[Batch], BatchResult]) -> BatchResult:
-        """Do it in a thread; it ends behind its transaction where the caller is cancelled."""
+        """Run a batch in a thread; if the caller is cancelled, stop after a transaction."""
         stop = threading.Event()
         job = asyncio.ensure_future(
-            beside(self._location(), lambda link: work(Batch(link, filter, stop)))
+            over_own_connection(self._location(), lambda link: work(Batch(link, filter, stop)))
         )
         try:
             result = await asyncio.shield(job)
@@ -234,7 +242,7 @@ class Batches:
     async def _unmatched(
         self, filter: Filter, step: str | None = None, names: Iterable[str] = ()
     ) -> builtins.list[str]:
-        """What is said, and logged, of what a filter names and nothing has."""
+        """Return and log warnings about labels and steps of a filter that do not exist."""
         warnings = await self._answer(unmatched.of(filter, step, names))
         for warning in warnings:
             logger.warning("%s", warning)

@@ -1,4 +1,4 @@
-"""Reports by hand of the steps that start children."""
+"""Manual reports of steps that start children."""
 
 from __future__ import annotations
 
@@ -13,8 +13,9 @@ CHILDREN = child_results.CHILDREN.format(PHASE)
 
 
 def is_of_child(attempt: Attempt, outcome: Outcome) -> bool:
-    """Whether an operator reports that the child of an attempt is done. The result of an attempt
-    that undoes a child is never read.
+    """Return whether an operator reports that the child of an attempt has succeeded.
+
+    The result of an attempt that undoes a child is never read, so such attempts do not count.
     """
     starts_child = attempt.declared.child is not None and not attempt.undo
     is_done = outcome.kind is SUCCEEDED
@@ -22,7 +23,7 @@ def is_of_child(attempt: Attempt, outcome: Outcome) -> bool:
 
 
 async def check(read: Read, attempt: Attempt, outcome: Outcome) -> None:
-    """Raise `InvalidResult` where no child of this step can have what is reported."""
+    """Raise `InvalidResult` if no child of this step can have the reported result."""
     child = attempt.declared.child
     steps = None if child is None or child.is_shaped else [step.name for step in child.steps]
     rows = await read(CHILDREN, attempt.instance.id)

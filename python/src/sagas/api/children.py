@@ -1,4 +1,4 @@
-"""Starts, finds and aborts children by their keys, wherever they are executed."""
+"""Starts, finds and aborts children by their keys, on any node."""
 
 from __future__ import annotations
 
@@ -22,8 +22,8 @@ from sagas.runtime import retries
 from sagas.runtime.children import ChildEnd
 
 
-class ChildCarrier:
-    """What the runtime's children do by keys, as callers of a store do it."""
+class ChildOperations:
+    """The operations that the runtime performs on child sagas, by key."""
 
     def __init__(
         self, access: StoreAccess, lookup: SagaLookup, starter: Starter, commands: Commands
@@ -31,35 +31,35 @@ class ChildCarrier:
         self._access, self._lookup = access, lookup
         self._starter, self._commands = starter, commands
 
-    async def start(self, saga: Saga | Kind, key: str, given: Any, options: StartOptions) -> bool:
-        """Start a child. False: the key has a saga."""
-        return await self._starter.start_child(saga, key, given, options)
+    async def start(self, saga: Saga | Kind, key: str, input: Any, options: StartOptions) -> bool:
+        """Start a child; return False if the key is used."""
+        return await self._starter.start_child(saga, key, input, options)
 
     async def end(self, key: str) -> ChildEnd:
         """Wait until a saga has ended."""
-        over = await self._lookup.whole(key)
-        if isinstance(over, SagaInstance):
-            end = history.end_of_live(over)
-            return ChildEnd(end, over.id, over.kind, over.text, over.results)
-        inside = self._access.inside
-        known = await retries.until_answered(functools.partial(inside.store.known, over))
-        kind = inside.shelf.kind(known.definition)
+        ended = await self._lookup.whole(key)
+        if isinstance(ended, SagaInstance):
+            end = history.end_of_live(ended)
+            return ChildEnd(end, ended.id, ended.kind, ended.text, ended.results)
+        coordinator = self._access.coordinator
+        known = await retries.until_answered(functools.partial(coordinator.store.known, ended))
+        kind = coordinator.registry.kind(known.definition)
         results = {
             step: value or "null"
             for step, _, _, event, value, _ in known.results
             if event == "commit"
         }
         return ChildEnd(
-            history.end_of(kind, over, known.results), over.id, kind, over.input, results
+            history.end_of(kind, ended, known.results), ended.id, kind, ended.input, results
         )
 
     async def abort(self, key: str, by: str) -> None:
         """Abort a saga, unless it has ended."""
-        await self._commands.abort(key, self._commands.noted(key, "abort", by, None))
+        await self._commands.abort(key, self._commands.command_row(key, "abort", by, None))
 
     async def is_dropped(self, key: str, id: int, step: int) -> bool:
-        """Whether a plan would undo a step of a saga, if all that is under way succeeds."""
-        store = self._access.inside.store
+        """Return whether a plan would undo a step if all running attempts succeed."""
+        store = self._access.coordinator.store
         view = await AsyncStoreReader(store.read, store.read_long).ask(saga_questions.view(key))
         if view is None or view.id != id:
             return False

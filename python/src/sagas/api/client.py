@@ -1,4 +1,4 @@
-"""A client of a PostgreSQL store: it starts and inspects sagas, and drives none."""
+"""A client of a PostgreSQL store: it starts and inspects sagas, and executes none."""
 
 from __future__ import annotations
 
@@ -57,7 +57,7 @@ WITH done AS (
     WHERE key = %(key)s AND {queries.RESOLVABLE} AND note IS NULL RETURNING 1
 ),
 noted AS (INSERT INTO operator_commands(key, command, value, at, answer)
-  SELECT %(key)s, 'resolve', %(told)s::text, extract(epoch FROM clock_timestamp()), 'true'
+  SELECT %(key)s, 'resolve', %(details)s::text, extract(epoch FROM clock_timestamp()), 'true'
   FROM done)
 SELECT 1 FROM done
 """
@@ -87,10 +87,10 @@ class Client(Schedules):
         Args:
             url: The store's database.
             connections: Maximum number of concurrent statements (default: 4). One more connection
-                listens.
-            codec: As of `sagas.open` (default: values are stored as JSON).
-            blobs: As of `sagas.open`: where large results are read (default: in the database).
-            record: As of `sagas.open`: a file for the ends that it is told.
+                listens for notifications.
+            codec: As for `sagas.open` (default: values are stored as JSON).
+            blobs: As for `sagas.open`: where large results are read (default: in the database).
+            record: As for `sagas.open`: a file that records the ends that this client has seen.
 
         Raises:
             InvalidStore: It is not a URL of PostgreSQL.
@@ -106,7 +106,7 @@ class Client(Schedules):
         self._asker.late = self._look_at_hosts
         self._reader = AsyncStoreReader(self._read, self._read)
         self._opened = Opened("the client")
-        self._news: notifications.News | None = None
+        self._notifier: notifications.News | None = None
         self._record = RecordFile.of(told_path(arguments.record(record)), secrets.token_hex(4))
         self._kinds: dict[str, Kind] = {}
         check_blobs(blobs, LEAST)
@@ -119,7 +119,7 @@ class Client(Schedules):
 
     @property
     def codec(self) -> Codec | None:
-        """What encodes values; None if nothing does."""
+        """The codec of values, or None."""
         return self._payloads.codec
 
     async def __aenter__(self) -> Client:
@@ -127,8 +127,8 @@ class Client(Schedules):
 
         Raises:
             StoreUnavailable: The server does not answer.
-            InvalidStore: There are no tables: a node makes them, or `sagas store URL init`. Or it
-                is a pooler that pools transactions.
+            InvalidStore: The database has no tables of the store, or the URL is that of a pooler
+                that pools transactions. A node or `sagas store URL init` makes the tables.
             StoreSchemaTooNew: The tables are of a later version.
             MissingCodec: The store's values are encoded, and this client has no codec.
             StoreLocked: This client has a codec, and a node without one has the store open.
@@ -138,7 +138,7 @@ class Client(Schedules):
             await self._open()
         return self
 
-    if not TYPE_CHECKING:  # a checker says so by itself
+    if not TYPE_CHECKING:  # a type checker reports that itself
 
         def __enter__(self) -> Client:
             raise TypeError(
@@ -168,18 +168,21 @@ class Client(Schedules):
         except BaseException:
             await self._asker.close()
             raise
-        self._news = notifications.News(self._url, lambda what: None)
-        self._asker.attach(self._news.listener)
+        self._notifier = notifications.News(self._url, lambda message: None)
+        self._asker.attach(self._notifier.listener)
 
     def _look_at_hosts(self) -> None:
-        """A statement took too long: a server that was replaced may be waiting for its standby."""
+        """Check the hosts, because a statement took too long.
+
+        A server that was replaced may be waiting for its standby.
+        """
         if self._url.are_several:
             self._asker.spawn(self._choose_host())
 
     async def _choose_host(self) -> None:
         before = self._url.turn
         await self._url.choose(connections_module.address(self._url))
-        if self._url.turn != before and self._news is not None:
+        if self._url.turn != before and self._notifier is not None:
             await self._asker.renew(cuts=True)
 
     async def __aexit__(
@@ -191,13 +194,13 @@ class Client(Schedules):
         await self.close()
 
     async def close(self) -> None:
-        """Close its connections."""
-        if self._opened.is_elsewhere:  # they are that process's to end
+        """Close the connections."""
+        if self._opened.is_elsewhere:  # another process owns the connections
             return
-        heard, self._news = self._news, None
+        notifier, self._notifier = self._notifier, None
         try:
-            if heard:
-                await heard.close()
+            if notifier:
+                await notifier.close()
                 await self._asker.close()
         finally:
             self._starter.close()
@@ -206,14 +209,14 @@ class Client(Schedules):
                 self._record.close()
 
     @property
-    def _heard(self) -> notifications.News:
+    def _open_notifier(self) -> notifications.News:
         self._opened.check(self.path)
-        if self._news is None:
+        if self._notifier is None:
             raise Closed(
                 f"{self.path}: the client is not open. Use `async with sagas.Client(...) as "
                 "client`"
             )
-        return self._news
+        return self._notifier
 
     # -- sagas
 
@@ -233,11 +236,11 @@ class Client(Schedules):
         When it returns, a node will execute the saga, even if this program dies.
 
         Args:
-            saga: The definition. The nodes have to know it.
-            connection: A psycopg connection to the same database (default: one of its own). The
-                saga is written in the transaction that is open there, and exists exactly if that
-                commits. If this call raises, it wrote nothing there. A second start of the key
-                waits for its end.
+            saga: The definition. The nodes must have it.
+            connection: A psycopg connection to the same database (default: a connection of the
+                client). The saga is written in the open transaction of that connection, and exists
+                if and only if that commits. If this call raises, it wrote nothing there. A second
+                start of the key waits for the end of the transaction.
 
         Raises:
             StoreUnavailable: The connection is closed, failed, or to another database. Or the
@@ -246,14 +249,14 @@ class Client(Schedules):
             TypeError: The connection is not a `psycopg.AsyncConnection`.
             Closed: The client is closed.
         """
-        self._heard
+        self._open_notifier
         if connection is not None:
             caller_connection.check_kind(connection, plain=False)
-        words = self._starter.words(saga, key, input, labels, deadline, traceparent)
+        request = self._starter.start_request(saga, key, input, labels, deadline, traceparent)
         await self._starter.check_shape(saga, input)
         self._sagas[saga.name, saga.version] = saga
-        new = await self._starter.start(words, connection)
-        return ClientRun(self, key, words, new)
+        new = await self._starter.start(request, connection)
+        return ClientRun(self, key, request, new)
 
     async def wait(self, key: str, timeout: float | None = None) -> SagaResult:
         """Wait until a saga has ended. See `Store.wait`."""
@@ -266,24 +269,24 @@ class Client(Schedules):
             return await work
         return await timeouts.in_time(key, work, timeout, lambda: self.waits_for(key))
 
-    async def _wait(self, key: str, words: dict[str, Any] | None) -> SagaResult:
+    async def _wait(self, key: str, request: dict[str, Any] | None) -> SagaResult:
         turn, before = 0, None
         while True:
             row = await retries.until_answered(lambda: self._row(key))
-            if words:
-                client_start.check_same(words, [(row.saga, row.input)])
+            if request:
+                client_start.check_same(request, [(row.saga, row.input)])
             if row.phase is not None:
                 if self._record:
                     self._record.seen(row.id, "client")
                 return await self._end(row)
             pending.check_refused(row)
             turn, before = (turn + 1 if row.id == before else 0), row.id
-            await self._heard.of(row.id, turn)
+            await self._open_notifier.of(row.id, turn)
 
     async def abort(self, key: str) -> bool:
-        """Abort a saga, and wait for its node's answer. See `Store.abort`.
+        """Abort a saga, and wait for its node's reply. See `Store.abort`.
 
-        A start that no node has begun is withdrawn at once, and then no saga has the key.
+        A start that no node has opened is withdrawn at once, and then no saga has the key.
         """
         row = await self._row(key)
         if row.phase is not None:
@@ -316,7 +319,7 @@ class Client(Schedules):
         await self._report(key, step, reported(None, error), undo, early)
 
     async def retry(self, key: str, step: Step[Any] | str, *, undo: bool = False) -> None:
-        """Attempt a step again whose attempts are used up. See `Store.retry`."""
+        """Attempt an exhausted step again. See `Store.retry`."""
         row, kind = await self._row(key), "undo" if undo else "run"
         if row.phase is not None:
             raise step_reports.over(row)
@@ -325,10 +328,10 @@ class Client(Schedules):
         )
         await self._request(row, "retry", value)
 
-    async def _request(self, row: SagaRow, what: str, value: str) -> Any:
-        """Ask the node that has the saga, and return its answer. Raises what the answer names."""
+    async def _request(self, row: SagaRow, command: str, value: str) -> Any:
+        """Ask the node that executes the saga; return its reply, or raise its error."""
         asker, payloads = self._asker, self._payloads
-        answer = await saga_requests.ask(asker, self._heard, row, what, value, payloads)
+        answer = await saga_requests.ask(asker, self._open_notifier, row, command, value, payloads)
         return operator_requests.told(answer)
 
     async def _report(
@@ -340,11 +343,13 @@ class Client(Schedules):
             await self._check_kept(row, name, kind, outcome)
             return
         await codec_note.agree(self._asker, self._payloads.codec is not None)
-        what, told = operator_commands.report_of(name, kind, outcome, early, self._payloads)
-        await self._request(row, what, serialization.write(told))
+        command, arguments = operator_commands.report_command(
+            name, kind, outcome, early, self._payloads
+        )
+        await self._request(row, command, serialization.write(arguments))
 
     async def _check_kept(self, row: SagaRow, step: str, kind: str, outcome: Outcome) -> None:
-        """As `check_again`, of a saga that is over."""
+        """Check a report of a saga that has ended. See `check_again`."""
         names = self._kind(row, (await self._known(row)).definition).names
         await check_again(self._read, row, names, (step, kind), outcome, self._payloads)
 
@@ -353,7 +358,7 @@ class Client(Schedules):
     async def get(self, key: str) -> ClientRun | None:
         """Return the saga with this key, or None. See `Store.get`.
 
-        Here a start that no node has begun is one.
+        A start that no node has opened counts as a saga here.
         """
         return ClientRun(self, key) if await self._find(key) else None
 
@@ -364,15 +369,15 @@ class Client(Schedules):
         return self._payloads
 
     def _location(self) -> str:
-        self._heard
+        self._open_notifier
         return self._url
 
     async def resolve(self, key: str, note: str, *, by: str | None = None) -> None:
-        """Mark a saga as seen to. See `Store.resolve`."""
+        """Mark a saga as resolved. See `Store.resolve`."""
         arguments.text("note", note, "what was done about it")
         note = serialization.clean(note)
-        told = serialization.write({"by": by, "note": note})
-        if not await self._ask(RESOLVE, key=key, note=note, told=told):
+        details = serialization.write({"by": by, "note": note})
+        if not await self._ask(RESOLVE, key=key, note=note, details=details):
             row = await self._row(key)
             unused = await self._ask(queries.named(attention.UNUSED, "id"), id=row.id)
             attention.is_to_resolve(row, note, bool(unused))
@@ -380,12 +385,12 @@ class Client(Schedules):
     async def compensate(
         self, key: str, step: Step[Any] | str, *, by: str | None = None, note: str | None = None
     ) -> None:
-        """Have a step compensated whose report was not used. See `Store.compensate`.
+        """Compensate a step whose report was not used. See `Store.compensate`.
 
-        A node that has the definition does it.
+        A node that has the definition executes the command.
         """
-        told = {"step": step if isinstance(step, str) else step.name, "by": by, "note": note}
-        await self._request(await self._row(key), "compensate", serialization.write(told))
+        arguments = {"step": step if isinstance(step, str) else step.name, "by": by, "note": note}
+        await self._request(await self._row(key), "compensate", serialization.write(arguments))
 
     async def plan(self, key: str) -> Plan | None:
         """Return a saga's last plan. See `Store.plan`."""
@@ -401,28 +406,28 @@ class Client(Schedules):
         """Return what a saga waits for, as the database has it. See `Store.waits_for`."""
         row = await self._row(key)
         if row.id < 0:
-            left = await self._ask(LEFT_BY, id=-row.id)
-            is_left = left and left[0][1]
-            return [pending.left_by(row.saga, *left[0]) if is_left else pending.NOT_BEGUN]
+            holders = await self._ask(LEFT_BY, id=-row.id)
+            is_left = holders and holders[0][1]
+            return [pending.left_by(row.saga, *holders[0]) if is_left else pending.NOT_BEGUN]
         rows = await self._read(WAITS, row.id)
         if not rows:
             return []
         known = await self._known(row)
         return pending.of_rows(self._kind(row, known.definition).names, rows)
 
-    async def _ask(self, query: str, **words: Any) -> builtins.list[Row]:
-        self._heard
-        return await self._asker.read(query, **words)
+    async def _ask(self, query: str, **parameters: Any) -> builtins.list[Row]:
+        self._open_notifier
+        return await self._asker.read(query, **parameters)
 
-    async def _read(self, query: str, *words: Any) -> builtins.list[Row]:
-        """Rows of a question with a `?` for each word."""
-        self._heard
-        text, cells = queries.for_postgresql(query), serialization.cleaned(words)
+    async def _read(self, query: str, *parameters: Any) -> builtins.list[Row]:
+        """Return the rows of a query with a `?` for each parameter."""
+        self._open_notifier
+        text, cells = queries.for_postgresql(query), serialization.cleaned(parameters)
         rows = await self._asker.rows(text, *cells)
         return rows if self._blobs is None else await self._blobs.rows(rows)
 
     async def _find(self, key: str) -> SagaRow | None:
-        keys = [serialization.clean(key)] if isinstance(key, str) else []  # as no other key is
+        keys = [serialization.clean(key)] if isinstance(key, str) else []  # only texts are keys
         rows = [SagaRow(*row) for row in await self._ask(key_finder.FIND, keys=json.dumps(keys))]
         return max(rows, key=lambda row: row.id) if rows else None
 
@@ -433,12 +438,12 @@ class Client(Schedules):
         return row
 
     async def _known(self, row: SagaRow) -> Known:
-        """What the store has of a saga. Raises `NoSuchSaga` where it was let go meanwhile."""
-        words = queries.known_words(row.id, history=False)
-        return queries.known(await self._read(*words), row.key)
+        """Return what the store has of a saga. Raises `NoSuchSaga` if it was deleted."""
+        query = queries.known_words(row.id, history=False)
+        return queries.known(await self._read(*query), row.key)
 
     def _kind(self, row: SagaRow, text: str) -> Kind:
-        """The saga of a definition's text: as this client started it, where it did."""
+        """Return the definition of a text; that of this client's start, if there is one."""
         if text not in self._kinds:
             saga = self._sagas.get((row.saga, version_of(text)))
             self._kinds[text] = Kind(text, saga, payloads=self._payloads)

@@ -17,23 +17,23 @@ class ClientRun:
 
     Attributes:
         key: The saga's key.
-        new: Whether this start wrote the saga: its key was free. It is True also if a node began
-            the key in the same moment, or if the caller's transaction does not commit. It is False
-            if the connection was lost during the commit, and the start had to be repeated.
+        new: Whether this start wrote the saga, because its key was free. It is also True if a node
+            started the key at the same moment, or if the caller's transaction does not commit. It
+            is False if the connection was lost during the commit, and the start had to be repeated.
     """
 
     def __init__(
         self, client: Client, key: str, words: dict[str, Any] | None = None, new: bool = False
     ) -> None:
-        self._client, self.key, self._words, self.new = client, key, words, new
+        self._client, self.key, self._request, self.new = client, key, words, new
 
     async def wait(self, timeout: float | None = None) -> SagaResult:
         """Wait until the saga has ended. See `Client.wait`.
 
         Raises:
-            KeyConflict: At the moment of the start a node began the key with another input.
+            KeyConflict: A node started the key with another input at the same moment.
         """
-        work = self._client._wait(self.key, self._words)
+        work = self._client._wait(self.key, self._request)
         return await self._client._in_time(self.key, work, timeout)
 
     async def abort(self) -> bool:

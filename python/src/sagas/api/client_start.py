@@ -21,7 +21,7 @@ from sagas.definition.saga import Saga
 from sagas.definition.shape import Shape
 from sagas.definition.start_options import Deadline, deadline_at
 from sagas.runtime import relocation
-from sagas.runtime.declared_calls import DeclaredCalls
+from sagas.runtime.declared_calls import DefinitionCaller
 from sagas.storage import codec_note
 from sagas.storage.postgresql import caller_connection, connections, notifications, replication
 
@@ -40,7 +40,7 @@ SELECT %(key)s::text, %(saga)s::text, %(version)s::integer, %(input)s::text, %(d
 WHERE %(encodes)s OR NOT EXISTS (SELECT 1 FROM sagas.secrets WHERE name = 'codec')
 ON CONFLICT (key) DO NOTHING RETURNING id
 """
-THERE = """
+EXISTING = """
 SELECT saga, input, NULL::text FROM sagas.sagas WHERE key = %(key)s
 UNION ALL SELECT saga, input, CASE WHEN refused IS NULL THEN digest ELSE '' END
 FROM sagas.pending_starts
@@ -50,115 +50,126 @@ RENEW = """
 UPDATE sagas.pending_starts SET digest = %(digest)s, refused = NULL
 WHERE key = %(key)s AND version = %(version)s AND node IS NULL RETURNING id
 """
-"""A start that no node has taken has the definition of who starts it last. One that was refused is
-taken again."""
+"""A start that no node has taken gets the definition of its latest start. A refused start is
+accepted again.
+"""
 NOTED = "SELECT 1 FROM sagas.secrets WHERE name = 'codec'"
 BACK = "DELETE FROM sagas.pending_starts WHERE id = ANY(%(own)s::bigint[])"
-TELL = f"SELECT pg_notify('{notifications.CHANNEL}', '{notifications.STARTS}')"
-"""In the caller's transaction, which only its commit ends. One of the client's own is told of
-behind its commit: a commit that tells holds a lock over the whole server, also while it waits for
-a standby."""
+NOTIFY = f"SELECT pg_notify('{notifications.CHANNEL}', '{notifications.STARTS}')"
+"""In the caller's transaction, only its commit sends the notification. For its own transactions,
+the client notifies after the commit: a commit that notifies holds a lock of the whole server, also
+while it waits for a standby.
+"""
 UNSURE = "It is unknown whether the saga was started. Start it again, with the same key"
 
 
-def is_renewed(words: dict[str, Any], rows: list[Row]) -> bool:
-    """Whether the start that is there is of another definition than this one of the same key."""
-    digest = words["digest"]
+def has_other_definition(request: dict[str, Any], rows: list[Row]) -> bool:
+    """Return whether an existing start of the same key has another definition."""
+    digest = request["digest"]
     known = (None, digest) if digest is not None else (None,)
-    return any(there not in known for _, _, there in rows if there == "" or digest is not None)
+    return any(
+        stored_digest not in known
+        for _, _, stored_digest in rows
+        if stored_digest == "" or digest is not None
+    )
 
 
-def check_same(words: dict[str, Any], rows: list[Row]) -> None:
-    """Raises `KeyConflict` where another saga or input has the key."""
+def check_same(request: dict[str, Any], rows: list[Row]) -> None:
+    """Raise `KeyConflict` if another saga or input has the key."""
     for saga, text, *_ in rows:
         error = relocation.conflict(
-            words["key"], words["of"], words["input"], saga, text, words["payloads"]
+            request["key"], request["of"], request["input"], saga, text, request["payloads"]
         )
         if error:
             raise error
 
 
 class Written(NamedTuple):
-    """What a start did: whether its row is there, and whether the nodes are to be told."""
+    """Whether a start wrote its row, and whether the nodes must be notified."""
 
     is_new: bool
-    tells: bool
+    must_notify: bool
 
 
-def check_written(words: dict[str, Any], noted: list[Row]) -> None:
-    """Raises `MissingCodec` where nothing was written because values have to be encoded."""
-    if noted and not words["encodes"]:
-        raise codec_note.missing(words["path"])
+def check_written(request: dict[str, Any], noted: list[Row]) -> None:
+    """Raise `MissingCodec` if nothing was written because values must be encoded."""
+    if noted and not request["encodes"]:
+        raise codec_note.missing(request["path"])
 
 
-async def start(link: Connection, words: dict[str, Any]) -> Written:
-    """A row, and then a look whether another has the key: in this order, so that no start of the
-    same key can pass unseen. What is there may be of a commit that no standby has yet.
+async def start(link: Connection, request: dict[str, Any]) -> Written:
+    """Write a row, then check whether another start has the key.
+
+    In this order, no concurrent start of the same key can be missed. An existing row may belong to
+    a commit that no standby has yet.
     """
-    own = await caller_connection.rows(link, START, words)
+    own_rows = await caller_connection.rows(link, START, request)
     rows = await caller_connection.rows(
-        link, THERE, {"key": words["key"], "own": [id for (id,) in own]}
+        link, EXISTING, {"key": request["key"], "own": [id for (id,) in own_rows]}
     )
-    if rows and own:
-        await psycopg.AsyncCursor(link).execute(BACK, {"own": [id for (id,) in own]})
-    check_same(words, rows)
-    if not (own or rows):
-        check_written(words, await caller_connection.rows(link, NOTED, words))
-    if renewed := is_renewed(words, rows):
-        await caller_connection.rows(link, RENEW, words)
-    if not own:
+    if rows and own_rows:
+        await psycopg.AsyncCursor(link).execute(BACK, {"own": [id for (id,) in own_rows]})
+    check_same(request, rows)
+    if not (own_rows or rows):
+        check_written(request, await caller_connection.rows(link, NOTED, request))
+    if renewed := has_other_definition(request, rows):
+        await caller_connection.rows(link, RENEW, request)
+    if not own_rows:
         await psycopg.AsyncCursor(link).execute(replication.REPLICATED)
-    is_new = bool(own) and not rows
+    is_new = bool(own_rows) and not rows
     return Written(is_new, is_new or renewed)
 
 
-def start_now(link: psycopg.Connection[Any], words: dict[str, Any]) -> Written:
-    """As `start`, where it stands."""
-    own = caller_connection.rows_now(link, START, words)
+def start_now(link: psycopg.Connection[Any], request: dict[str, Any]) -> Written:
+    """Write a row in a blocking transaction. See `start`."""
+    own_rows = caller_connection.rows_now(link, START, request)
     rows = caller_connection.rows_now(
-        link, THERE, {"key": words["key"], "own": [id for (id,) in own]}
+        link, EXISTING, {"key": request["key"], "own": [id for (id,) in own_rows]}
     )
-    if rows and own:
-        psycopg.Cursor(link).execute(BACK, {"own": [id for (id,) in own]})
-    check_same(words, rows)
-    if not (own or rows):
-        check_written(words, caller_connection.rows_now(link, NOTED, words))
-    if renewed := is_renewed(words, rows):
-        caller_connection.rows_now(link, RENEW, words)
-    if not own:
+    if rows and own_rows:
+        psycopg.Cursor(link).execute(BACK, {"own": [id for (id,) in own_rows]})
+    check_same(request, rows)
+    if not (own_rows or rows):
+        check_written(request, caller_connection.rows_now(link, NOTED, request))
+    if renewed := has_other_definition(request, rows):
+        caller_connection.rows_now(link, RENEW, request)
+    if not own_rows:
         psycopg.Cursor(link).execute(replication.REPLICATED)
-    is_new = bool(own) and not rows
+    is_new = bool(own_rows) and not rows
     return Written(is_new, is_new or renewed)
 
 
-class StartTeller:
-    """Tells the nodes of starts that are committed. Those that come while it does are told of
-    together; a node looks by itself as well, each second.
+class StartNotifier:
+    """Notifies nodes of committed starts.
+
+    Starts during a notification share the next one. A node also checks for starts each second.
     """
 
     def __init__(self, asker: connections.Asker) -> None:
-        self._asker, self._has_more, self._tells = asker, False, False
+        self._asker, self._has_more, self._is_sending = asker, False, False
 
-    def tell(self) -> None:
-        """There is a start."""
+    def notify(self) -> None:
+        """Notify the nodes of a start, in the background."""
         self._has_more = True
-        if not self._tells:
-            self._tells = True
-            self._asker.spawn(self._tell())
+        if not self._is_sending:
+            self._is_sending = True
+            self._asker.spawn(self._send())
 
-    async def _tell(self) -> None:
+    async def _send(self) -> None:
         try:
             while self._has_more:
                 self._has_more = False
                 with contextlib.suppress(StoreUnavailable):
                     await self._asker.ask(notifications.SAY, words=[notifications.STARTS])
         finally:
-            self._tells = False
+            self._is_sending = False
 
 
 def shape_check(saga: Saga, input: Any) -> Callable[[], object] | None:
-    """What calls the functions by which the steps of a saga come from its input, and raises what
-    they raise; None if they do not come from it."""
+    """Return a check of the steps that come from an input; None if there are none.
+
+    The check calls functions of the definition, and raises what they raise.
+    """
     if not saga.is_shaped:
         return None
     plain = serialization.write_value(input, "input")
@@ -166,17 +177,19 @@ def shape_check(saga: Saga, input: Any) -> Callable[[], object] | None:
 
 
 class ClientStarter:
-    """Writes starts, in transactions of its own or of the callers."""
+    """Writes starts, in its own transactions or in those of the callers."""
 
-    def __init__(self, asker: connections.Asker, path: str, most: int, payloads: Payloads) -> None:
+    def __init__(
+        self, asker: connections.Asker, path: str, max_connections: int, payloads: Payloads
+    ) -> None:
         self._payloads, self._tracer = payloads, tracing.tracer()
-        self._asker, self._path, self._most = asker, path, most
+        self._asker, self._path, self._max_connections = asker, path, max_connections
         self._digests: WeakKeyDictionary[Saga, str | None] = WeakKeyDictionary()
-        self._teller, self._declared = StartTeller(asker), DeclaredCalls(most)
+        self._notifier, self._declared = StartNotifier(asker), DefinitionCaller(max_connections)
         self._checked: WeakSet[caller_connection.Given] = WeakSet()
-        """connections that were given, and are to the store's database"""
+        """Connections of callers that are known to lead to the store's database."""
 
-    def words(
+    def start_request(
         self,
         saga: Saga,
         key: str,
@@ -185,69 +198,82 @@ class ClientStarter:
         deadline: Deadline | None,
         traceparent: str | None,
     ) -> dict[str, Any]:
-        """What a start writes, and of which saga. Of one without steps no digest: it says only
-        which saga is meant."""
+        """Return the columns of a start, and its definition.
+
+        A definition without steps has no digest: it only names a saga.
+        """
         arguments.key(key)
-        told = json.dumps(dict(checked(labels)))
+        labels_text = json.dumps(dict(checked(labels)))
         validation.check_given(saga)
         if saga.has_children:
             children.check_key(key, saga)
         if saga not in self._digests:  # its definition is whole by now
             self._digests[saga] = digest_of(definition_text.declared(saga)) if saga.parts else None
-        about = {"key": key, "saga": saga.name, "version": saga.version, "of": saga}
+        request = {"key": key, "saga": saga.name, "version": saga.version, "of": saga}
         plain = serialization.write_value(input, "input")
         text = self._payloads.encode(plain)
-        about |= {"payloads": self._payloads, "path": self._path}
-        about["encodes"] = self._payloads.codec is not None
-        about["traceparent"] = tracing.of_start(self._tracer, traceparent)
-        at = deadline_at(saga.deadline if deadline is None else deadline, time.time())
+        request |= {"payloads": self._payloads, "path": self._path}
+        request["encodes"] = self._payloads.codec is not None
+        request["traceparent"] = tracing.of_start(self._tracer, traceparent)
+        deadline_time = deadline_at(saga.deadline if deadline is None else deadline, time.time())
         digest = self._digests[saga]
-        return about | {"input": text, "digest": digest, "labels": told, "deadline": at}
+        return request | {
+            "input": text,
+            "digest": digest,
+            "labels": labels_text,
+            "deadline": deadline_time,
+        }
 
     async def check_shape(self, saga: Saga, input: Any) -> None:
-        """Raise what a start would be refused for by the nodes, if the steps of a saga come from
-        its input. Functions of the definition say so, in a thread."""
+        """Raise the error for which the nodes would refuse a start.
+
+        That concerns sagas with steps that come from the input. Functions of the definition decide
+        it, in a thread.
+        """
         if (check := shape_check(saga, input)) is not None:
             await self._declared.call(saga.name, check)
 
-    async def start(self, words: dict[str, Any], connection: Connection | None) -> bool:
-        """Writes a start; whether the row is there."""
+    async def start(self, request: dict[str, Any], connection: Connection | None) -> bool:
+        """Write a start; return whether its row is new."""
         if connection is None:
-            return await self._alone(words)
+            return await self._alone(request)
         store = [] if connection in self._checked else await self.database()
         with caller_connection.faults(connection, self._path):
             if store:
-                found = await caller_connection.rows(connection, caller_connection.HERE, {})
-                caller_connection.check_database(connection, found, store, self._path)
+                databases = await caller_connection.rows(connection, caller_connection.HERE, {})
+                caller_connection.check_database(connection, databases, store, self._path)
             async with caller_connection.savepoint(connection):
-                written = await start(connection, words)
-                if written.tells:
-                    await psycopg.AsyncCursor(connection).execute(TELL)
+                written = await start(connection, request)
+                if written.must_notify:
+                    await psycopg.AsyncCursor(connection).execute(NOTIFY)
         self._checked.add(connection)
         return written.is_new
 
     def start_now(
-        self, words: dict[str, Any], connection: psycopg.Connection[Any], ask: AskDatabase
+        self, request: dict[str, Any], connection: psycopg.Connection[Any], ask: AskDatabase
     ) -> bool:
-        """As `start`, in the transaction of a plain connection, in this thread."""
+        """Write a start in the transaction of a blocking connection. See `start`."""
         store = [] if connection in self._checked else ask(self.database())
         with caller_connection.faults(connection, self._path):
             if store:
-                found = caller_connection.rows_now(connection, caller_connection.HERE, {})
-                caller_connection.check_database(connection, found, store, self._path)
+                databases = caller_connection.rows_now(connection, caller_connection.HERE, {})
+                caller_connection.check_database(connection, databases, store, self._path)
             with caller_connection.savepoint_now(connection):
-                written = start_now(connection, words)
-                if written.tells:
-                    psycopg.Cursor(connection).execute(TELL)
+                written = start_now(connection, request)
+                if written.must_notify:
+                    psycopg.Cursor(connection).execute(NOTIFY)
         self._checked.add(connection)
         return written.is_new
 
-    async def _alone(self, words: dict[str, Any]) -> bool:
-        """A start in a transaction of its own. Connections that the server has ended meanwhile are
-        tried past, all that there may be: a start that is made twice is one, by its key."""
-        for left in reversed(range(self._most + 1)):
+    async def _alone(self, request: dict[str, Any]) -> bool:
+        """Write a start in its own transaction.
+
+        It retries over connections that the server has ended, up to the size of the pool. A
+        repeated start has no further effect, because of its key.
+        """
+        for left in reversed(range(self._max_connections + 1)):
             try:
-                return await self._asker.whole(self._begin(words))
+                return await self._asker.whole(self._begin(request))
             except StoreUnavailable as error:
                 if isinstance(error.__cause__, (TimeoutError, psycopg.errors.QueryCanceled)):
                     raise StoreUnavailable(f"{error}. {UNSURE}") from error.__cause__
@@ -255,19 +281,22 @@ class ClientStarter:
                     raise
         raise AssertionError
 
-    async def _begin(self, words: dict[str, Any]) -> bool:
+    async def _begin(self, request: dict[str, Any]) -> bool:
         async with self._asker.connection() as link, link.transaction():
-            written = await start(link, words)
-        if written.tells:
-            self._teller.tell()
+            written = await start(link, request)
+        if written.must_notify:
+            self._notifier.notify()
         return written.is_new
 
     def close(self) -> None:
-        """Call no functions of definitions any more."""
+        """Stop calling functions of definitions."""
         self._declared.close()
 
     async def database(self) -> list[Row]:
-        """Which database the store is in; nothing where this role may not know."""
+        """Return the identity of the store's database.
+
+        It is empty if this role may not read it.
+        """
         try:
             return await self._asker.read(caller_connection.HERE)
         except StoreUnavailable as error:

@@ -33,26 +33,30 @@ from sagas.storage import operator_requests
 
 
 class Commands:
-    """Carries them out where the saga is driven here, and hands them to its node where it is not.
+    """Executes commands for sagas of this node, and hands others over to their nodes.
 
-    `of`: the saga's id, where no later one of its key is meant."""
+    In its methods, `of` is the id of the saga, if a later saga with the same key is not meant.
+    """
 
     def __init__(self, access: StoreAccess, lookup: SagaLookup) -> None:
         self._access, self._lookup = access, lookup
 
-    def noted(
-        self, key: str, what: str, by: str | None, note: str | None, **more: Any
+    def command_row(
+        self, key: str, command: str, by: str | None, note: str | None, **arguments: Any
     ) -> Asked | None:
-        """What is kept of somebody's command; nothing where nobody is named."""
+        """Return the stored row of a command; None if no requester is named."""
         if by is None:
             return None
-        text = serialization.write({"by": by, "note": note, **more})
-        return key, what, text, self._access.inside.clock()
+        text = serialization.write({"by": by, "note": note, **arguments})
+        return key, command, text, self._access.coordinator.clock()
 
     async def abort(self, key: str, request: Wanted, of: int | None = None) -> bool:
-        """Aborts a saga. False where it is over, or was aborted before. Raises `NotAbortable`."""
+        """Abort a saga; return False if it has ended, or was aborted before.
+
+        Raises `NotAbortable`.
+        """
         while True:
-            inside = self._access.inside
+            coordinator = self._access.coordinator
             live = await self._lookup.live(key)
             if live is None and key in self._lookup.finding:
                 await asyncio.shield(self._lookup.finding[key])
@@ -62,15 +66,15 @@ class Commands:
                 if row.phase is not None:
                     return False
                 children.check_abortable(key)
-                if key in inside.sagas.by_key:
+                if key in coordinator.sagas.by_key:
                     continue
                 return bool(await self._hand_over(row, "abort", None, request))
             try:
-                await inside.sagas.started(live)
-            except KeyConflict:  # it was to be started otherwise than it was
+                await coordinator.sagas.started(live)
+            except KeyConflict:  # another saga has the key
                 continue
             _check_is(live, of)
-            is_here = inside.sagas.by_key.get(key) is live  # its end is not in the store yet
+            is_here = coordinator.sagas.by_key.get(key) is live  # its end is not stored yet
             if live.shard is None or (live.over and not is_here):
                 if live.over or is_here:
                     return False
@@ -78,19 +82,20 @@ class Commands:
             if not live.over:
                 children.check_abortable(key)
             try:
-                return await inside.shards.abort(live, request)
+                return await coordinator.shards.abort(live, request)
             except Moved:
                 continue
 
-    async def _hand_over(self, row: SagaRow, what: str, told: Any, request: Wanted) -> Any:
-        """Asks the node that has the saga. What was asked here by a row is that node's to
-        answer.
+    async def _hand_over(self, row: SagaRow, command: str, arguments: Any, request: Wanted) -> Any:
+        """Ask the node that has the saga.
+
+        That node itself executes a stored command.
         """
         if isinstance(request, int):
             raise Moved(f"saga {row.key!r}")
-        value = serialization.write(told) if request is None else request[2]
-        inside = self._access.inside
-        answer = await inside.store.ask(row, what, value, inside.shelf.payloads)
+        value = serialization.write(arguments) if request is None else request[2]
+        coordinator = self._access.coordinator
+        answer = await coordinator.store.ask(row, command, value, coordinator.registry.payloads)
         return operator_requests.told(answer)
 
     async def report(
@@ -103,7 +108,10 @@ class Commands:
         of: int | None = None,
         early: bool = True,
     ) -> None:
-        """Says how a step ended, or its compensation. `early`: also of one that has not begun."""
+        """Report the outcome of a step or of its compensation.
+
+        With `early`, steps that have not started are included.
+        """
         kind = "undo" if undo else "run"
         while True:
             live = await self._lookup.live(key)
@@ -112,19 +120,21 @@ class Commands:
                 if row.phase is not None:
                     await self._check_kept(row, step, kind, outcome)
                     return
-                if key not in self._access.inside.sagas.by_key:
-                    payloads = self._access.inside.shelf.payloads
-                    what, told = operator_commands.report_of(step, kind, outcome, early, payloads)
-                    await self._hand_over(row, what, told, request)
+                if key not in self._access.coordinator.sagas.by_key:
+                    payloads = self._access.coordinator.registry.payloads
+                    command, arguments = operator_commands.report_command(
+                        step, kind, outcome, early, payloads
+                    )
+                    await self._hand_over(row, command, arguments, request)
                     return
                 continue
             if of is not None and not live.committed:
-                with contextlib.suppress(SagasError):  # its start hears of it
-                    await self._access.inside.sagas.started(live)
+                with contextlib.suppress(SagasError):  # its start raises that
+                    await self._access.coordinator.sagas.started(live)
                 continue
             _check_is(live, of)
             try:
-                attempt = await self._asked(live, step, kind, outcome)
+                attempt = await self._reported_attempt(live, step, kind, outcome)
                 if isinstance(attempt, Attempt):
                     await self._report_here(attempt, outcome, request)
                 elif attempt is not None:
@@ -136,7 +146,7 @@ class Commands:
     async def retry(
         self, key: str, step: str, undo: bool, request: Wanted, of: int | None = None
     ) -> None:
-        """Has an attempt called again that waits for a person, or for its time."""
+        """Retry an attempt that waits for an operator, or for its next time."""
         kind = "undo" if undo else "run"
         while True:
             live = await self._lookup.live(key)
@@ -144,7 +154,7 @@ class Commands:
                 row = await self._lookup.row(key, of)
                 if row.phase is not None:
                     raise step_reports.over(row)
-                if key not in self._access.inside.sagas.by_key:
+                if key not in self._access.coordinator.sagas.by_key:
                     await self._hand_over(row, "retry", {"step": step, "kind": kind}, request)
                     return
                 continue
@@ -154,74 +164,78 @@ class Commands:
                 raise StepNotWaiting(f"saga {key!r} has no step {step!r}{meant(step, names)}")
             attempt = live.busy.get((names.index(step), kind))
             while attempt is not None and attempt.pending:
-                await self._access.inside.executor.changes.wait(attempt)
-                self._access.inside  # raises, where it was closed meanwhile
-            if self._access.inside.sagas.by_key.get(key) is not live:
-                continue  # its shard was lost meanwhile
+                await self._access.coordinator.executor.changes.wait(attempt)
+                self._access.coordinator  # raises if it was closed in the meantime
+            if self._access.coordinator.sagas.by_key.get(key) is not live:
+                continue  # its shard was lost in the meantime
             if attempt is not None and live.busy.get(attempt.word) is not attempt:
                 continue
             if attempt is None or not exhaustion.may_retry(attempt):
-                why = "nothing of it failed that waits"
+                why = "it has no failed attempt that waits for a retry"
                 if attempt is not None:
-                    why = progress.described(attempt, self._access.inside.clock())
-                raise StepNotWaiting(f"saga {key!r}, step {step!r} is not to be retried: {why}")
+                    why = progress.described(attempt, self._access.coordinator.clock())
+                raise StepNotWaiting(f"saga {key!r}, step {step!r} cannot be retried: {why}")
             try:
-                await self._access.inside.executor.retry(attempt, request)
+                await self._access.coordinator.executor.retry(attempt, request)
                 return
             except Moved:
                 continue
 
     async def _report_here(self, attempt: Attempt, outcome: Outcome, request: Wanted) -> None:
-        """Reports an attempt that is under way here. Raises `Moved` where it is over by now, or is
-        not here any more: the answer never rests on what the store may lack.
+        """Report an attempt that is in progress here.
+
+        Raises `Moved` if it has ended, or is not here any more. The reply never relies on a state
+        that may not be stored.
         """
-        inside, key, step = self._access.inside, attempt.instance.key, attempt.name
+        coordinator, key, step = self._access.coordinator, attempt.instance.key, attempt.name
         is_checked = not child_reports.is_of_child(attempt, outcome)
         while not (is_checked and attempts.is_asked(attempt)):
             if attempts.is_asked(attempt):
-                await child_reports.check(inside.store.read, attempt, outcome)
+                await child_reports.check(coordinator.store.read, attempt, outcome)
                 is_checked = True
                 continue
-            is_over = await inside.executor.until_kept(attempt)
+            is_over = await coordinator.executor.until_kept(attempt)
             is_here = attempt.instance.busy.get(attempt.word) is attempt
-            if is_over or not is_here or inside.sagas.by_key.get(key) is not attempt.instance:
-                raise Moved(f"saga {key!r}")  # what the store has of it counts
+            if is_over or not is_here or coordinator.sagas.by_key.get(key) is not attempt.instance:
+                raise Moved(f"saga {key!r}")  # the stored outcome counts
             if attempt is current_step.waiter(
-                inside.executor.calls.running
+                coordinator.executor.calls.running
             ) and attempts.will_be_asked(attempt):
                 raise WouldWaitForever(
                     f"step {step!r} of saga {key!r} reports itself before it waits for a report. "
                     "Return sagas.Approved(result) or sagas.Rejected(why) instead"
                 )
             if not attempts.will_be_asked(attempt):
-                why = progress.described(attempt, inside.clock())
+                why = progress.described(attempt, coordinator.clock())
                 raise StepNotWaiting(
                     f"saga {key!r}, step {step!r} does not wait for a report: {why}"
                 )
-            await inside.executor.changes.wait(attempt)
-            self._access.inside  # raises, where it was closed meanwhile
+            await coordinator.executor.changes.wait(attempt)
+            self._access.coordinator  # raises if it was closed in the meantime
         if request is not None:
             attempt.rare.request = request
-        kept = inside.executor.kept.wait(attempt)
-        inside.executor.finish(attempt, outcome)
+        kept = coordinator.executor.kept.wait(attempt)
+        coordinator.executor.finish(attempt, outcome)
         await kept
 
-    async def _asked(
+    async def _reported_attempt(
         self, live: SagaInstance, step: str, kind: str, outcome: Outcome
     ) -> Attempt | Word | None:
-        """The attempt that is under way; the step's word where none has begun; None where it was
-        said before that the step ended so. Raises `Moved` where its end is on its way to the
-        store."""
+        """Return the attempt to report; the key of the action if none has started.
+
+        Returns None if the same outcome was reported before. Raises `Moved` if its end is being
+        stored.
+        """
         if step not in live.kind.names:
             raise StepNotWaiting(
                 f"saga {live.key!r} has no step {step!r}{meant(step, live.kind.names)}"
             )
-        inside, word = self._access.inside, (live.kind.names.index(step), kind)
+        coordinator, word = self._access.coordinator, (live.kind.names.index(step), kind)
         attempt = live.busy.get(word)
         if attempt is not None and word not in live.rare.final:
             return attempt
         is_there = live.shard is not None and live.committed
-        rows = await inside.store.read(step_reports.RESULTS, live.id) if is_there else []
+        rows = await coordinator.store.read(step_reports.RESULTS, live.id) if is_there else []
         first = step_reports.first_of(rows, *word)
         if first is None and attempt is not None:
             return attempt
@@ -235,66 +249,74 @@ class Commands:
         return word
 
     async def _check_not_begun(self, live: SagaInstance, word: Word) -> None:
-        """Raises `Moved` where an attempt of it began since the store was read, or its report is
-        on its way there."""
-        inside = self._access.inside
+        """Raise `Moved` if an attempt has started since the store was read.
+
+        That includes an attempt whose report is being stored.
+        """
+        coordinator = self._access.coordinator
         unkept = live.shard.unkept() if live.shard else ()
-        attempt = next((one for one in unkept if one.instance is live and one.word == word), None)
+        attempt = next(
+            (other for other in unkept if other.instance is live and other.word == word), None
+        )
         if attempt is not None:
-            await inside.executor.until_kept(attempt)
+            await coordinator.executor.until_kept(attempt)
         is_known = word[0] in live.results or word in live.busy or word in live.rare.final
-        is_here = inside.sagas.by_key.get(live.key) is live
+        is_here = coordinator.sagas.by_key.get(live.key) is live
         if attempt is not None or not is_here or (is_known and word[1] == Action.RUN):
             raise Moved(f"saga {live.key!r}")
 
     async def _report_early(
         self, live: SagaInstance, word: Word, outcome: Outcome, request: Wanted, early: bool
     ) -> None:
-        """Stores a report of a step that has not begun. Raises `StepNotWaiting`, or `Moved` where
-        that is to be looked at again."""
-        inside, key, step = self._access.inside, live.key, live.kind.names[word[0]]
+        """Store a report of a step that has not started.
+
+        Raises `StepNotWaiting`, or `Moved` if the caller has to check again.
+        """
+        coordinator, key, step = self._access.coordinator, live.key, live.kind.names[word[0]]
         first = early_reports.stored(live, word)
         why = early_reports.refusal(live, *word) if early else early_reports.NOT_STARTED
         if why is not None and first is None:
             if live.shard is not None and live.committed:
-                await inside.executor.early.put(Refusal(live))
+                await coordinator.executor.early.put(Refusal(live))
             raise StepNotWaiting(f"saga {key!r}, step {step!r}: {why}")
         if first is not None:
-            if (kept := inside.executor.early.waiting(live, word)) is not None:
+            if (kept := coordinator.executor.early.waiting(live, word)) is not None:
                 await asyncio.shield(kept)
-            told, payloads = early_reports.STORED, live.kind.payloads
-            step_reports.check(key, step, first, outcome, told, payloads)
+            reason, payloads = early_reports.STORED, live.kind.payloads
+            step_reports.check(key, step, first, outcome, reason, payloads)
         elif live.shard is None or not live.committed:
-            with contextlib.suppress(KeyConflict):  # it is another saga's key
-                await inside.sagas.started(live)
+            with contextlib.suppress(KeyConflict):  # another saga has the key
+                await coordinator.sagas.started(live)
             raise Moved(f"saga {key!r}")
         else:
-            await inside.executor.early.put(EarlyReport(live, word, outcome, request))
+            await coordinator.executor.early.put(EarlyReport(live, word, outcome, request))
 
     async def resolve(self, key: str, note: str, by: str | None) -> None:
-        """Mark a saga as seen to by a person."""
-        inside, row = self._access.inside, await self._lookup.row(key)
+        """Mark a saga as resolved by an operator."""
+        coordinator, row = self._access.coordinator, await self._lookup.row(key)
         note = serialization.clean(note)
-        unused = await inside.store.read(attention.UNUSED, row.id)
+        unused = await coordinator.store.read(attention.UNUSED, row.id)
         if not attention.is_to_resolve(row, note, bool(unused)):
             return
-        batch, told = Batch(-1, inside.clock()), serialization.write({"by": by, "note": note})
+        batch, value = Batch(-1, coordinator.clock()), serialization.write({"by": by, "note": note})
         batch.more.notes.append((note, row.id))
-        batch.answer((key, "resolve", told, inside.clock()), "true")
-        await inside.kept(batch)
-        inside.executor.children.look()
+        batch.answer((key, "resolve", value, coordinator.clock()), "true")
+        await coordinator.kept(batch)
+        coordinator.executor.children.look()
 
     async def _check_kept(self, row: SagaRow, step: str, kind: str, outcome: Outcome) -> None:
-        """Of a saga that is over: raises `StepNotWaiting` where it was not said before that the
-        step ended so."""
-        inside = self._access.inside
-        names = inside.shelf.kind((await inside.store.known(row)).definition).names
-        payloads = inside.shelf.payloads
-        await check_again(inside.store.read, row, names, (step, kind), outcome, payloads)
+        """Check a report of a saga that has ended, by the reported outcome.
+
+        Raises `StepNotWaiting` and `ConflictingReport`.
+        """
+        coordinator = self._access.coordinator
+        names = coordinator.registry.kind((await coordinator.store.known(row)).definition).names
+        payloads = coordinator.registry.payloads
+        await check_again(coordinator.store.read, row, names, (step, kind), outcome, payloads)
 
 
 def _over(live: SagaInstance, rows: Iterable[tuple[Any, ...]], word: Word) -> str | None:
-    """How a step ended of which no attempt is under way; None where it has not."""
+    """Return how a step without a running attempt ended; None if it has not ended."""
     over = step_reports.over_by(rows, *word)
     undo = live.busy.get((word[0], "undo")) if over and word[1] == "run" else None
     if over and undo and attempts.is_asked(undo):
@@ -303,6 +325,8 @@ def _over(live: SagaInstance, rows: Iterable[tuple[Any, ...]], word: Word) -> st
 
 
 def _check_is(live: SagaInstance, of: int | None) -> None:
-    """Raises `NoSuchSaga` where something was asked of the saga with that id, and not of this."""
+    """Raise `NoSuchSaga` if a command was for another saga with the same key."""
     if of is not None and (live.shard is None or live.id != of):
-        raise NoSuchSaga(f"no saga has the key {live.key!r} that this request was for")
+        raise NoSuchSaga(
+            f"the saga with the key {live.key!r} that this request was for does not exist any more"
+        )

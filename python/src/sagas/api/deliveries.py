@@ -1,4 +1,4 @@
-"""The calls of a store for who posts to webhooks."""
+"""The calls of a store for processes that post to webhooks."""
 
 from __future__ import annotations
 
@@ -14,68 +14,68 @@ from sagas.storage.deliveries import Claimed, Posted
 
 
 class Deliveries:
-    """Hand out what webhooks are told. Made by `Store.deliveries`.
+    """Hand out deliveries for webhooks. Made by `Store.deliveries`.
 
-    A delivery is stored in the commit of what it tells of. Make all calls in the event loop in
-    which the store was opened; each raises `StoreUnavailable` and `Closed`.
+    A delivery is stored in the commit of its event. Make all calls in the event loop in which the
+    store was opened. Each call can raise `StoreUnavailable` and `Closed`.
     """
 
-    def __init__(self, access: StoreAccess, shelf: Shelf) -> None:
-        self._access, self._shelf = access, shelf
+    def __init__(self, access: StoreAccess, registry: Shelf) -> None:
+        self._access, self._registry = access, registry
 
     @property
     def _table(self) -> table.Deliveries:
-        return self._access.inside.store.external.deliveries
+        return self._access.coordinator.store.external.deliveries
 
     def announce(self, hooks: Callable[[str], Hooks]) -> None:
-        """Have deliveries stored. Without this call there are none.
+        """Have deliveries stored. Without this call, none are stored.
 
         Args:
-            hooks: Returns the webhooks that are told of a saga's name, by type.
+            hooks: Returns the webhooks for a saga's name, by type.
         """
-        self._shelf.announce(hooks)
+        self._registry.announce(hooks)
 
     async def claim(self, webhook: str, limit: int, lease: float) -> builtins.list[Claimed]:
         """Claim deliveries that are due, the longest due first.
 
         Args:
-            webhook: Its name.
-            limit: Maximum number.
-            lease: Seconds for which nobody else claims them.
+            webhook: The name of the webhook.
+            limit: Maximum number of deliveries.
+            lease: Seconds for which no other process claims them.
         """
-        words = {"webhook": webhook, "most": limit, "lease": lease}
-        rows = await self._table.change(table.CLAIM, **words)
-        found = [Claimed(*row) for row in rows]
-        if record := self._access.inside.store.record:
-            for one in found:
-                if one.type in ENDS:
-                    record.seen(one.saga, "webhook")
-        return found
+        parameters = {"webhook": webhook, "most": limit, "lease": lease}
+        rows = await self._table.change(table.CLAIM, **parameters)
+        claimed = [Claimed(*row) for row in rows]
+        if record := self._access.coordinator.store.record:
+            for delivery in claimed:
+                if delivery.type in ENDS:
+                    record.seen(delivery.saga, "webhook")
+        return claimed
 
     async def settle(self, id: str, attempts: int, posted: Posted) -> bool:
-        """Store how a post went.
+        """Store the outcome of a post.
 
         Args:
             id: The delivery.
-            attempts: As it was claimed.
-            posted: How it went.
+            attempts: The number of attempts of the claim.
+            posted: The outcome.
 
         Returns:
-            False if it was claimed again meanwhile, and nothing was stored.
+            False if the delivery was claimed again in the meantime, and nothing was stored.
         """
-        words = posted._asdict() | {"id": id, "attempts": attempts}
-        return bool(await self._table.change(table.SETTLE, **words))
+        parameters = posted._asdict() | {"id": id, "attempts": attempts}
+        return bool(await self._table.change(table.SETTLE, **parameters))
 
     async def due(self, webhook: str) -> float | None:
-        """Return in how many seconds the next one of a webhook is due; None if none is pending."""
+        """Return the seconds until the next delivery is due; None if none is pending."""
         rows = await self._table.ask(table.NEXT, webhook=webhook)
         return None if rows[0][0] is None else float(rows[0][0])
 
     async def redeliver(self, id: str) -> bool:
-        """Have a delivery posted again, with all its attempts. Return False if there is none."""
+        """Post a delivery again, with all its attempts. Return False if it does not exist."""
         return bool(await self._table.change(table.REDELIVER, id=id))
 
     async def forget(self, delivered: float, failed: float) -> int:
-        """Delete old ones, by the seconds since what they tell of. Return how many."""
-        words = {"delivered": delivered, "failed": failed}
-        return len(await self._table.change(table.FORGET, **words))
+        """Delete old deliveries, by the seconds since their events. Return how many."""
+        parameters = {"delivered": delivered, "failed": failed}
+        return len(await self._table.change(table.FORGET, **parameters))

@@ -1,4 +1,4 @@
-"""Blocking calls over coroutines: a loop in a thread of its own runs them."""
+"""Blocking calls of async objects, whose event loop runs in its own thread."""
 
 from __future__ import annotations
 
@@ -15,7 +15,7 @@ T = TypeVar("T")
 
 
 class Facade(Generic[A_co]):
-    """The calls of an object that is used in a loop, from any thread."""
+    """The calls of an object in an event loop, for any thread."""
 
     def __init__(self, inner: A_co, loop: Loop) -> None:
         self._inner, self._loop = inner, loop
@@ -24,23 +24,25 @@ class Facade(Generic[A_co]):
 def blocking(
     method: Callable[Concatenate[A, P], Coroutine[Any, Any, T]]
 ) -> Callable[Concatenate[Facade[A], P], T]:
-    """Make a method that does the same without async: it waits for the loop's thread."""
+    """Return a blocking method for an async one. It waits for the loop's thread."""
 
     @functools.wraps(method)
-    def call(self: Facade[A], /, *args: P.args, **words: P.kwargs) -> T:
-        return self._loop.do(method(self._inner, *args, **words))
+    def call(self: Facade[A], /, *args: P.args, **kwargs: P.kwargs) -> T:
+        return self._loop.do(method(self._inner, *args, **kwargs))
 
     return call
 
 
-def asked(method: Callable[Concatenate[A, P], T]) -> Callable[Concatenate[Facade[A], P], T]:
-    """The same of a plain method, which is called in the loop's thread."""
+def blocking_plain(
+    method: Callable[Concatenate[A, P], T]
+) -> Callable[Concatenate[Facade[A], P], T]:
+    """Return a method that calls a plain one in the loop's thread."""
 
     @functools.wraps(method)
-    def call(self: Facade[A], /, *args: P.args, **words: P.kwargs) -> T:
-        async def ask() -> T:
-            return method(self._inner, *args, **words)
+    def call(self: Facade[A], /, *args: P.args, **kwargs: P.kwargs) -> T:
+        async def run() -> T:
+            return method(self._inner, *args, **kwargs)
 
-        return self._loop.do(ask())
+        return self._loop.do(run())
 
     return call

@@ -16,31 +16,33 @@ from sagas.runtime import current_step
 
 T = TypeVar("T")
 SOON = 2.0
-"""Seconds that a loop has to say what a saga waits for, or to end what still runs."""
+"""Seconds to find out what a saga waits for, or to end tasks that still run."""
 
 
 class Loop:
-    """Runs what other threads ask for. `where` and `what` it is for, and `remedy`, are what they
-    hear while it does not run.
+    """An event loop in its own thread, which runs coroutines of other threads.
+
+    While it does not run, its calls raise `Closed` with `path`, `subject` and `remedy`.
     """
 
-    def __init__(self, where: str, what: str, remedy: str) -> None:
-        self.where, self._closed = where, f"{what} {remedy}"
-        self._opened = Opened(what)
+    def __init__(self, path: str, subject: str, remedy: str) -> None:
+        self.path, self._closed = path, f"{subject} {remedy}"
+        self._opened = Opened(subject)
         self._loop: asyncio.AbstractEventLoop | None = None
-        self._asked: set[concurrent.futures.Future[Any]] = set()
+        self._pending: set[concurrent.futures.Future[Any]] = set()
         self._guard = threading.Lock()
 
     @property
     def runs(self) -> bool:
-        """Whether it runs, in this process."""
+        """Whether the loop runs in this process."""
         return self._loop is not None and not self._opened.is_elsewhere
 
     def start(self) -> None:
-        """Starts the thread. Raises `RuntimeError` where it runs, and `Closed` where it does in
-        the process that this one was forked from.
+        """Start the thread.
+
+        Raises `RuntimeError` if it runs, and `Closed` if it runs in the parent of this process.
         """
-        self._opened.begin(self.where)
+        self._opened.begin(self.path)
         self._loop = asyncio.new_event_loop()
         self._thread = threading.Thread(
             target=self._loop.run_forever, name="sagas-loop", daemon=True
@@ -48,38 +50,39 @@ class Loop:
         self._thread.start()
 
     def end(self) -> None:
-        """Ends it. Calls of other threads that still wait raise `Closed`."""
+        """End the thread. Pending calls of other threads raise `Closed`."""
         with self._guard:
             loop, self._loop = self._loop, None
-        if loop is None:  # another thread has ended it
+        if loop is None:  # another thread has ended the loop
             return
         asyncio.run_coroutine_threadsafe(_finish(loop), loop).result()
         loop.call_soon_threadsafe(loop.stop)
         self._thread.join()
         loop.close()
-        for future in [*self._asked]:
+        for future in [*self._pending]:
             future.cancel()
         self._opened.end()
 
     def do(self, work: Coroutine[Any, Any, T], timeout: float | None = None) -> T:
-        """Does it, and gives what it gives, or raises what it raises; `TimeoutError` after so
-        many seconds. Raises `RuntimeError` in the loop's own thread, which would wait for
-        itself.
+        """Run a coroutine in the loop; return or raise its outcome.
+
+        Raises `TimeoutError` after `timeout` seconds. Raises `RuntimeError` in the loop's own
+        thread, which would wait for itself.
         """
         with self._guard:
             loop = self._loop if self.runs else None
             if loop and threading.current_thread() is not self._thread:
                 with current_step.blocking():
                     future = asyncio.run_coroutine_threadsafe(work, loop)
-                self._asked.add(future)
+                self._pending.add(future)
         if loop is None:
             work.close()
-            self._opened.check(self.where)
+            self._opened.check(self.path)
             raise self._is_closed()
         if threading.current_thread() is self._thread:
             work.close()
             raise RuntimeError(
-                f"{self.where}: the call would wait for its own event loop. Make the function "
+                f"{self.path}: the call would wait for its own event loop. Make the function "
                 "a plain def, or use the async API"
             )
         try:
@@ -92,10 +95,10 @@ class Loop:
             future.cancel()
             raise
         finally:
-            self._asked.discard(future)
+            self._pending.discard(future)
 
     def _is_closed(self) -> Closed:
-        return Closed(f"{self.where}: {self._closed}")
+        return Closed(f"{self.path}: {self._closed}")
 
     def in_time(
         self,
@@ -104,20 +107,20 @@ class Loop:
         timeout: float | None,
         waits: Callable[[], Coroutine[Any, Any, list[str]]],
     ) -> T:
-        """As `do`, for who waits for a saga: the `TimeoutError` says what the saga `waits` for."""
+        """Run a coroutine that waits for a saga; a timeout says what the saga waits for."""
         try:
             return self.do(work, timeout)
         except TimeoutError:
             if timeout is None:
                 raise
-        found: list[str] = []
-        with contextlib.suppress(Exception):  # the loop may be held up
-            found = self.do(waits(), SOON)
-        raise pending.still_open(key, timeout, found)
+        waited_for: list[str] = []
+        with contextlib.suppress(Exception):  # the loop may be blocked
+            waited_for = self.do(waits(), SOON)
+        raise pending.still_open(key, timeout, waited_for)
 
 
 async def _finish(loop: asyncio.AbstractEventLoop) -> None:
-    """Cancel all that still runs in a loop, and wait until it has ended."""
+    """Cancel all tasks of a loop, and wait until they have ended."""
     tasks = asyncio.all_tasks(loop) - {asyncio.current_task(loop)}
     for task in tasks:
         task.cancel()

@@ -55,8 +55,8 @@ def open(
             node ends, the others execute its sagas.
         sagas: The definitions, at least one.
         concurrency: Maximum number of functions that run at once (default: 16). Steps that wait for
-            a time or a person take no slot.
-        accept_new: Whether to start new sagas (default: True); if not, only open ones go on.
+            a time or for a decision take no slot.
+        accept_new: Whether to start new sagas (default: True). If not, only open ones continue.
         engine_processes: Maximum number of engine processes (default: 16).
         threads: Maximum number of plain functions that run at once (default: `concurrency`).
             Functions of definitions, such as `when` and `until`, have as many threads, at least 4.
@@ -68,19 +68,19 @@ def open(
         program: Path of the program `sagas` (default: the one of the package).
         node: This node's name (default: of host and process). A node that restarts under its name
             gets its sagas back at once.
-        lease: Seconds, or a timedelta, without a sign of a node after which other nodes execute its
-            sagas (default: 10).
-        retention: A timedelta for which ended sagas are kept (default: without end). They are
+        lease: Seconds, or a timedelta, without a heartbeat of a node after which other nodes
+            execute its sagas (default: 10).
+        retention: A timedelta for which ended sagas are kept (default: without limit). They are
             deleted by whole shards; then their keys are free again.
-        archive_dir: A folder to which each shard is written before it is deleted.
+        archive_dir: A directory to which each shard is written before it is deleted.
         context: What functions get as `task.context` (default: none): an object; or a function that
-            returns a context manager, which is entered with the store and left with it.
-        codec: What encodes inputs and results before they are stored, for example to encrypt them
+            returns a context manager, which is entered and left together with the store.
+        codec: Encodes inputs and results before they are stored, for example to encrypt them
             (default: they are stored as JSON).
         blobs: Where inputs and results over `blob_threshold` are kept (default: in the database).
         blob_threshold: Bytes of a value, as it is stored (default: 65,536).
-        record: PostgreSQL only: a file to which the node adds the answers to its commits and what
-            it acknowledges, for `sagas store URL record` (default: the one that the
+        record: PostgreSQL only: a file to which the node adds the replies to its commits and its
+            acknowledgements, for `sagas store URL record` (default: the one that the
             environment variable `SAGAS_RECORD` names, if any).
 
     Returns:
@@ -103,28 +103,27 @@ def open(
           undone    charge
           failed    send: sagas.Fail: sold out
     """
-    words = locals()
-    store = Store(**words)
-    store.opened_with = words
+    options = locals()
+    store = Store(**options)
+    store.opened_with = options
     return store
 
 
 def _without_async(make: Callable[P, Store]) -> Callable[P, SyncStore]:
     @functools.wraps(make)
-    def open_sync(*args: P.args, **words: P.kwargs) -> SyncStore:
-        return SyncStore(make(*args, **words))
+    def open_sync(*args: P.args, **kwargs: P.kwargs) -> SyncStore:
+        return SyncStore(make(*args, **kwargs))
 
     signature = inspect.signature(make)
-    told = (make.__doc__ or "").partition("\n")[2].partition("Example:")[0].rstrip()
-    told = told.replace("`async with`", "`with`")
+    details = (make.__doc__ or "").partition("\n")[2].partition("Example:")[0].rstrip()
+    details = details.replace("`async with`", "`with`")
     vars(open_sync)["__signature__"] = signature.replace(return_annotation="SyncStore")
     open_sync.__annotations__ = {**make.__annotations__, "return": "SyncStore"}
     open_sync.__name__ = open_sync.__qualname__ = "open_sync"
-    open_sync.__doc__ = (
-        f'Open a store without async: `with sagas.open_sync("trips.db", [trip]) as store`.\n{told}'
-    )
+    summary = 'Open a store without async: `with sagas.open_sync("trips.db", [trip]) as store`.'
+    open_sync.__doc__ = f"{summary}\n{details}"
     return open_sync
 
 
 open_sync = _without_async(open)
-"""As `open`, for programs without async: a thread has the loop."""
+"""The blocking version of `open`: the loop runs in its own thread."""

@@ -1,4 +1,4 @@
-"""The operator calls of an open store: one saga, or all of a filter."""
+"""The operator calls of an open store, for one saga or all sagas of a filter."""
 
 from __future__ import annotations
 
@@ -18,7 +18,7 @@ from sagas.runtime import operator_commands
 
 
 class Operators(Questions):
-    """The calls by which people change what a saga does."""
+    """The calls by which operators change what a saga does."""
 
     def __init__(self, access: StoreAccess, name: str) -> None:
         super().__init__(access)
@@ -28,21 +28,22 @@ class Operators(Questions):
         self._reports = UnusedReports(access, self._lookup)
 
     def _stored(self) -> Payloads:
-        return self._access.inside.shelf.payloads
+        return self._access.coordinator.registry.payloads
 
     def _location(self) -> str:
-        self._access.here()
+        self._access.coordinator_here()
         return self._name
 
     async def abort(self, key: str, *, by: str | None = None, note: str | None = None) -> bool:
         """Abort a saga: start no more of its steps, and undo by a least-cost plan.
 
-        A client's start that no node has begun is withdrawn.
+        A client's start that no node has opened is withdrawn.
 
         Args:
             key: The saga's key.
-            by: Who asks for it. If given, the store keeps the command with `note` and the time.
-            note: Why.
+            by: The person or program that requests it. If given, the store keeps the command with
+                `note` and the time.
+            note: The reason.
 
         Returns:
             False if the saga had ended, or was aborted before.
@@ -54,8 +55,8 @@ class Operators(Questions):
             StoreUnavailable: The database does not answer.
             Closed: The store is closed.
         """
-        self._access.here()
-        return await self._commands.abort(key, self._commands.noted(key, "abort", by, note))
+        self._access.coordinator_here()
+        return await self._commands.abort(key, self._commands.command_row(key, "abort", by, note))
 
     async def complete(
         self,
@@ -71,29 +72,30 @@ class Operators(Questions):
         """Report that a step succeeded: an approval, an external or an unknown one.
 
         When it returns, the report is durable. The same report again is not an error, also after
-        the saga has ended. If an approval or an external step has not begun, its report is stored:
-        the step takes it when it begins, and calls no function. If the saga ends without the
-        step, the report is in `attention` (see `compensate`).
+        the saga has ended. If an approval or an external step has not started, its report is
+        stored. The step takes it when it starts, and calls no function. If the saga ends without
+        the step, the report is in `attention` (see `compensate`).
 
         A step that starts a child is completed with a `ChildResult`: `{"key": "t/:stay", "phase":
         "completed", "results": {"room": 7}}`. The key is that of a child which this step started
-        and which has ended; a compensation undoes what is left of it. With None as the key, there
-        is no child, and nothing to undo.
+        and which has ended. A compensation undoes what remains of that child. With None as the key,
+        there is no child, and nothing to undo.
 
         Args:
             key: The saga's key.
             step: The step, or its name.
             result: The step's result, as JSON (default: None).
-            undo: Whether the step's compensation is meant (default: False). It is reported once it
-                has begun.
-            early: Whether a step may be reported before it begins (default: True).
-            by: Who reports it. If given, the store keeps the command with `note` and the time.
-            note: Why.
+            undo: Whether the step's compensation is meant (default: False). A compensation is
+                reported after it has started.
+            early: Whether a step may be reported before it starts (default: True).
+            by: The person or program that reports it. If given, the store keeps the command with
+                `note` and the time.
+            note: The reason.
 
         Raises:
             ConflictingReport: Another outcome was reported first, and that one counts.
-            StepNotWaiting: Nobody has to report this step; or it has not begun, and `early` is
-                False, the step is neither an approval nor external, or the saga is being undone.
+            StepNotWaiting: The step does not wait for a report. Or it has not started, and `early`
+                is False, the step is neither an approval nor external, or the saga is being undone.
             InvalidResult: The step starts a child, and this is not the result of one.
             NoSuchSaga: No saga has the key.
             NotSerializable: The result is not JSON.
@@ -102,12 +104,12 @@ class Operators(Questions):
             StoreUnavailable: The database does not answer.
             Closed: The store is closed.
         """
-        self._access.here()
+        self._access.coordinator_here()
         outcome, name = reported(result, None), step if isinstance(step, str) else step.name
-        kept = self._access.inside.shelf.payloads.encode_value(json.loads(outcome.value))
-        words = operator_commands.words_of(name, "undo" if undo else "run", early)
-        asked = self._commands.noted(key, "complete", by, note, **words, result=kept)
-        await self._commands.report(key, name, outcome, undo, asked, early=early)
+        kept = self._access.coordinator.registry.payloads.encode_value(json.loads(outcome.value))
+        step_fields = operator_commands.step_arguments(name, "undo" if undo else "run", early)
+        command = self._commands.command_row(key, "complete", by, note, **step_fields, result=kept)
+        await self._commands.report(key, name, outcome, undo, command, early=early)
 
     async def fail(
         self,
@@ -130,57 +132,58 @@ class Operators(Questions):
         Raises:
             TypeError: `error` is not a text.
         """
-        self._access.here()
+        self._access.coordinator_here()
         outcome, name = reported(None, error), step if isinstance(step, str) else step.name
-        words = operator_commands.words_of(name, "undo" if undo else "run", early)
-        asked = self._commands.noted(key, "fail", by, note, **words, error=error)
-        await self._commands.report(key, name, outcome, undo, asked, early=early)
+        step_fields = operator_commands.step_arguments(name, "undo" if undo else "run", early)
+        command = self._commands.command_row(key, "fail", by, note, **step_fields, error=error)
+        await self._commands.report(key, name, outcome, undo, command, early=early)
 
     async def compensate(
         self, key: str, step: Step[Any] | str, *, by: str | None = None, note: str | None = None
     ) -> None:
-        """Have a step compensated that was reported before it began, and not used.
+        """Have a step compensated that was reported before it started, and not used.
 
         Such a report is in `attention` as `unused_report`. A saga with the key `KEY/:STEP:undo`
-        calls the compensation with the result that was reported. When this returns, that saga is
-        durable: its compensation is retried until it succeeds, and is not called again after that.
-        The same call again is not an error.
+        calls the compensation with the result that was reported. When this call returns, that saga
+        is durable: its compensation is retried until it succeeds, and is not called again after
+        that. The same call again is not an error.
 
         Args:
             key: The saga's key.
             step: The step, or its name.
-            by: Who asks for it. The store keeps the command with `note` and the time.
-            note: Why.
+            by: The person or program that requests it. The store keeps the command with `note` and
+                the time.
+            note: The reason.
 
         Raises:
             NoSuchSaga: No saga has the key.
-            StepNotWaiting: The saga has no unused report of the step, is open, or is resolved; or
+            StepNotWaiting: The saga has no unused report of the step, is open, or is resolved. Or
                 the step has no compensation that a saga can call.
             InvalidKey: The key of that saga would be too long.
             CannotDecode: The codec cannot read what is stored.
             StoreUnavailable: The database does not answer.
             Closed: The store is closed.
         """
-        self._access.here()
+        self._access.coordinator_here()
         name = step if isinstance(step, str) else step.name
-        told = serialization.write({"by": by, "note": note, "step": name})
-        asked = key, "compensate", told, self._access.inside.clock()
-        await self._reports.compensate(key, name, asked)
+        value = serialization.write({"by": by, "note": note, "step": name})
+        command = key, "compensate", value, self._access.coordinator.clock()
+        await self._reports.compensate(key, name, command)
 
     async def resolve(self, key: str, note: str, *, by: str | None = None) -> None:
-        """Mark a saga as seen to: stuck, with a failed compensation or unused report.
+        """Mark a saga as resolved: stuck, with a failed compensation or unused report.
 
-        Nothing runs and nothing is undone by it. The store keeps the note with the time. The same
-        note again is not an error.
+        It runs and undoes nothing. The store keeps the note with the time. The same note again is
+        not an error.
 
         Args:
             key: The saga's key.
-            note: What was done about it.
-            by: Who did it.
+            note: What the operator has done about it.
+            by: The operator.
 
         Raises:
             NoSuchSaga: No saga has the key.
-            StepNotWaiting: The saga is neither, or is resolved with another note.
+            StepNotWaiting: The saga needs no operator, or is resolved with another note.
             ValueError: The note is empty.
             TypeError: The note is not a text.
             StoreUnavailable: The database does not answer.

@@ -25,24 +25,27 @@ T = TypeVar("T")
 
 
 class Questions(Schedules):
-    """Ask an open store. These calls change nothing."""
+    """Read an open store. These calls change nothing."""
 
     def __init__(self, access: StoreAccess) -> None:
         self._access = access
 
     async def _answer(self, question: Question[T]) -> T:
-        store = self._access.here().store
+        store = self._access.coordinator_here().store
         return await AsyncStoreReader(store.read, store.read_long).ask(question)
 
     async def _row(self, key: str) -> SagaRow:
-        """The saga with this key. Raises `NoSuchSaga`, also of a start that no node has begun."""
-        row = await self._access.here().store.find(key)
+        """Return the row of a saga.
+
+        Raises `NoSuchSaga`, also for a client's start that no node has opened.
+        """
+        row = await self._access.coordinator_here().store.find(key)
         if row is None or row.id < 0:
             raise NoSuchSaga(f"no saga has the key {key!r}")
         return row
 
     async def stuck(self, *, limit: int = 1000) -> builtins.list[SagaResult]:
-        """Return the stuck sagas that nobody has resolved, the oldest first.
+        """Return the stuck sagas that are not resolved, the oldest first.
 
         Args:
             limit: Maximum number of sagas (default: 1,000).
@@ -53,11 +56,11 @@ class Questions(Schedules):
             Closed: The store is closed.
         """
         arguments.count("limit", limit)
-        kind_of = self._access.here().shelf.kind
+        kind_of = self._access.coordinator_here().registry.kind
         return await self._answer(lists.stuck_results(kind_of, limit))
 
     async def unknown(self, *, limit: int = 1000) -> builtins.list[UnknownAttempt]:
-        """Return the attempts with an unknown outcome, first those that wait for a person.
+        """Return the attempts with an unknown outcome, first those that need an operator.
 
         Args:
             limit: Maximum number of attempts (default: 1,000).
@@ -71,9 +74,9 @@ class Questions(Schedules):
         return await self._answer(lists.unknown(limit))
 
     def active_attempts(self, key: str) -> builtins.list[ActiveAttempt]:
-        """Return the attempts of a saga that have begun, and for what each waits.
+        """Return the attempts of a saga that have started, and what each waits for.
 
-        It reads nothing from the store: a saga that another node executes has none.
+        It reads nothing from the store, so the list of a saga that another node executes is empty.
 
         Args:
             key: The saga's key.
@@ -81,8 +84,8 @@ class Questions(Schedules):
         Raises:
             Closed: The store is closed.
         """
-        inside = self._access.inside
-        return active_attempts(inside.sagas.by_key.get(key), inside.clock())
+        coordinator = self._access.coordinator
+        return active_attempts(coordinator.sagas.by_key.get(key), coordinator.clock())
 
     async def log(self, key: str) -> builtins.list[HistoryEvent]:
         """Return a saga's events so far, in order.
@@ -95,7 +98,7 @@ class Questions(Schedules):
             StoreUnavailable: The database does not answer.
             Closed: The store is closed.
         """
-        read = self._access.inside.shelf.payloads.read
+        read = self._access.coordinator.registry.payloads.read
         return await self._answer(one_saga.log(await self._row(key), read))
 
     async def plan(self, key: str) -> Plan | None:
@@ -119,7 +122,7 @@ class Questions(Schedules):
 
         Args:
             key: The saga's key.
-            unfold: As of `Saga.draw` (default: none).
+            unfold: As for `Saga.draw` (default: none).
 
         Raises:
             NoSuchSaga: No saga has the key.
@@ -128,13 +131,13 @@ class Questions(Schedules):
             Closed: The store is closed.
         """
         row = await self._row(key)
-        if (found := await self._answer(one_saga.plan(row))) is not None:
-            return await asyncio.to_thread(found.draw, unfold=unfold)
+        if (last_plan := await self._answer(one_saga.plan(row))) is not None:
+            return await asyncio.to_thread(last_plan.draw, unfold=unfold)
         text = await self._answer(one_saga.definition(row.id))
         return folded_drawing.fold(await asyncio.to_thread(program.draw, text), text, {*unfold})
 
     async def audit(self) -> dict[str, str]:
-        """Audit every shard, also those that still grow.
+        """Audit every shard, including shards that still grow.
 
         Returns:
             The verdict by the shard's name. It begins with `yes` if every event was allowed.
@@ -144,23 +147,23 @@ class Questions(Schedules):
             StoreUnavailable: The database does not answer.
             Closed: The store is closed.
         """
-        return await self._access.here().shards.auditor.all_shards()
+        return await self._access.coordinator_here().shards.auditor.all_shards()
 
     def holds(self) -> bool:
         """Return whether this node still has its lease, as far as it knows."""
-        return self._access.inside.store.holds()
+        return self._access.coordinator.store.holds()
 
     @property
     def commits(self) -> int:
         """How many transactions this program has written."""
-        return self._access.inside.store.commits
+        return self._access.coordinator.store.commits
 
     def _now(self) -> float:
         return self.now()
 
     def now(self) -> float:
         """Return the store's wall time, in seconds since 1970."""
-        return self._access.inside.clock()
+        return self._access.coordinator.clock()
 
     def reader(self) -> Reader:
         """Open another connection, for a thread that only reads.
@@ -169,4 +172,4 @@ class Questions(Schedules):
             StoreUnavailable: The database does not answer.
             Closed: The store is closed.
         """
-        return self._access.inside.store.reader()
+        return self._access.coordinator.store.reader()

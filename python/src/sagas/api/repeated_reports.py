@@ -1,4 +1,4 @@
-"""The same report again, of a saga that is over: it is no error, and another one is."""
+"""Repeated reports of a saga that has ended: only a different outcome is an error."""
 
 from __future__ import annotations
 
@@ -21,20 +21,23 @@ async def check_again(
     outcome: Outcome,
     payloads: Payloads,
 ) -> None:
-    """Check a report of a saga that is over, by what was reported before.
+    """Compare a report of a saga that has ended with the reported outcome.
 
     Raises:
-        StepNotWaiting: Nothing was.
-        ConflictingReport: That was another outcome.
+        StepNotWaiting: No outcome was reported before.
+        ConflictingReport: Another outcome was reported before.
     """
     step, kind = action
     if step not in names:
         raise step_reports.over(row)
-    place = names.index(step)
-    first, why = step_reports.first_of(await read(step_reports.RESULTS, row.id), place, kind), None
+    step_index = names.index(step)
+    first, why = (
+        step_reports.first_of(await read(step_reports.RESULTS, row.id), step_index, kind),
+        None,
+    )
     if first is None:
         why = step_reports.UNUSED
-        first = step_reports.early_of(await read(step_reports.EARLY, row.id, place, kind))
+        first = step_reports.early_of(await read(step_reports.EARLY, row.id, step_index, kind))
     if first is None:
         raise step_reports.over(row)
     step_reports.check(row.key, step, first, outcome, why, payloads)

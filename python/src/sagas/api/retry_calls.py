@@ -1,4 +1,4 @@
-"""The calls by which operators answer attempts that are used up."""
+"""The calls by which operators handle attempts that are exhausted."""
 
 from __future__ import annotations
 
@@ -6,7 +6,7 @@ import builtins
 from collections.abc import Awaitable, Iterable
 from typing import Any
 
-from sagas.api.batches import name_of
+from sagas.api.batches import definition_name
 from sagas.api.operators import Operators
 from sagas.base.errors import ConflictingReport, InvalidResult, NoSuchSaga, StepNotWaiting
 from sagas.core.outcomes import Outcome, reported
@@ -21,7 +21,7 @@ from sagas.storage.filters import Filter
 
 
 class RetryCalls(Operators):
-    """What an open store answers attempts with that wait for a person."""
+    """The calls of an open store for attempts that wait for an operator."""
 
     async def retry(
         self,
@@ -32,29 +32,30 @@ class RetryCalls(Operators):
         by: str | None = None,
         note: str | None = None,
     ) -> None:
-        """Attempt a step again, whose attempts are used up, or whose outcome is unknown.
+        """Attempt a step again that is exhausted, or whose outcome is unknown.
 
-        The same attempt is made at once, with its idempotency key, and its number of attempts
-        begins anew. When it returns, the command is durable.
+        The same attempt is made at once, with its idempotency key, and the count of its attempts
+        starts from zero. When the call returns, the command is durable.
 
         Args:
             key: The saga's key.
             step: The step, or its name.
             undo: Whether the step's compensation is meant (default: False).
-            by: Who asks for it. If given, the store keeps the command with `note` and the time.
-            note: Why.
+            by: The person or program that requests it. If given, the store keeps the command with
+                `note` and the time.
+            note: The reason.
 
         Raises:
-            StepNotWaiting: The step does not wait for this.
+            StepNotWaiting: The step does not wait for a retry.
             NoSuchSaga: No saga has the key.
             OwnerUnavailable: The node that executes the saga does not answer.
             StoreUnavailable: The database does not answer.
             Closed: The store is closed.
         """
-        self._access.here()
+        self._access.coordinator_here()
         name, kind = step if isinstance(step, str) else step.name, "undo" if undo else "run"
-        asked = self._commands.noted(key, "retry", by, note, step=name, kind=kind)
-        await self._commands.retry(key, name, undo, asked)
+        command = self._commands.command_row(key, "retry", by, note, step=name, kind=kind)
+        await self._commands.retry(key, name, undo, command)
 
     async def retry_all(
         self,
@@ -66,7 +67,7 @@ class RetryCalls(Operators):
         by: str | None = None,
         note: str | None = None,
     ) -> int:
-        """Attempt again each step whose attempts are used up. See `Store.retry`.
+        """Attempt again each step whose attempts are exhausted. See `Store.retry`.
 
         `complete_all` and `fail_all` report them instead.
 
@@ -75,16 +76,17 @@ class RetryCalls(Operators):
             step: Only this step, and its compensation (default: all). The name of a step with items
                 means all of them, and `hotel/room` a step of an included saga.
             labels: Only sagas with all of these labels (default: all).
-            limit: How many at most, those first that have waited longest (default: 1,000).
-            by: Who asks for it.
-            note: Why.
+            limit: Maximum number of attempts, those first that have waited longest (default:
+                1,000).
+            by: The person or program that requests it.
+            note: The reason.
 
         Returns:
-            How many. Those that somebody else has answered meanwhile do not count. If no saga has a
-            label, or no definition the step, a warning is logged.
+            The number of attempts, without those that another command has handled in the meantime.
+                If no saga has a label, or no definition the step, a warning is logged.
 
         Raises:
-            InvalidLabel: As of `abort_all`.
+            InvalidLabel: As for `abort_all`.
         """
         return await self._each(
             self._exhausted(saga, step, labels, limit), None, {"by": by, "note": note}
@@ -101,10 +103,10 @@ class RetryCalls(Operators):
         by: str | None = None,
         note: str | None = None,
     ) -> int:
-        """Report that each step succeeded whose attempts are used up.
+        """Report that each step succeeded whose attempts are exhausted.
 
         Args:
-            result: The result of each (default: None).
+            result: The result of each step (default: None).
 
         See `Store.retry_all` for the others.
 
@@ -113,9 +115,9 @@ class RetryCalls(Operators):
             InvalidResult: A step starts a child, and this is not the result of one. The others are
                 reported.
         """
-        words = {"by": by, "note": note, "result": result}
+        details = {"by": by, "note": note, "result": result}
         return await self._each(
-            self._exhausted(saga, step, labels, limit), reported(result, None), words
+            self._exhausted(saga, step, labels, limit), reported(result, None), details
         )
 
     async def fail_all(
@@ -129,58 +131,63 @@ class RetryCalls(Operators):
         by: str | None = None,
         note: str | None = None,
     ) -> int:
-        """Report that each step failed permanently whose attempts are used up.
+        """Report that each step failed permanently whose attempts are exhausted.
 
         Args:
-            error: Why.
+            error: The reason.
 
         See `Store.retry_all` for the others.
 
         Raises:
             TypeError: `error` is not a text.
         """
-        words = {"by": by, "note": note, "error": error}
+        details = {"by": by, "note": note, "error": error}
         return await self._each(
-            self._exhausted(saga, step, labels, limit), reported(None, error), words
+            self._exhausted(saga, step, labels, limit), reported(None, error), details
         )
 
     async def _each(
-        self, waits: Awaitable[builtins.list[Waits]], outcome: Outcome | None, words: dict[str, Any]
+        self,
+        waits: Awaitable[builtins.list[Waits]],
+        outcome: Outcome | None,
+        details: dict[str, Any],
     ) -> int:
-        """Answer those that wait; by a retry where there is no outcome."""
-        what = "retry" if outcome is None else "fail" if "error" in words else "complete"
-        by, note, count = words.pop("by"), words.pop("note"), 0
-        wrong: InvalidResult | None = None
-        for one in await waits:
-            kind = "undo" if one.undo else "run"
-            asked = self._commands.noted(one.key, what, by, note, step=one.step, kind=kind, **words)
-            about = one.key, one.step
+        """Retry the waiting attempts, or report an outcome for each."""
+        command = "retry" if outcome is None else "fail" if "error" in details else "complete"
+        by, note, count = details.pop("by"), details.pop("note"), 0
+        invalid: InvalidResult | None = None
+        for wait in await waits:
+            kind = "undo" if wait.undo else "run"
+            request = self._commands.command_row(
+                wait.key, command, by, note, step=wait.step, kind=kind, **details
+            )
+            about = wait.key, wait.step
             try:
                 if outcome is None:
-                    await self._commands.retry(*about, one.undo, asked, one.id)
+                    await self._commands.retry(*about, wait.undo, request, wait.id)
                 else:
                     await self._commands.report(
-                        *about, outcome, one.undo, asked, one.id, early=False
+                        *about, outcome, wait.undo, request, wait.id, early=False
                     )
                 count += 1
-            except (StepNotWaiting, ConflictingReport, NoSuchSaga):  # somebody else was faster
+            except (StepNotWaiting, ConflictingReport, NoSuchSaga):  # another command was first
                 continue
             except InvalidResult as error:
-                wrong = wrong or error
-        if wrong is not None:
-            raise wrong
+                invalid = invalid or error
+        if invalid is not None:
+            raise invalid
         return count
 
     def _sagas(self) -> Iterable[Saga]:
-        return self._access.inside.shelf.sagas.values()
+        return self._access.coordinator.registry.sagas.values()
 
     async def _exhausted(
         self, saga: Saga | str | None, step: str | None, labels: Labels | None, limit: int
     ) -> builtins.list[Waits]:
         arguments.count("limit", limit)
-        within = Filter(saga=name_of(saga), labels=selecting(labels))
+        within = Filter(saga=definition_name(saga), labels=selecting(labels))
         waits = lists.waits(limit, why=Suspension.EXHAUSTED.value, within=within, step=step)
-        if not (found := await self._answer(waits)):
+        if not (waiting := await self._answer(waits)):
             names = [name for saga in self._sagas() for name, _ in saga.declared_steps]
             await self._unmatched(within, step, names)
-        return found
+        return waiting

@@ -1,4 +1,4 @@
-"""Where a saga is: executed here, executed by another node, or over."""
+"""Finds where a saga is: executed here, executed by another node, or ended."""
 
 from __future__ import annotations
 
@@ -25,24 +25,25 @@ class SagaLookup:
 
     def __init__(self, access: StoreAccess) -> None:
         self._access = access
-        self.finding: dict[str, asyncio.Future[None]] = {}  # keys that are about to be started
+        self.finding: dict[str, asyncio.Future[None]] = {}  # keys that are being looked up
         self.guessing = Guessing()
 
     async def live(self, key: str) -> SagaInstance | None:
-        """The saga with this key, as far as it is driven here and the key is known to be its
-        own.
+        """Return the saga with this key, if this program executes it.
+
+        It waits until the key is known to belong to the saga.
         """
-        while (live := self._access.inside.sagas.by_key.get(key)) and live.is_doubtful:
-            with contextlib.suppress(SagasError):  # its start hears of it
-                await self._access.inside.sagas.started(live)
+        while (live := self._access.coordinator.sagas.by_key.get(key)) and live.is_doubtful:
+            with contextlib.suppress(SagasError):  # its start raises that
+                await self._access.coordinator.sagas.started(live)
         return live
 
     async def find(self, key: str) -> SagaRow | None:
-        """Looks whether a key that is to be started is there, where that takes a while."""
-        inside = self._access.inside
-        finding = self.finding.setdefault(key, inside.loop.create_future())
+        """Look up a key that is about to be started."""
+        coordinator = self._access.coordinator
+        finding = self.finding.setdefault(key, coordinator.loop.create_future())
         try:
-            row = await inside.store.find(key)
+            row = await coordinator.store.find(key)
             if row is not None:
                 self.guessing.told(was_there=True)
             return row
@@ -52,32 +53,38 @@ class SagaLookup:
                 finding.set_result(None)
 
     async def row(self, key: str, of: int | None = None) -> SagaRow:
-        """The row of a saga; `of`: its id, where no later one of its key is meant."""
-        row = await self._access.inside.store.find(key)
+        """Return the row of a saga. Raises `NoSuchSaga`.
+
+        `of` is the id of the saga, if a later saga with the same key is not meant.
+        """
+        row = await self._access.coordinator.store.find(key)
         if row is None or (of is not None and row.id != of):
-            which = "" if row is None else " that this was asked of"
-            raise NoSuchSaga(f"no saga has the key {key!r}{which}")
+            if row is None:
+                raise NoSuchSaga(f"no saga has the key {key!r}")
+            raise NoSuchSaga(
+                f"the saga with the key {key!r} that this request was for does not exist any more"
+            )
         return row
 
     def wait(self, key: str, timeout: float | None) -> Coroutine[Any, Any, SagaResult]:
-        """The end of a saga, at most so many seconds from now."""
+        """Wait until a saga has ended, for at most `timeout` seconds."""
         if timeout is not None:
             work = self.until_ended(key)
             return timeouts.in_time(key, work, timeout, lambda: self.waits_for(key))
-        inside = self._access.here()
-        if caller := current_step.waiter(inside.executor.calls.running):
-            return inside.waits.during(caller, key, self.until_ended(key))
+        coordinator = self._access.coordinator_here()
+        if caller := current_step.waiter(coordinator.executor.calls.running):
+            return coordinator.waits.guard(caller, key, self.until_ended(key))
         return self.until_ended(key)
 
     async def until_ended(self, key: str) -> SagaResult:
-        """As `wait`, for callers that limit the time themselves."""
-        inside = self._access.here()
-        live = inside.sagas.by_key.get(key)
+        """Wait until a saga has ended, for callers that limit the time themselves."""
+        coordinator = self._access.coordinator_here()
+        live = coordinator.sagas.by_key.get(key)
         if live is not None and live.is_doubtful:
             live = await self.live(key)
-        if live is not None:  # as most are: it is driven here
+        if live is not None:  # the common case: this program executes it
             try:
-                await inside.sagas.ends.wait(live)
+                await coordinator.sagas.ends.wait(live)
                 if live.is_whole:
                     return history.end_of_live(live)
             except Moved:
@@ -88,13 +95,16 @@ class SagaLookup:
         return await retries.until_answered(functools.partial(self._end_of, over))
 
     async def _end_of(self, row: SagaRow) -> SagaResult:
-        inside = self._access.inside
-        known = await inside.store.known(row)
-        kind = inside.shelf.kind(known.definition)
+        coordinator = self._access.coordinator
+        known = await coordinator.store.known(row)
+        kind = coordinator.registry.kind(known.definition)
         return history.end_of(kind, row, known.results, known.shape)
 
     async def whole(self, key: str) -> SagaInstance | SagaRow:
-        """As `over`; the row of a saga of which large values are not held."""
+        """Wait until a saga has ended; return the saga, or its row.
+
+        It is the row if large values of the saga are not in memory.
+        """
         while True:
             over = await self.over(key)
             if isinstance(over, SagaRow) or over.is_whole:
@@ -104,33 +114,34 @@ class SagaLookup:
                 return row
 
     async def over(self, key: str) -> SagaInstance | SagaRow:
-        """Waits until a saga is over: one that was driven here, or its row."""
-        turn, inside = 0, self._access.here()
+        """Wait until a saga has ended; return it if it was executed here, or its row."""
+        turn, coordinator = 0, self._access.coordinator_here()
         while True:
             live = await self.live(key)
             if live is None:
                 row = await retries.until_answered(lambda: self.row(key))
                 if row.phase is not None:
-                    if record := inside.store.record:
+                    if record := coordinator.store.record:
                         record.seen(row.id, "wake")
                     return row
                 pending.check_refused(row)
-                if key not in self._access.inside.sagas.by_key:
-                    await inside.store.news(row.id, turn)
+                if key not in self._access.coordinator.sagas.by_key:
+                    await coordinator.store.news(row.id, turn)
                     turn += 1
             else:
                 try:
-                    await inside.sagas.ends.wait(live)
+                    await coordinator.sagas.ends.wait(live)
                     return live
                 except Moved:
                     pass
-            inside = self._access.inside
+            coordinator = self._access.coordinator
 
     async def waits_for(self, key: str) -> builtins.list[str]:
-        """What a saga waits for that is driven here, or that no node has begun yet, in words; of
-        others nothing.
+        """Return what a saga waits for, in words.
+
+        The list is empty for a saga that another node executes.
         """
-        live = self._access.inside.sagas.by_key.get(key)
-        if live is None and (row := await self._access.inside.store.find(key)) and row.id < 0:
+        live = self._access.coordinator.sagas.by_key.get(key)
+        if live is None and (row := await self._access.coordinator.store.find(key)) and row.id < 0:
             return [pending.NOT_BEGUN]
         return pending.of_live(live)

@@ -9,7 +9,7 @@ import json
 import time
 from typing import Any, TypeVar
 
-from sagas.api.batches import Batches, beside
+from sagas.api.batches import Batches, over_own_connection
 from sagas.base.logger import logger
 from sagas.definition import serialization, timing, validation
 from sagas.definition.labels import Labels, checked
@@ -23,18 +23,18 @@ T = TypeVar("T")
 
 
 class Schedules(Batches):
-    """What stores and clients share."""
+    """The calls for schedules that stores and clients share."""
 
     def _now(self) -> float:
-        """The wall time, in seconds since 1970."""
+        """Return the wall time, in seconds since 1970."""
         return time.time()
 
     def _stored(self) -> Payloads:
-        """How inputs are stored."""
+        """Return how inputs are stored."""
         raise NotImplementedError
 
     async def _check_input(self, saga: Saga, text: str) -> None:
-        """Raises what a start of the saga with this input would, as far as is known here."""
+        """Raise what a start of the saga with this input would raise, if known here."""
 
     async def schedule(
         self,
@@ -53,26 +53,26 @@ class Schedules(Batches):
         """Start a saga at certain times, once over all nodes.
 
         The saga of a time has the key `NAME@TIME`, for example `nightly@2026-03-01T02:00:00Z`. A
-        node that has the definition starts it. The call is idempotent: make it whenever the
-        program starts. A schedule that is there is changed; if nothing differs, it goes on as it
-        is, also if it is paused. A start that is on its way keeps the previous input.
+        node that has the definition starts it. The call is idempotent: make it whenever the program
+        starts. It changes an existing schedule. If nothing differs, the schedule stays unchanged,
+        also if it is paused. A start that is in progress keeps the previous input.
 
         Args:
             name: The schedule's name: 1 to 128 printable characters, without `@` and `/:`.
             saga: The definition.
             input: What its steps read as `task.input` (default: None).
             cron: Minute, hour, day of month, month and day of week, for example `0 2 * * *`.
-            every: The distance between two times, in place of `cron`. The times are multiples of
-                it since 1970, in UTC.
+            every: The interval between two times, in place of `cron`. The times are multiples of it
+                since 1970, in UTC.
             timezone: The time zone of `cron` (default: UTC).
-            catch_up: What becomes of times at which no node ran: `last` starts the last one, `all`
+            catch_up: How to handle times at which no node ran: `last` starts the last one, `all`
                 starts each, in order, `skip` starts none (default: `last`).
             max: How many missed times are started at most, the last ones; the event
                 `schedule_missed` has the others (default: 100).
-            overlap: What becomes of a time while the saga of the time before is open: `allow`
+            overlap: How to handle a time while the saga of the previous time is open: `allow`
                 starts it, `skip` does not, `queue` starts it once that saga has ended. With
-                `queue`, `catch_up` says what becomes of the times that wait (default: `allow`).
-            labels: As of `Store.start`.
+                `queue`, `catch_up` applies to the times that wait (default: `allow`).
+            labels: As for `Store.start`.
 
         Raises:
             InvalidSchedule: The name, the times or the time zone are not valid.
@@ -85,12 +85,14 @@ class Schedules(Batches):
         """
         timing.check_name(name)
         validation.check_given(saga)
-        when = timing.timing(cron, every, timezone, catch_up, max, overlap)
-        having = json.dumps(dict(checked(labels)))
+        times = timing.timing(cron, every, timezone, catch_up, max, overlap)
+        labels_text = json.dumps(dict(checked(labels)))
         location, text = self._location(), serialization.write_value(input, "input")
         await self._check_input(saga, text)
-        words = (saga.name, saga.version), text, having, when, self._now(), self._stored()
-        await beside(location, lambda link: schedules_module.Schedules(link).put(name, *words))
+        declared = (saga.name, saga.version), text, labels_text, times, self._now(), self._stored()
+        await over_own_connection(
+            location, lambda link: schedules_module.Schedules(link).put(name, *declared)
+        )
 
     async def schedules(self) -> builtins.list[Schedule]:
         """Return the schedules, by name.
@@ -99,15 +101,15 @@ class Schedules(Batches):
             StoreUnavailable: The database does not answer.
             Closed: The store is closed.
         """
-        found, decode = await self._answer(lists.schedules()), self._stored().decode_value
-        return [dataclasses.replace(one, input=decode(one.input)) for one in found]
+        stored, decode = await self._answer(lists.schedules()), self._stored().decode_value
+        return [dataclasses.replace(schedule, input=decode(schedule.input)) for schedule in stored]
 
     async def pause_schedule(self, name: str) -> None:
         """Start no more sagas of a schedule, until it is resumed.
 
-        A start that has begun before the call is finished: at most one saga at each node. Times
-        that were missed before are not started: `error` of the schedule says how many, and so does
-        a warning in the log.
+        A start that is in progress is finished: at most one saga at each node. Times that were
+        missed before are not started: `error` of the schedule says how many, and so does a warning
+        in the log.
 
         Args:
             name: The schedule's name.
@@ -118,22 +120,24 @@ class Schedules(Batches):
             Closed: The store is closed.
         """
         now = self._now()
-        said = await beside(
+        message = await over_own_connection(
             self._location(), lambda link: schedules_module.Schedules(link).pause(name, now)
         )
-        if said is not None:
-            logger.warning("schedule %r: %s", name, said)
+        if message is not None:
+            logger.warning("schedule %r: %s", name, message)
 
     async def resume_schedule(self, name: str) -> None:
         """Start sagas of a paused schedule again. See `Store.pause_schedule`.
 
-        It goes on with the next time: those of its pause are not started.
+        It continues with the next time. Times during the pause are not started.
         """
         now = self._now()
-        await beside(
+        await over_own_connection(
             self._location(), lambda link: schedules_module.Schedules(link).resume(name, now)
         )
 
     async def remove_schedule(self, name: str) -> None:
         """Delete a schedule. Its sagas stay. See `Store.pause_schedule`."""
-        await beside(self._location(), lambda link: schedules_module.Schedules(link).remove(name))
+        await over_own_connection(
+            self._location(), lambda link: schedules_module.Schedules(link).remove(name)
+        )

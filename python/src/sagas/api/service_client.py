@@ -1,11 +1,11 @@
-"""A client over HTTP: it starts sagas at a service, waits for them, and decides steps.
+"""A client over HTTP: it starts sagas, waits for them, and decides steps.
 
-    with sagas.ServiceClient("http://127.0.0.1:8080", token="..") as client:
+    with sagas.ServiceClient("http://127.0.0.1:8080", token="...") as client:
         run = client.start("trip", "order-1", {"to": "Rome"})
         print(run.wait(timeout=30))
 
-It needs nothing but the standard library. Each request is safe to repeat, so each call repeats its
-request until a service answers.
+It needs only the standard library. Each request is safe to repeat, so each call repeats its request
+until a service answers.
 """
 
 from __future__ import annotations
@@ -43,17 +43,17 @@ from sagas.definition.start_options import Deadline, deadline_at
 from sagas.definition.step import Step
 
 ANSWER = 20.0  # seconds that one request may take
-MOST_WAIT = 30.0  # seconds that the service keeps one request
-BEYOND = 15.0  # seconds that an answer may take beyond that
-LATE = 10.0  # seconds for which a request is repeated at least
+MAX_WAIT = 30.0  # seconds that the service holds one request
+BEYOND = 15.0  # seconds that the reply may take after that
+LATE = 10.0  # minimum seconds for which a request is repeated
 
 
 class ServiceClient:
     """Start and inspect sagas of an HTTP service, and decide steps.
 
-    It uses only the standard library. Its calls block, and any thread may make them, also at once.
-    Each call repeats its request until a service answers, for `timeout` seconds. A repeated request
-    counts once. Use it by `with`, or call `close`.
+    It uses only the standard library. Its calls block, and any thread may make them, also
+    concurrently. Each call repeats its request until a service answers, for `timeout` seconds. A
+    repeated request counts once. Use it by `with`, or call `close`.
 
     Each call can raise `ServiceUnavailable` if no service answers in time, `ServiceRefused` if the
     service refuses the call, for example its token, and `Closed` if the client is closed.
@@ -75,16 +75,16 @@ class ServiceClient:
 
         Args:
             url: The service, or several services over one database: if one does not answer, the
-                next one is asked.
+                client asks the next one.
             token: The token of a caller, an approver or an operator (default: None).
             timeout: Seconds for which a call repeats its request (default: 60).
-            codec: That of the service's store: inputs and results are decoded here (default: they
-                are as the service answers them, `{"$codec": ...}` if they are encoded).
-            blobs: That of the service's store: large inputs and results are read there (default:
-                they are references, `{"$blob": ...}`).
+            codec: That of the service's store: the client decodes inputs and results (default: they
+                are as the service returns them, `{"$codec": ...}` if they are encoded).
+            blobs: That of the service's store: the client reads large inputs and results there
+                (default: they are references, `{"$blob": ...}`).
 
         Raises:
-            TypeError: The codec or the blob store lacks a function.
+            TypeError: The codec or the blob store has no required function.
             ValueError: The URL is not the address of a service, or the timeout is not valid.
         """
         self.timeout = arguments.time("timeout", timeout, none=False)
@@ -95,7 +95,7 @@ class ServiceClient:
 
     @property
     def url(self) -> str:
-        """The service that it asks now."""
+        """The service that the client asks now."""
         return self._service.url
 
     # -- sagas
@@ -140,12 +140,12 @@ class ServiceClient:
         if isinstance(saga, Saga) and version is None:
             version = saga.version
         body: dict[str, Any] = {"definition": _name("saga", saga), "key": key, "input": input}
-        words = {
+        options = {
             "labels": dict(checked(labels)) or None,
             "deadline": _seconds_to(deadline),
             "version": version,
         }
-        body |= {word: value for word, value in words.items() if value is not None}
+        body |= {name: value for name, value in options.items() if value is not None}
         headers = tracing.headers(self._tracer, traceparent)
         return ServiceRun(self, self._ask("/v1/sagas", body, headers=headers))
 
@@ -171,51 +171,52 @@ class ServiceClient:
 
         Args:
             key: The saga's key.
-            timeout: Seconds (default: as long as it takes).
+            timeout: Seconds (default: without limit).
 
         Returns:
             The saga. Look at `ok`: a saga that was compensated does not raise.
 
         Raises:
-            TimeoutError: It has not ended in time, and goes on. The message says what it waits for.
+            TimeoutError: It has not ended in time, and continues. The message says what it waits
+                for.
             NoSuchSaga: No saga has the key.
             CannotDecode: The codec or the blob store of this client cannot read a value.
             ServiceRefused: The service refuses the token.
             ServiceUnavailable: No service answered in time.
         """
-        most = float("inf") if timeout is None else arguments.time("timeout", timeout)
-        until = time.monotonic() + most
+        limit = float("inf") if timeout is None else arguments.time("timeout", timeout)
+        until = time.monotonic() + limit
         while True:
             left = max(0.0, until - time.monotonic())
-            seconds = min(MOST_WAIT, left)
-            told = self._ask(
+            seconds = min(MAX_WAIT, left)
+            reply = self._ask(
                 f"{_path(key, 'wait')}?seconds={seconds:.3f}",
                 None,
                 seconds + BEYOND,
                 max(LATE, min(left, self.timeout)) + seconds,
             )
-            if told["over"]:
-                return saga_of(self._values.saga(told))
+            if reply["over"]:
+                return saga_of(self._values.saga(reply))
             if time.monotonic() >= until:
-                raise still_open(key, most, waits_of(told))
+                raise still_open(key, limit, waits_of(reply))
 
     def abort(self, key: str, *, note: str | None = None) -> bool:
         """Abort a saga: no further step starts, and what costs least is undone.
 
         Args:
             key: The saga's key.
-            note: Why; it is stored with who and when (default: none).
+            note: The reason; it is stored with the requester and the time (default: none).
 
         Returns:
-            Whether this call aborted it. It is False if the saga is over or was aborted before,
-            also by a request of this call whose answer was lost.
+            Whether this call aborted it. It is False if the saga has ended or was aborted before,
+                also by a request of this call whose reply was lost.
 
         Raises:
             NoSuchSaga: No saga has the key.
             ServiceRefused: The service refuses the token.
             ServiceUnavailable: No service answered in time. Repeat the call.
         """
-        done: bool = self._ask(_path(key, "abort"), _given(note=note))["aborted"]
+        done: bool = self._ask(_path(key, "abort"), _without_none(note=note))["aborted"]
         return done
 
     def complete(
@@ -238,11 +239,11 @@ class ServiceClient:
             step: The step, or its name.
             result: Its result, as JSON (default: None).
             undo: Whether its compensation is meant (default: False).
-            early: Whether the report is stored until the step begins (default: True).
-            note: Why; it is stored with who and when (default: none).
+            early: Whether the report is stored until the step starts (default: True).
+            note: The reason; it is stored with the requester and the time (default: none).
 
         Raises:
-            StepNotWaiting: Nobody has to report the step.
+            StepNotWaiting: The step does not wait for a report.
             ConflictingReport: Another outcome was reported first, and counts.
             NoSuchSaga: No saga has the key.
             NotSerializable: The result is not JSON.
@@ -267,7 +268,7 @@ class ServiceClient:
             error: Why it failed, for people.
 
         Raises:
-            StepNotWaiting: Nobody has to report the step.
+            StepNotWaiting: The step does not wait for a report.
             ConflictingReport: Another outcome was reported first, and counts.
             NoSuchSaga: No saga has the key.
             ServiceRefused: The token may not report this step.
@@ -286,8 +287,8 @@ class ServiceClient:
         early: bool,
         note: str | None,
     ) -> None:
-        words = _given(note=note) | {"undo": undo, "early": early}
-        self._ask(_path(key, "steps", _name("step", step), verb), body | words)
+        options = _without_none(note=note) | {"undo": undo, "early": early}
+        self._ask(_path(key, "steps", _name("step", step), verb), body | options)
 
     # -- questions
 
@@ -303,18 +304,18 @@ class ServiceClient:
         error: str | None = None,
         page_size: int = 100,
     ) -> Iterator[ServiceSummary]:
-        """List sagas, the newest first. It asks for one page after the other.
+        """List sagas, the newest first. It requests one page after another.
 
         Args:
             phase: `open`, `completed`, `recovered`, `stuck` or `resolved`; or `undo_failed`, for
-                those recovered sagas of which a compensation failed permanently (default: all).
+                recovered sagas with a compensation that failed permanently (default: all).
             saga: A definition, or its name (default: all).
             labels: Labels that the sagas have, all of these (default: any).
-            search: What their keys contain (default: anything).
-            started_after: They were started then or later: a datetime with a time zone, or seconds
-                since 1970 (default: any time).
-            started_before: They were started earlier (default: any time).
-            error: What an attempt raised, or a part of that (default: anything).
+            search: A part of their keys (default: anything).
+            started_after: Only sagas that started then or later: a datetime with a time zone, or
+                seconds since 1970 (default: any time).
+            started_before: Only sagas that started earlier (default: any time).
+            error: A part of what an attempt raised (default: anything).
             page_size: Sagas of one request, from 1 to 1,000 (default: 100).
 
         Raises:
@@ -324,7 +325,7 @@ class ServiceClient:
             ServiceRefused: The service refuses the token, or the filter.
             ServiceUnavailable: No service answered in time.
         """
-        query = _given(
+        query = _without_none(
             limit=arguments.count("page_size", page_size),
             phase=phase,
             search=search,
@@ -338,11 +339,11 @@ class ServiceClient:
 
     def _pages(self, query: dict[str, Any]) -> Iterator[ServiceSummary]:
         while True:
-            told = self._ask(f"/v1/sagas?{urllib.parse.urlencode(query, doseq=True)}")
-            yield from map(summary_of, told["sagas"])
-            if told["next"] is None:
+            reply = self._ask(f"/v1/sagas?{urllib.parse.urlencode(query, doseq=True)}")
+            yield from map(summary_of, reply["sagas"])
+            if reply["next"] is None:
                 return
-            query["after"] = told["next"]
+            query["after"] = reply["next"]
 
     def events(
         self,
@@ -354,9 +355,9 @@ class ServiceClient:
         """Follow events, from the moment at which the stream is opened.
 
         Args:
-            key: Of the saga with this key (default: of all).
-            saga: Of the sagas of this definition, or of this name (default: of all).
-            last_event_id: Go on after the event with this `id` (default: from now on).
+            key: Only events of the saga with this key (default: of all).
+            saga: Only events of sagas of this definition, or of this name (default: of all).
+            last_event_id: Continue after the event with this `id` (default: from now on).
 
         Returns:
             A stream to loop over; use it by `with`.
@@ -366,7 +367,7 @@ class ServiceClient:
         """
         if key is not None:
             arguments.key(key, or_child=True)
-        query = _given(key=key, definition=None if saga is None else _name("saga", saga))
+        query = _without_none(key=key, definition=None if saga is None else _name("saga", saga))
         path = f"/v1/events?{urllib.parse.urlencode(query)}"
         stream = ServiceEvents(self._service, path, last_event_id, self.timeout)
         self._streams.add(stream)
@@ -377,10 +378,10 @@ class ServiceClient:
     # -- its end
 
     def close(self) -> None:
-        """Close its connections.
+        """Close the connections.
 
-        Calls under way raise `Closed`, and loops over events end. A request under way may have
-        been carried out.
+        Calls in progress raise `Closed`, and loops over events end. The service may still execute a
+        request in progress.
         """
         self._closed.set()
         for stream in builtins.list(self._streams):
@@ -406,7 +407,7 @@ class ServiceClient:
         patience: float | None = None,
         headers: Mapping[str, str] = NO_HEADERS,
     ) -> dict[str, Any]:
-        """An answer. Raises the exceptions of a store where the problem is one of them."""
+        """Return a reply. Raises the exception of a store that the problem names."""
         try:
             return self._service.repeated(
                 lambda url, left: self._service.ask(url, path, body, min(seconds, left), headers),
@@ -422,26 +423,28 @@ def _path(key: str, *rest: str) -> str:
     return "/".join(["/v1/sagas", *(urllib.parse.quote(part, safe="") for part in (key, *rest))])
 
 
-def _name(word: str, value: Saga | Step[Any] | str) -> str:
+def _name(parameter: str, value: Saga | Step[Any] | str) -> str:
     name = value.name if isinstance(value, (Saga, Step)) else value
-    arguments.text(word, name, f"the name of a {word}")
+    arguments.text(parameter, name, f"the name of a {parameter}")
     return name
 
 
-def _given(**words: Any) -> dict[str, Any]:
-    return {word: value for word, value in words.items() if value is not None}
+def _without_none(**options: Any) -> dict[str, Any]:
+    return {name: value for name, value in options.items() if value is not None}
 
 
-def _moment(word: str, value: datetime.datetime | float | None) -> float | None:
+def _moment(parameter: str, value: datetime.datetime | float | None) -> float | None:
     if isinstance(value, datetime.datetime):
         if value.tzinfo is None:
-            raise TypeError(f"{word}={value!r}: must have a time zone, for example datetime.UTC")
+            raise TypeError(
+                f"{parameter}={value!r}: must have a time zone, for example datetime.UTC"
+            )
         return value.timestamp()
-    return None if value is None else arguments.time(word, value)
+    return None if value is None else arguments.time(parameter, value)
 
 
 def _seconds_to(deadline: Deadline | None) -> float | None:
-    """The seconds from now to a deadline; one that has passed is now."""
+    """Return the seconds until a deadline; 0 for one that has passed."""
     now = time.time() if isinstance(deadline, datetime.datetime) else 0.0
     at = deadline_at(deadline, now)
     return None if at is None else max(0.0, at - now)

@@ -26,8 +26,8 @@ T = TypeVar("T")
 logger = logging.getLogger("sagas.worker")
 NO_HEADERS: Mapping[str, str] = {}
 REPEAT = 408, 429, 500, 502, 503, 504
-"""Statuses of requests that are repeated."""
-FIRST_PAUSE, MOST_PAUSE = 0.1, 5.0  # seconds between tries to reach the service
+"""HTTP statuses after which a request is repeated."""
+FIRST_PAUSE, MAX_PAUSE = 0.1, 5.0  # seconds between tries to reach the service
 
 
 class ServiceRefused(SagasError):
@@ -37,8 +37,8 @@ class ServiceRefused(SagasError):
 
     Attributes:
         status: The HTTP status.
-        name: The name of the problem, as docs/reference/http-errors.md has it.
-        field: The parameter, or the place in the body, that is not valid; else None.
+        name: The name of the problem, as in docs/reference/http-errors.md.
+        field: The parameter, or the part of the body, that is not valid; or None.
     """
 
     def __init__(self, status: int, text: str, name: str = "", field: str | None = None) -> None:
@@ -48,93 +48,96 @@ class ServiceRefused(SagasError):
 
 @dataclasses.dataclass(frozen=True, slots=True)
 class OpenAnswer:
-    """An answer that is read as it comes, and what it comes over."""
+    """A reply that is read as it arrives, with its connection."""
 
     link: http.client.HTTPConnection
     channel: socket.socket
     response: http.client.HTTPResponse
 
     def close(self) -> None:
-        """By the thread that reads it; another one calls `end` of the channel."""
+        """Close the connection. Call it in the reading thread; other threads call `end`."""
         self.response.close()
         self.link.close()
 
 
 class ServiceConnection:
-    """Asks a service; where it does not answer, the next one. Any thread may ask; connections are
-    kept for the next request.
+    """Sends requests to a service, or to the next one if it does not answer.
+
+    Any thread may send requests. Connections are kept for later requests.
 
     Attributes:
-        heard: Whether a service has answered.
+        has_answered: Whether a service has answered.
     """
 
     def __init__(
         self, url: str | Sequence[str], token: str | None, patience: float, stop: threading.Event
     ) -> None:
-        self._urls = deque(address_of(one) for one in ([url] if isinstance(url, str) else url))
+        self._urls = deque(
+            address_of(address) for address in ([url] if isinstance(url, str) else url)
+        )
         if not self._urls:
             raise ValueError("no service is given. Write, for example, http://127.0.0.1:8080")
         if token and not (token.isascii() and token.isprintable()):
-            raise ValueError("the token has a character that no token has. Copy it again")
+            raise ValueError(
+                "the token has an invalid character: a token consists of printable ASCII "
+                "characters. Copy it again"
+            )
         self._headers = {"Authorization": f"Bearer {token}"} if token else {}
         self._patience, self._stop = patience, stop
         self._lock = threading.Lock()
         self._idle: list[tuple[tuple[str, int], http.client.HTTPConnection]] = []
         self._all: weakref.WeakSet[http.client.HTTPConnection] = weakref.WeakSet()
-        self._lacks = self.heard = self._ended = False
-        self._unknown_steps: set[str] = set()  # those of which was told that nobody has them
+        self._is_unreachable = self.has_answered = self._ended = False
+        self._unknown_steps: set[str] = set()  # steps that were warned of
 
     @property
     def url(self) -> str:
-        """The service that it asks now."""
+        """The service that is asked now."""
         return self._urls[0]
 
     def turn_from(self, url: str) -> None:
-        """This one does not answer: the next one is asked, as long as nobody has turned to it
-        already.
-        """
+        """Switch to the next service, unless another thread already did."""
         with self._lock:
             if self._urls[0] == url:
                 self._urls.rotate(-1)
 
-    def until_told(
+    def ask_until_answered(
         self, path: str, body: dict[str, Any], seconds: float | None = None, giving_up: bool = False
     ) -> dict[str, Any] | None:
-        """Asks until the service answers: it may be about to start again. One try takes at most so
-        many seconds (None: its patience). None: it was stopped meanwhile, and gives up. Raises
-        `ServiceRefused`.
+        """Repeat a request until a service answers; return None if the worker was stopped.
+
+        A service may be restarting. One try takes at most `seconds` (default: the patience of this
+        connection). Raises `ServiceRefused`.
         """
         pause, within = FIRST_PAUSE, seconds or self._patience
         while True:
             url = self.url
             try:
-                found = self.ask(url, path, body, within)
-                self._lacks, self.heard = False, True
-                for step in (found.get("next") or found).get("unknown_steps", ()):
-                    self._say_unknown(url, step)
-                return found
+                reply = self.ask(url, path, body, within)
+                self._is_unreachable, self.has_answered = False, True
+                for step in (reply.get("next") or reply).get("unknown_steps", ()):
+                    self._warn_unknown(url, step)
+                return reply
             except ServiceRefused as refusal:
                 if refusal.status not in REPEAT:
                     raise
                 text = str(refusal)
             except (OSError, ValueError) as error:
                 text = str(error)
-                if isinstance(error, TimeoutError):  # a request may be large, and the way slow
+                if isinstance(error, TimeoutError):  # a large request, or a slow network
                     within = max(within, min(2 * within, self._patience))
             self.turn_from(url)
             if giving_up and self._stop.is_set():
                 return None
-            if not self._lacks:
+            if not self._is_unreachable:
                 logger.warning("%s does not answer: %s. Retrying", url, text)
-            self._lacks = True
+            self._is_unreachable = True
             logger.info("%s: %s", path, text)
             time.sleep(pause * random.uniform(0.5, 1.0))
-            pause = min(MOST_PAUSE, 2 * pause)
+            pause = min(MAX_PAUSE, 2 * pause)
 
-    def try_to_tell(self, path: str, body: dict[str, Any], seconds: float) -> bool:
-        """Asks once, whatever comes of it. Whether it is of use to ask again: a service may refuse
-        it.
-        """
+    def try_once(self, path: str, body: dict[str, Any], seconds: float) -> bool:
+        """Send a request once; return False if the service refuses it permanently."""
         try:
             self.ask(self.url, path, body, seconds)
         except ServiceRefused as refusal:
@@ -146,9 +149,10 @@ class ServiceConnection:
     def repeated(
         self, call: Callable[[str, float], T], patience: float, stop: threading.Event
     ) -> T:
-        """Calls with the address of a service, and the seconds that are left, until one answers.
-        Raises `ServiceRefused`; `ServiceUnavailable` where none does in time; `Closed` where it
-        was stopped meanwhile.
+        """Repeat a call until a service answers.
+
+        The call gets the service's address and the remaining seconds. Raises `ServiceRefused`;
+        `ServiceUnavailable` if no service answers in time; and `Closed` if the client was closed.
         """
         until, pause = time.monotonic() + patience, FIRST_PAUSE
         while not stop.is_set():
@@ -171,7 +175,7 @@ class ServiceConnection:
                     "been carried out. Repeat it"
                 ) from error
             stop.wait(rest)
-            pause = min(MOST_PAUSE, 2 * pause)
+            pause = min(MAX_PAUSE, 2 * pause)
         raise Closed("the client is closed. Make another one")
 
     def ask(
@@ -182,39 +186,40 @@ class ServiceConnection:
         seconds: float,
         headers: Mapping[str, str] = NO_HEADERS,
     ) -> dict[str, Any]:
-        """One request, a GET where it has no body, over a connection that is kept; one that the
-        service has closed meanwhile is opened anew. Raises `ServiceRefused`, or an `OSError` or a
-        `ValueError` where there was no answer.
+        """Send one request: a POST if there is a body, otherwise a GET.
+
+        It uses an idle connection. If the service has closed that, the request is sent over a new
+        one. Raises `ServiceRefused`, or `OSError` or `ValueError` if there was no reply.
         """
         data = None if body is None else serialization.write(body).encode()
         link, path = self._link(url, seconds), urllib.parse.urlsplit(url).path + path
         was_open = link.sock is not None
         kind = {} if data is None else {"Content-Type": "application/json"}
-        told = {**self._headers, **kind, **headers}
+        all_headers = {**self._headers, **kind, **headers}
         try:
             try:
-                status, text = self._answer(link, path, data, told)
+                status, text = self._answer(link, path, data, all_headers)
             except ConnectionError:
                 if not was_open:
                     raise
                 link.close()
-                status, text = self._answer(link, path, data, told)
+                status, text = self._answer(link, path, data, all_headers)
         except Exception as error:
             link.close()
             if isinstance(error, (OSError, ValueError)):
                 raise
             raise ConnectionError(
                 f"{type(error).__name__}: {error}"
-            ) from error  # http.client's own: half an answer, say
+            ) from error  # an error of http.client, for example a partial reply
         with self._lock:
             self._idle.append(((url, os.getpid()), link))
         if status >= 300:
             raise refusal_of(status, text)
-        found: dict[str, Any] = json.loads(text)
-        return found
+        reply: dict[str, Any] = json.loads(text)
+        return reply
 
     def opened(self, url: str, path: str, headers: dict[str, str], seconds: float) -> OpenAnswer:
-        """An answer that is read later, over a connection of its own. Raises as `ask`."""
+        """Open a reply that is read later, over a separate connection. Raises as `ask`."""
         link, path = self._new(url, seconds), urllib.parse.urlsplit(url).path + path
         try:
             link.connect()
@@ -234,7 +239,7 @@ class ServiceConnection:
         raise refusal
 
     def close(self) -> None:
-        """Ends all connections, also those over which an answer is awaited."""
+        """Close all connections, also those over which a reply is awaited."""
         self._ended = True
         self.close_idle()
         with self._lock:
@@ -243,14 +248,14 @@ class ServiceConnection:
             end(link.sock)
 
     def close_idle(self) -> None:
-        """Closes those over which nothing is awaited."""
+        """Close the connections over which no reply is awaited."""
         with self._lock:
             idle, self._idle = self._idle, []
         for _, link in idle:
             link.close()
 
-    def _say_unknown(self, url: str, step: str) -> None:
-        """No task of such a step will ever come: said once of each."""
+    def _warn_unknown(self, url: str, step: str) -> None:
+        """Warn once for each step that no definition of the service has."""
         with self._lock:
             new = step not in self._unknown_steps
             self._unknown_steps.add(step)
@@ -263,12 +268,12 @@ class ServiceConnection:
             )
 
     def _link(self, url: str, seconds: float) -> http.client.HTTPConnection:
-        """A connection to the service that nobody uses now, or a new one."""
-        mine = url, os.getpid()  # behind a fork, those of the parent are not used
+        """Return an idle connection to the service, or a new one."""
+        mine = url, os.getpid()  # a forked process does not use its parent's connections
         with self._lock:
             while self._idle:
-                of, link = self._idle.pop()
-                if of == mine:
+                owner, link = self._idle.pop()
+                if owner == mine:
                     break
                 link.close()
             else:
@@ -286,10 +291,10 @@ class ServiceConnection:
         data: bytes | None,
         headers: dict[str, str],
     ) -> tuple[int, bytes]:
-        """Asks, and reads the answer to its end, so that the connection can be used again."""
+        """Send a request, and read the whole reply, so that the connection can be reused."""
         if link.sock is None:
             link.connect()
-        if self._ended:  # looked at once it is connected: `close` ends what it finds connected
+        if self._ended:  # checked after connecting, because `close` ends only open connections
             raise ConnectionAbortedError("the client is closed")
         link.request("GET" if data is None else "POST", path, data, headers)
         answer = link.getresponse()
@@ -306,7 +311,7 @@ class ServiceConnection:
 
 
 def address_of(text: str) -> str:
-    """The address of a service. Raises `ValueError`, which shows no password."""
+    """Return the address of a service. Raises `ValueError`, which shows no password."""
     _, at, host = text.rpartition("@")
     if not text.startswith(("http://", "https://")):
         shown = f"...@{host}" if at else text
@@ -322,24 +327,24 @@ def address_of(text: str) -> str:
 
 
 def is_final(refusal: ServiceRefused) -> bool:
-    """Whether the worker is refused, and not what it says of one task."""
+    """Return whether the worker itself is refused, and not only one of its tasks."""
     return refusal.status in (401, 403) and refusal.name != "InvalidLease"
 
 
 def refusal_of(status: int, text: bytes) -> ServiceRefused:
-    """What is raised of an answer: problem details, or what a proxy says."""
+    """Return the exception of a reply: problem details, or the text of a proxy."""
     shown = text[:10_000].decode(errors="replace")
     try:
-        told = json.loads(text)
-        name = str(told["type"]).rpartition(":")[2]
-        text_of = f"{status} {name}: {told['detail']}"
-        return ServiceRefused(status, text_of, name, told.get("field"))
+        problem = json.loads(text)
+        name = str(problem["type"]).rpartition(":")[2]
+        text_of = f"{status} {name}: {problem['detail']}"
+        return ServiceRefused(status, text_of, name, problem.get("field"))
     except (ValueError, KeyError, TypeError):
         return ServiceRefused(status, f"{status}: {shown}")
 
 
 def end(channel: socket.socket | None) -> None:
-    """Ends a connection, also for a thread that reads of it."""
+    """End a connection, also for a thread that reads from it."""
     if channel is not None:
         with contextlib.suppress(OSError):
             channel.shutdown(socket.SHUT_RDWR)

@@ -1,4 +1,4 @@
-"""The events of a service, as an iterator that continues after a break of the stream."""
+"""The events of a service, as an iterator that survives a break of the stream."""
 
 from __future__ import annotations
 
@@ -19,18 +19,18 @@ from sagas.api.service_views import ServiceEvent, error_of, event_of
 from sagas.base.errors import Closed
 
 SILENT = 40.0
-"""Seconds without even a comment: the connection is dead."""
+"""Seconds without even a comment after which the connection counts as dead."""
 ANSWER = 20.0  # seconds until it is opened
 
 
 class ServiceEvents:
     """Follow the events of a service, in a loop. Made by `ServiceClient.events`.
 
-    If the stream breaks, it goes on after the last event. Each event of the loop is a
+    If the stream breaks, it continues after the last event. Each event of the loop is a
     `ServiceEvent`. One thread iterates; any thread may close it.
 
     Raises:
-        ServiceUnavailable: In a loop, if no service answers. Iterate again to go on.
+        ServiceUnavailable: In a loop, if no service answers. Iterate again to continue.
         ServiceRefused: In a loop, if the service refuses the stream, for example the token.
     """
 
@@ -48,9 +48,9 @@ class ServiceEvents:
         return self._last
 
     def open(self) -> ServiceEvents:
-        """Wait until the service has opened the stream: events from now on are seen.
+        """Wait until the service has opened the stream: later events are received.
 
-        A loop does this by itself.
+        A loop opens the stream by itself.
 
         Returns:
             This stream.
@@ -83,18 +83,18 @@ class ServiceEvents:
                 self.open()
             except Closed:
                 break
-            found, self._first = self._first or self._read(), None
-            if found is None:
+            fields, self._first = self._first or self._read(), None
+            if fields is None:
                 self._drop()
                 self._closed.wait(FIRST_PAUSE)
-            elif "event" in found and "data" in found:
-                told = json.loads(found["data"])
-                return event_of(found["event"], self._last or "", told, time.time())
+            elif "event" in fields and "data" in fields:
+                data = json.loads(fields["data"])
+                return event_of(fields["event"], self._last or "", data, time.time())
         self._drop()
         raise StopIteration
 
     def _opened(self, url: str, left: float) -> None:
-        """Opens it, and reads what comes first: the id behind which it goes on."""
+        """Open the stream, and read its first fields: the id after which it continues."""
         headers = {"Accept": "text/event-stream"}
         if self._last is not None:
             headers["Last-Event-ID"] = self._last
@@ -110,20 +110,20 @@ class ServiceEvents:
             raise ConnectionError("the stream ended before its first line")
 
     def _read(self) -> dict[str, str] | None:
-        """The fields up to the next empty line; None: the stream has ended, or broke."""
+        """Return the fields up to the next empty line; None if the stream has ended."""
         assert self._answer
-        found: dict[str, str] = {}
+        fields: dict[str, str] = {}
         try:
             while line := self._answer.response.readline():
                 text = line.rstrip(b"\r\n").decode(errors="replace")
                 if not text:
-                    self._last = found.get("id", self._last)
-                    return found
+                    self._last = fields.get("id", self._last)
+                    return fields
                 name, _, value = text.partition(":")
                 value = value.removeprefix(" ")
-                found[name] = f"{found[name]}\n{value}" if name in found else value
+                fields[name] = f"{fields[name]}\n{value}" if name in fields else value
         except (OSError, ValueError, http.client.HTTPException):
-            pass  # it is opened anew, unless it was closed
+            pass  # it is opened again, unless it was closed
         return None
 
     def _drop(self) -> None:

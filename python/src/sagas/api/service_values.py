@@ -1,4 +1,4 @@
-"""Values that a service answers as they are stored: encoded, or as references to blobs."""
+"""Stored values in replies of a service: encoded ones, and references to blobs."""
 
 from __future__ import annotations
 
@@ -16,33 +16,33 @@ from sagas.definition.payloads import Codec, checked
 
 
 class ServiceValues:
-    """Reads them with the codec and the blob store of the service."""
+    """Reads values with the codec and the blob store of a service."""
 
     def __init__(self, codec: Codec | None, blobs: BlobStore | None) -> None:
-        """Raises `TypeError` if one of them is none."""
+        """Make a reader. Raises `TypeError` if an argument has the wrong type."""
         check_blobs(blobs, LEAST)
         self._payloads, self._blobs = checked(codec, blobs is not None), blobs
 
-    def saga(self, told: Mapping[str, Any]) -> Mapping[str, Any]:
-        """Return what a service says of a saga, with its values. Raises `CannotDecode`."""
+    def saga(self, reply: Mapping[str, Any]) -> Mapping[str, Any]:
+        """Return a reply about a saga, with decoded values. Raises `CannotDecode`."""
         if not self._payloads.reads:
-            return told
-        results = {step: self.read(value) for step, value in told["results"].items()}
-        return {**told, "input": self.read(told["input"]), "results": results}
+            return reply
+        results = {step: self.read(value) for step, value in reply["results"].items()}
+        return {**reply, "input": self.read(reply["input"]), "results": results}
 
     def read(self, value: Any) -> Any:
-        """Return a value. Raises `CannotDecode`."""
+        """Return a decoded value. Raises `CannotDecode`."""
         is_stored = isinstance(value, dict) and bool({"$codec", "$blob"} & value.keys())
         if not is_stored or not self._payloads.reads:
             return value
         text = json.dumps(value, separators=(",", ":"))
         if self._blobs is not None and (reference := Reference.of(text)):
-            text = self._got(reference.key)
+            text = self._fetched(reference.key)
         if self._payloads.codec is None and text.startswith('{"$codec":'):
             return json.loads(text)
         return json.loads(self._payloads.decode(text))
 
-    def _got(self, key: str) -> str:
+    def _fetched(self, key: str) -> str:
         assert self._blobs
         try:
             if inspect.iscoroutinefunction(self._blobs.get):
@@ -51,26 +51,26 @@ class ServiceValues:
                 data = self._blobs.get(key)
         except KeyError:
             raise CannotDecode("its value is not in the blob store") from None
-        except Exception as error:  # it may have the value in its text
+        except Exception as error:  # its text may contain the value
             name = type(error).__name__
             raise CannotDecode(f"its value cannot be got: the blob store raised {name}") from None
         return bytes(data).decode("utf-8", "surrogatepass")
 
 
 def _awaited(function: Any, key: str) -> Any:
-    """Call a coroutine function in a loop of its own: the caller's thread may have one."""
-    found: list[Any] = []
+    """Run a coroutine function in a new loop: the caller's thread may have one."""
+    result: list[Any] = []
 
     def work() -> None:
         try:
-            found.extend((asyncio.run(function(key)), None))
+            result.extend((asyncio.run(function(key)), None))
         except Exception as error:
-            found.extend((None, error))
+            result.extend((None, error))
 
     thread = threading.Thread(target=work, name="sagas-blobs")
     thread.start()
     thread.join()
-    value, error = found
+    value, error = result
     if error is not None:
         raise error
     return value

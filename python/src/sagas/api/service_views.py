@@ -1,4 +1,4 @@
-"""What a service answers to a client: sagas, entries of a list and events."""
+"""Replies of a service to a client: sagas, entries of a list and events."""
 
 from __future__ import annotations
 
@@ -37,12 +37,12 @@ ERRORS: dict[str, type[SagasError]] = {
         TooLarge,
     )
 }
-"""The problems that callers know as exceptions of a store, by their names."""
+"""The problems that are exceptions of a store, by name."""
 
 
 @dataclasses.dataclass(frozen=True)
 class ServiceSaga(Answering):
-    """Tell how a saga stood when the service was asked. Made by `ServiceClient`.
+    """Show a saga at the time of the request. Made by `ServiceClient`.
 
     `str` shows a line for each step.
 
@@ -54,15 +54,15 @@ class ServiceSaga(Answering):
         ended: Wall time, in seconds since 1970, or None.
         deadline: When it is aborted if it has not ended: wall time, in seconds since 1970, or None.
         aborted: Whether it was aborted.
-        note: What the person wrote who resolved it, or None.
+        note: The note of the operator who resolved it, or None.
         labels: Its labels.
         input: Its input.
-        states: The state of each step, as the HTTP API has it.
+        states: The state of each step, as in the HTTP API.
         results: The results of the steps that remain in effect.
-        errors: What failed steps raised last, by step.
-        plan: Its last plan, as the HTTP API has it; None if nothing failed.
-        waits: The attempts that wait, as the HTTP API has them.
-        progress: What functions that run reported last, as the HTTP API has it.
+        errors: The last error of failed steps, by step.
+        plan: Its last plan, as in the HTTP API; None if nothing failed.
+        waits: The attempts that wait, as in the HTTP API.
+        progress: The last progress that running functions reported, as in the HTTP API.
     """
 
     key: str
@@ -84,17 +84,17 @@ class ServiceSaga(Answering):
 
     @property
     def over(self) -> bool:
-        """Whether it is not open."""
+        """Whether the saga has ended."""
         return self.phase != "open"
 
     @property
     def fan(self) -> Fan:
-        """Which steps a declared one means: the service names only single steps."""
+        """The steps of each declared step: a service names only single steps."""
         return FIXED
 
     @property
     def cost(self) -> int | None:
-        """Of the last plan; None if there was none, or if no plan was feasible."""
+        """The cost of the last plan; None if there was none, or if no plan was feasible."""
         return self.plan["cost"] if self.plan else None
 
     @property
@@ -113,7 +113,7 @@ class ServiceSummary:
         phase: `open`, `completed`, `recovered`, `stuck` or `resolved`.
         started: Wall time, in seconds since 1970.
         ended: Wall time, in seconds since 1970, or None.
-        note: What the person wrote who resolved it, or None.
+        note: The note of the operator who resolved it, or None.
         undo_failed: Whether it ended by a plan, and a compensation failed permanently.
         labels: Its labels.
         deadline: When it is aborted if it has not ended: wall time, in seconds since 1970, or None.
@@ -132,10 +132,10 @@ class ServiceSummary:
 
 @dataclasses.dataclass(frozen=True, slots=True)
 class ServiceEvent(Event):
-    """Tell what happened, as a stream of a service has it. Made by `ServiceEvents`.
+    """Describe an event of a service's stream. Made by `ServiceEvents`.
 
-    It has the attributes of an `Event`. See `Event`. One named `missed` says that some events are
-    lost: look at the sagas themselves.
+    It has the attributes of an `Event`. See `Event`. An event named `missed` means that some events
+    are lost: look at the sagas themselves.
 
     Attributes:
         id: For `last_event_id` of a later stream.
@@ -144,38 +144,38 @@ class ServiceEvent(Event):
     id: str = ""
 
 
-def saga_of(told: Mapping[str, Any]) -> ServiceSaga:
-    """A saga, of what the service says of it."""
-    return ServiceSaga(**_fields(ServiceSaga, told), saga=told["definition"])
+def saga_of(reply: Mapping[str, Any]) -> ServiceSaga:
+    """Return the saga of a reply."""
+    return ServiceSaga(**_fields(ServiceSaga, reply), saga=reply["definition"])
 
 
-def summary_of(told: Mapping[str, Any]) -> ServiceSummary:
-    """An entry of a list, of what the service says of it."""
-    return ServiceSummary(**_fields(ServiceSummary, told), saga=told["definition"])
+def summary_of(reply: Mapping[str, Any]) -> ServiceSummary:
+    """Return the entry of a list, from its reply."""
+    return ServiceSummary(**_fields(ServiceSummary, reply), saga=reply["definition"])
 
 
-def event_of(name: str, id: str, told: Mapping[str, Any], now: float) -> ServiceEvent:
-    """An event; one without a time has that at which it is heard."""
-    words: dict[str, Any] = {"at": now, **_fields(ServiceEvent, told), "name": name, "id": id}
-    return ServiceEvent(**words)
+def event_of(name: str, id: str, reply: Mapping[str, Any], now: float) -> ServiceEvent:
+    """Return an event; `now` is its time if the reply has none."""
+    fields: dict[str, Any] = {"at": now, **_fields(ServiceEvent, reply), "name": name, "id": id}
+    return ServiceEvent(**fields)
 
 
-def waits_of(told: Mapping[str, Any]) -> list[str]:
-    """What a saga that is not over waits for, in words."""
+def waits_of(reply: Mapping[str, Any]) -> list[str]:
+    """Return what an open saga waits for, in words."""
     return [
-        f"{'the compensation of ' if one['undo'] else ''}{one['step']} waits for "
-        f"{WAITS_FOR.get(one['why'], one['why'])}"
-        for one in told["waits"]
+        f"{'the compensation of ' if wait['undo'] else ''}{wait['step']} waits for "
+        f"{WAITS_FOR.get(wait['why'], wait['why'])}"
+        for wait in reply["waits"]
     ]
 
 
 def error_of(name: str, text: str) -> SagasError | None:
-    """The exception of a problem that a store raises, too; of the others None."""
+    """Return the exception of a problem that a store raises too, or None."""
     kind = ERRORS.get(name)
     return kind(text.partition(": ")[2] or text) if kind else None
 
 
-def _fields(kind: type[Any], told: Mapping[str, Any]) -> dict[str, Any]:
-    """What this release knows of an answer: a later service may say more."""
+def _fields(kind: type[Any], reply: Mapping[str, Any]) -> dict[str, Any]:
+    """Return the fields that this release knows. A later service may send more."""
     names = {field.name for field in dataclasses.fields(kind)}
-    return {name: value for name, value in told.items() if name in names}
+    return {name: value for name, value in reply.items() if name in names}

@@ -20,18 +20,17 @@ from sagas.definition.start_options import Deadline, StartOptions, deadline_at
 from sagas.runtime import relocation
 from sagas.runtime.coordinator import Coordinator
 
-Begun = Coroutine[Any, Any, bool]
-"""Whether a start began the saga: to be awaited at once, since its key is taken by then."""
+StartWork = Coroutine[Any, Any, bool]
+"""Whether a start created the saga. Await it at once: its key is taken already."""
 
 
 class Starter:
-    """Starts sagas of these definitions; with `accepts_new=False` only finds those that are
-    there."""
+    """Starts sagas. Without `accepts_new`, it only finds existing ones."""
 
     def __init__(
-        self, access: StoreAccess, lookup: SagaLookup, shelf: Shelf, accepts_new: bool
+        self, access: StoreAccess, lookup: SagaLookup, registry: Shelf, accepts_new: bool
     ) -> None:
-        self._access, self._lookup, self._shelf = access, lookup, shelf
+        self._access, self._lookup, self._registry = access, lookup, registry
         self.accepts_new = accepts_new
 
     def start(
@@ -43,82 +42,94 @@ class Starter:
         deadline: Deadline | None,
         traceparent: str | None = None,
         token: str | None = None,
-    ) -> Begun:
-        """Starts a saga. Whether this start began it. `token`: the name of a service's token."""
-        inside = self._access.here()
+    ) -> StartWork:
+        """Start a saga; return whether this start created it.
+
+        `token` is the name of a service's token.
+        """
+        coordinator = self._access.coordinator_here()
         arguments.key(key)
         undo_sagas.check_started(saga)
         text = serialization.write_value(input, "input")
-        fitted = self._shelf.fit(saga, text)
+        fitted = self._registry.fit(saga, text)
         if saga.has_children:
             children.check_key(key, saga)
         options = start_options.NONE
         if deadline is None:
             deadline = saga.deadline
-        given = (labels, deadline, traceparent, token)
-        if any(word is not None for word in given):
-            time, told = deadline_at(deadline, inside.clock()), checked(labels)
-            told = told if token is None else with_token(told, token, len(text))
-            options = StartOptions(told, time, None, None, traceparent)
+        options_given = (labels, deadline, traceparent, token)
+        if any(option is not None for option in options_given):
+            deadline_time, saga_labels = deadline_at(deadline, coordinator.clock()), checked(labels)
+            saga_labels = (
+                saga_labels if token is None else with_token(saga_labels, token, len(text))
+            )
+            options = StartOptions(saga_labels, deadline_time, None, None, traceparent)
         if fitted is None:
-            return self._shape(inside, saga, key, text, options, self.accepts_new)
-        return self._start(inside, saga, fitted, key, text, options, self.accepts_new)
+            return self._shape(coordinator, saga, key, text, options, self.accepts_new)
+        return self._start(coordinator, saga, fitted, key, text, options, self.accepts_new)
 
-    def start_child(self, saga: Saga | Kind, key: str, input: Any, options: StartOptions) -> Begun:
-        """Starts a child, also where the store starts no new sagas: its parent is not new. What
-        undoes a child comes as its definition."""
-        inside = self._access.here()
+    def start_child(
+        self, saga: Saga | Kind, key: str, input: Any, options: StartOptions
+    ) -> StartWork:
+        """Start a child, also if the store accepts no new sagas: its parent is not new.
+
+        A saga that undoes a child is passed as its compiled definition.
+        """
+        coordinator = self._access.coordinator_here()
         arguments.key(key, or_child=True)
-        # the input of a saga that undoes a child has the child's results
+        # the input of a saga that undoes a child contains the child's results
         if isinstance(saga, Kind):
             text = serialization.write(input, "input")
             return self._start(
-                inside, saga, Fitted(saga, None, None), key, text, options, accepts=True
+                coordinator, saga, Fitted(saga, None, None), key, text, options, accepts=True
             )
         text = serialization.write_value(input, "input")
-        fitted = self._shelf.fit(saga, text)
+        fitted = self._registry.fit(saga, text)
         if fitted is None:
-            return self._shape(inside, saga, key, text, options, accepts=True)
-        return self._start(inside, saga, fitted, key, text, options, accepts=True)
+            return self._shape(coordinator, saga, key, text, options, accepts=True)
+        return self._start(coordinator, saga, fitted, key, text, options, accepts=True)
 
     async def _shape(
         self,
-        inside: Coordinator,
+        coordinator: Coordinator,
         saga: Saga,
         key: str,
         text: str,
         options: StartOptions,
         accepts: bool,
     ) -> bool:
-        """As `_start`, of a saga whose steps come from its input. Its key is taken only then."""
-        fitted = await inside.declared.fit(self._shelf, saga, text)
-        self._access.here()  # it may be closed by now
-        return await self._start(inside, saga, fitted, key, text, options, accepts)
+        """Start a saga whose steps come from its input, after computing the steps.
+
+        Its key is not taken before that.
+        """
+        fitted = await coordinator.declared.fit(self._registry, saga, text)
+        self._access.coordinator_here()  # it may be closed by now
+        return await self._start(coordinator, saga, fitted, key, text, options, accepts)
 
     def _start(
         self,
-        inside: Coordinator,
+        coordinator: Coordinator,
         saga: Saga | Kind,
         fitted: Fitted,
         key: str,
         text: str,
         options: StartOptions,
         accepts: bool,
-    ) -> Begun:
-        kind, shape, wrong = fitted
+    ) -> StartWork:
+        kind, shape, invalid = fitted
         if shape is not None:
             options = dataclasses.replace(options, shape=shape)
-        text = self._shelf.payloads.encode(text)
-        is_new = wrong is None and accepts and key not in inside.sagas.by_key
-        if is_new and self._lookup.guessing.is_worth():  # as far as the last ones tell
+        text = self._registry.payloads.encode(text)
+        is_new = invalid is None and accepts and key not in coordinator.sagas.by_key
+        if is_new and self._lookup.guessing.is_worth():  # judging by the last starts
             assert kind
-            new = inside.sagas.add(key, text, kind, options)
-            return self._begin(inside, new, guessed=True)
-        return self._look(inside, saga, fitted, key, text, options, accepts)
+            new = coordinator.sagas.add(key, text, kind, options)
+            return self._begin(coordinator, new, guessed=True)
+        return self._start_looked_up(coordinator, saga, fitted, key, text, options, accepts)
 
-    async def _look(
+    async def _start_looked_up(
         self,
-        inside: Coordinator,
+        coordinator: Coordinator,
         saga: Saga | Kind,
         fitted: Fitted,
         key: str,
@@ -126,32 +137,32 @@ class Starter:
         options: StartOptions,
         accepts: bool,
     ) -> bool:
-        """As `_start`, of a key that may be there."""
-        lookup, payloads = self._lookup, self._shelf.payloads
-        kind, _, wrong = fitted
-        live = inside.sagas.by_key.get(key)
-        is_sound = wrong is None and accepts
+        """Start a saga after looking up its key."""
+        lookup, payloads = self._lookup, self._registry.payloads
+        kind, _, invalid = fitted
+        live = coordinator.sagas.by_key.get(key)
+        is_sound = invalid is None and accepts
         if live is not None and live.is_doubtful:
             live = await lookup.live(key)
-        # else it is looked for with others, where it is placed
-        looks = inside.store.shared or not is_sound
+        # otherwise its key is looked up with others, when it is assigned to a shard
+        looks = coordinator.store.shared or not is_sound
         row = await lookup.find(key) if looks and live is None else None
-        live = inside.sagas.by_key.get(key)  # another start of it may have come meanwhile
-        there = (live.kind.name, live.text) if live else (row.saga, row.input) if row else None
-        if live and live.text == ABSENT and (row := await inside.store.find(key)):
-            there = row.saga, row.input
-        if there:
-            kind_or_saga, store = kind or saga, inside.store
-            error = await relocation.conflict_there(
-                store, key, kind_or_saga, text, *there, payloads
+        live = coordinator.sagas.by_key.get(key)  # another start may have arrived
+        stored = (live.kind.name, live.text) if live else (row.saga, row.input) if row else None
+        if live and live.text == ABSENT and (row := await coordinator.store.find(key)):
+            stored = row.saga, row.input
+        if stored:
+            kind_or_saga, store = kind or saga, coordinator.store
+            error = await relocation.conflict_with_stored(
+                store, key, kind_or_saga, text, *stored, payloads
             )
-            if error and live and not live.committed and not inside.store.shared:
+            if error and live and not live.committed and not coordinator.store.shared:
                 # that start may have no right to the key either
-                row = await inside.store.find(key)
+                row = await coordinator.store.find(key)
                 if row:
-                    there = row.saga, row.input
-                    error = await relocation.conflict_there(
-                        store, key, kind_or_saga, text, *there, payloads
+                    stored = row.saga, row.input
+                    error = await relocation.conflict_with_stored(
+                        store, key, kind_or_saga, text, *stored, payloads
                     )
                     live = None
             if error:
@@ -160,26 +171,26 @@ class Starter:
             raise Closed(
                 f"{self._access.path}: opened with accept_new=False, so it starts no new sagas"
             )
-        elif wrong:
-            raise wrong
+        elif invalid:
+            raise invalid
         else:
             assert kind
-            new = inside.sagas.add(key, text, kind, options)
-            return await self._begin(inside, new, guessed=False)
+            new = coordinator.sagas.add(key, text, kind, options)
+            return await self._begin(coordinator, new, guessed=False)
         if live and not live.committed:
-            await inside.sagas.started(live)
-        elif live is None:  # another node wrote it, which may not have heard yet that it is kept
-            await inside.store.replicated()
+            await coordinator.sagas.started(live)
+        elif live is None:  # another node wrote it, and may not know yet that it is stored
+            await coordinator.store.replicated()
         return False
 
-    async def _begin(self, inside: Coordinator, live: SagaInstance, guessed: bool) -> bool:
-        """Starts one whose key is free, as far as is known. False: another node was first."""
+    async def _begin(self, coordinator: Coordinator, live: SagaInstance, guessed: bool) -> bool:
+        """Start a saga whose key seems to be free; return False if another node was first."""
         live.guessed = guessed
-        # before it is placed: it may be there at once, or refused
-        begun = inside.sagas.started(live)
-        inside.shards.place(live)
+        # before it is assigned, since it may be stored or refused at once
+        stored = coordinator.sagas.started(live)
+        coordinator.shards.assign(live)
         try:
-            await begun
+            await stored
         except KeyConflict:
             self._lookup.guessing.told(was_there=True)
             raise
@@ -190,14 +201,15 @@ class Starter:
         return live.committed
 
     async def _is_there(self, live: SagaInstance) -> bool:
-        """Whether the key of one that could not be begun has that saga all the same. Raises
-        `KeyConflict`, `StoreUnavailable`.
+        """Return whether the store has a saga whose start has failed.
+
+        Raises `KeyConflict` and `StoreUnavailable`.
         """
         row = await self._lookup.find(live.key)
         if row is None:
             return False
-        store = self._access.inside.store
-        error = await relocation.conflict_there(
+        store = self._access.coordinator.store
+        error = await relocation.conflict_with_stored(
             store, live.key, live.kind, live.text, row.saga, row.input
         )
         if error:

@@ -11,8 +11,8 @@ from collections.abc import Callable, Iterable, Mapping
 from types import TracebackType
 from typing import TYPE_CHECKING, Any
 
-from sagas.api.batches import beside
-from sagas.api.children import ChildCarrier
+from sagas.api.batches import over_own_connection
+from sagas.api.children import ChildOperations
 from sagas.api.deliveries import Deliveries
 from sagas.api.retry_calls import RetryCalls
 from sagas.api.run import Run
@@ -53,7 +53,7 @@ class Store(RetryCalls):
         leased: Whether workers claim the tasks of steps with `external=True` (default: False). Set
             it before opening. Then such a step starts when it is claimed.
         workers: The tasks for workers.
-        deliveries: What webhooks are told.
+        deliveries: The deliveries for webhooks.
         opened_with: The arguments of `sagas.open`, by name, for `sagas serve --app`.
     """
 
@@ -89,8 +89,8 @@ class Store(RetryCalls):
             "engine_processes": engine_processes,
             "threads": threads,
         }
-        for word, number in counts.items():
-            arguments.count(word, number)
+        for name, number in counts.items():
+            arguments.count(name, number)
         arguments.calls("clock", clock, "that returns seconds since 1970, like time.time")
         if on_event is not None:
             arguments.calls("on_event", on_event, "that takes an Event")
@@ -102,10 +102,10 @@ class Store(RetryCalls):
         check_blobs(blobs, blob_threshold)
         self._blobs = blobs, blob_threshold
         self._record = arguments.record(record)
-        self._shelf = Shelf(sagas, payloads.checked(codec, blobs is not None))
-        self._words = {**counts, "idle": arguments.time("idle", idle), "clock": clock}
+        self._registry = Shelf(sagas, payloads.checked(codec, blobs is not None))
+        self._options = {**counts, "idle": arguments.time("idle", idle), "clock": clock}
         self._tracer = tracing.tracer()
-        self._words |= {"context": context, "tracer": self._tracer}
+        self._options |= {"context": context, "tracer": self._tracer}
         self._shutdown_timeout = (
             None
             if shutdown_timeout is None
@@ -115,39 +115,39 @@ class Store(RetryCalls):
         super().__init__(
             StoreAccess("PostgreSQL" if factory.is_url(self._name) else self._name), self._name
         )
-        self._starter = Starter(self._access, self._lookup, self._shelf, accept_new)
+        self._starter = Starter(self._access, self._lookup, self._registry, accept_new)
         self._reports.starter = self._starter
-        self._requests: operator_commands.Requests | None = None
+        self._requests: operator_commands.RequestExecutor | None = None
         self.workers = Workers(self._access)
-        self.deliveries = Deliveries(self._access, self._shelf)
+        self.deliveries = Deliveries(self._access, self._registry)
         self.leased = False
 
     @property
     def path(self) -> str:
-        """Its file, or its database without the password."""
+        """The file of the store, or its database without the password."""
         return self._access.path
 
     @property
     def sagas(self) -> builtins.list[Saga]:
-        """The definitions that it was opened with."""
-        return [*self._shelf.declared]
+        """The definitions that the store was opened with."""
+        return [*self._registry.declared]
 
     @property
     def codec(self) -> Codec | None:
-        """What encodes its values; None if nothing does."""
-        return self._shelf.payloads.codec
+        """The codec of values, or None."""
+        return self._registry.payloads.codec
 
     async def __aenter__(self) -> Store:
-        """Open it: take the lock, and go on with each saga that is not over.
+        """Open the store: take the lock, and continue each open saga.
 
         Raises:
-            StoreLocked: Another program has the file open. Or a codec was given, and a node
-                without one has the database open.
+            StoreLocked: Another program has the file open. Or a codec was given, and a node without
+                one has the database open.
             StoreUnavailable: The file or the server does not answer.
-            InvalidStore: It is no store, or not one that this program can go on from.
+            InvalidStore: It is not a store, or not one that this program can continue.
             MissingCodec: Its values are encoded, and no codec was given.
-            MissingStep: A saga that is not over needs a step that this program has no function for,
-                or may undo a completed child whose compensation this program does not have.
+            MissingStep: An open saga needs a step that this program has no function for, or may
+                undo a completed child whose compensation this program does not have.
             EngineError: The program `sagas` cannot be started, or refuses a shard.
             RuntimeError: The store is open already.
         """
@@ -156,19 +156,21 @@ class Store(RetryCalls):
         return self
 
     async def _open(self) -> None:
-        for saga in self._shelf.sagas.values():
+        for saga in self._registry.sagas.values():
             for warning in saga.warnings():
                 logger.warning("%s", warning)
-        where = program_module.path(self._program)
-        most: Any = self._words["concurrency"]
+        program_path = program_module.path(self._program)
+        limit: Any = self._options["concurrency"]
         database = factory.make(
-            self._name, self._shelf, self._node, self._lease, most, transactions, self._record
+            self._name, self._registry, self._node, self._lease, limit, transactions, self._record
         )
-        database = BlobDatabase.over(database, *self._blobs, self._shelf.payloads)
+        database = BlobDatabase.over(database, *self._blobs, self._registry.payloads)
         self._access.path = database.path
-        words: dict[str, Any] = {"program": where, "teller": self._teller, **self._words}
-        coordinator = self._access.coordinator = Coordinator(database, self._shelf, **words)
-        coordinator.executor.children.carrier = ChildCarrier(
+        options: dict[str, Any] = {"program": program_path, "teller": self._teller, **self._options}
+        coordinator = self._access.opened_coordinator = Coordinator(
+            database, self._registry, **options
+        )
+        coordinator.executor.children.operations = ChildOperations(
             self._access, self._lookup, self._starter, self._commands
         )
         coordinator.external.leased = coordinator.executor.machine.leased = self.leased
@@ -177,16 +179,18 @@ class Store(RetryCalls):
         except BaseException:
             await coordinator.close(0.0)
             raise
-        self._requests = operator_commands.Requests(coordinator, self._commands, self._reports)
+        self._requests = operator_commands.RequestExecutor(
+            coordinator, self._commands, self._reports
+        )
         coordinator.listeners.append(self._requests.look)
         if self._starter.accepts_new:
-            coordinator.listeners.append(coordinator.starts().look)
+            coordinator.listeners.append(coordinator.start_reader().look)
             scheduler = Scheduler(coordinator, self._start_scheduled, self._advance)
             coordinator.listeners.append(scheduler.look)
             coordinator.spawn(scheduler.run())
-        steps = [step for saga in self._shelf.sagas.values() for step in saga.all_steps]
+        steps = [step for saga in self._registry.sagas.values() for step in saga.all_steps]
         if any(step.early_unused == "compensate" for step in steps):
-            coordinator.sagas.unused = self._reports.look
+            coordinator.sagas.on_unused_report = self._reports.look
             coordinator.spawn(self._reports.run())
         database.watch(coordinator)
         if isinstance(database, BlobDatabase):
@@ -197,7 +201,7 @@ class Store(RetryCalls):
                 retention_module.keep(coordinator, database.file, seconds, self._archive_dir)
             )
 
-    if not TYPE_CHECKING:  # a checker says so by itself
+    if not TYPE_CHECKING:  # a type checker reports that itself
 
         def __enter__(self) -> Store:
             raise TypeError(
@@ -221,7 +225,7 @@ class Store(RetryCalls):
 
         Their outcomes are stored. A cancelled function runs again, with its idempotency key, when
         the store is opened again. Calls that still wait raise `Closed`. If this call is cancelled,
-        the closing goes on, and a further call waits for it.
+        the closing continues, and a further call waits for it.
 
         Args:
             shutdown_timeout: Seconds, or a timedelta, after which running functions are cancelled
@@ -236,59 +240,59 @@ class Store(RetryCalls):
             if shutdown_timeout is None
             else arguments.time("shutdown_timeout", shutdown_timeout)
         )
-        if self._access.opened.is_elsewhere:  # it is that process's to close
+        if self._access.opened.is_elsewhere:  # another process owns the store
             return
         if self._requests:
             self._requests.stop()
         try:
-            if self._access.coordinator:
-                await self._access.coordinator.close(seconds)
+            if self._access.opened_coordinator:
+                await self._access.opened_coordinator.close(seconds)
         finally:
             if self._is_over:
                 self._access.opened.end()
 
     @property
     def _is_over(self) -> bool:
-        """Whether it is closed: a call of `close` that was cancelled may go on."""
-        coordinator = self._access.coordinator
+        """Whether the store is closed: a cancelled call of `close` may still continue."""
+        coordinator = self._access.opened_coordinator
         return coordinator is None or coordinator.is_over
 
     def _replies(self, key: str) -> None:
-        """A service is about to answer that a saga is started: its record says so first."""
-        inside = self._inside
-        if acknowledgements := inside.executor.calls.acknowledgements:
-            acknowledgements.replied(inside.sagas.by_key.get(key))
+        """Record that a service is about to reply that a saga is started."""
+        coordinator = self._coordinator
+        if acknowledgements := coordinator.executor.calls.acknowledgements:
+            acknowledgements.replied(coordinator.sagas.by_key.get(key))
 
     @property
-    def _inside(self) -> Coordinator:
-        return self._access.inside
+    def _coordinator(self) -> Coordinator:
+        return self._access.coordinator
 
     @property
     def _refusal(self) -> asyncio.Future[InvalidStore]:
-        """Why it cannot execute anything, and will not be able to."""
-        return self._inside.refusal
+        """Done, with the reason, when this node can no longer execute anything."""
+        return self._coordinator.refusal
 
     async def serve(self) -> None:
         """Wait for SIGTERM or SIGINT, in a program that only executes sagas.
 
-        Then close the store: its sagas go on at another node, or when it is opened again.
+        Then close the store: its sagas continue at another node, or when it is opened again.
 
         Raises:
             InvalidStore: The database has no tables of the store any more, and this node cannot
-                make them. Then nothing is executed.
+                create them. Then nothing is executed.
             Closed: The store is not open.
         """
-        loop, refusal = self._inside.loop, self._refusal
-        asked: asyncio.Future[None] = loop.create_future()
+        loop, refusal = self._coordinator.loop, self._refusal
+        stop: asyncio.Future[None] = loop.create_future()
 
-        def ask() -> None:
-            if not asked.done():
-                asked.set_result(None)
+        def request_stop() -> None:
+            if not stop.done():
+                stop.set_result(None)
 
         for number in (signal.SIGTERM, signal.SIGINT):
-            loop.add_signal_handler(number, ask)
+            loop.add_signal_handler(number, request_stop)
         try:
-            ends: list[asyncio.Future[Any]] = [asked, refusal]
+            ends: list[asyncio.Future[Any]] = [stop, refusal]
             await asyncio.wait(ends, return_when=asyncio.FIRST_COMPLETED)
         finally:
             for number in (signal.SIGTERM, signal.SIGINT):
@@ -308,24 +312,23 @@ class Store(RetryCalls):
     ) -> Run:
         """Start a saga, or return the one with this key.
 
-        The call is idempotent. When it returns, the saga is durable: it goes on even if this
+        The call is idempotent. When it returns, the saga is durable: it continues even if this
         program dies.
 
         Args:
             saga: A definition that was given to `open`.
             key: The saga's identity, for example an order number: 1 to 512 printable characters,
-                without `/:`. It is taken as long as the saga is kept.
+                without `/:`. It is used as long as the saga is kept.
             input: What the steps read as `task.input`: JSON, or a value of their type hints
                 (default: None).
             labels: Texts by name, by which lists find the saga: `{"customer": "7"}` (default:
                 none). The labels of the first start of a key count.
             deadline: When the saga is aborted if it has not ended: seconds or a timedelta from now
                 on, or a datetime with a time zone (default: that of `Saga`). That of the first
-                start of a key counts. One that has passed aborts the saga at once, and calls
-                no function.
+                start of a key counts. A deadline in the past aborts the saga at once, and calls no
+                function.
             traceparent: The W3C trace context that the saga is started in (default: of the current
-                span, where `opentelemetry-api` is installed). That of the first start of a key
-                counts.
+                span, if `opentelemetry-api` is installed). That of the first start of a key counts.
 
         Returns:
             The saga. `Run.new` says whether this start created it.
@@ -356,26 +359,28 @@ class Store(RetryCalls):
         deadline: Deadline | None,
         traceparent: str | None,
     ) -> Run:
-        """As `start`; `token`: of a service, the name of the token that starts it."""
+        """Start a saga. `token` is the name of a service's token, or None."""
         trace = tracing.of_start(self._tracer, traceparent)
         new = await self._starter.start(saga, key, input, labels, deadline, trace, token)
         return Run(self, key, new)
 
     async def _check_input(self, saga: Saga, text: str) -> None:
-        fitted = await self._inside.declared.fit(self._shelf, saga, text)
+        fitted = await self._coordinator.declared.fit(self._registry, saga, text)
         if fitted.wrong:
             raise fitted.wrong
 
-    async def _start_scheduled(self, one: Schedule, key: str) -> None:
-        saga = self._shelf.sagas[one.saga, one.version]
-        given = self._shelf.payloads.decode_value(one.input)
-        await self._starter.start(saga, key, given, one.labels, None)
+    async def _start_scheduled(self, schedule: Schedule, key: str) -> None:
+        saga = self._registry.sagas[schedule.saga, schedule.version]
+        input = self._registry.payloads.decode_value(schedule.input)
+        await self._starter.start(saga, key, input, schedule.labels, None)
 
-    async def _advance(self, one: Schedule, *to: Any) -> None:
-        await beside(self._name, lambda link: Schedules(link).advance(one, *to))
+    async def _advance(self, schedule: Schedule, *change: Any) -> None:
+        await over_own_connection(
+            self._name, lambda link: Schedules(link).advance(schedule, *change)
+        )
 
     async def get(self, key: str) -> Run | None:
-        """Return the saga with this key; None if there is none, or no node began it yet.
+        """Return the saga with this key; None if no node has started one.
 
         Args:
             key: The saga's key.
@@ -384,11 +389,11 @@ class Store(RetryCalls):
             StoreUnavailable: The database does not answer.
             Closed: The store is closed.
         """
-        inside = self._access.here()
-        live = inside.sagas.by_key.get(key)
+        coordinator = self._access.coordinator_here()
+        live = coordinator.sagas.by_key.get(key)
         if live and live.committed:
             return Run(self, key)
-        row = await inside.store.find(key)
+        row = await coordinator.store.find(key)
         return Run(self, key) if row and row.id >= 0 else None
 
     async def wait(self, key: str, timeout: float | None = None) -> SagaResult:
@@ -396,7 +401,7 @@ class Store(RetryCalls):
 
         Args:
             key: The saga's key.
-            timeout: Seconds (default: without end).
+            timeout: Seconds (default: without limit).
 
         Returns:
             How it ended.
@@ -432,9 +437,9 @@ class Store(RetryCalls):
             WouldWaitForever: The call is made in a step.
             Closed: The store is closed.
         """
-        if caller := current_step.waiter(self._inside.executor.calls.running):
+        if caller := current_step.waiter(self._coordinator.executor.calls.running):
             raise WouldWaitForever(
                 f"step {caller.name!r} of saga {caller.instance.key!r} waits until no saga is "
                 "open, but its own is. Wait for that outside of a step"
             )
-        await self._inside.settled()
+        await self._coordinator.settled()

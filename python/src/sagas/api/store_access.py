@@ -1,4 +1,4 @@
-"""What the calls of an open store share: its coordinator, and the checks of loop and process."""
+"""Access to the coordinator of an open store, with checks of loop and process."""
 
 from __future__ import annotations
 
@@ -11,43 +11,44 @@ from sagas.runtime.coordinator import Coordinator
 
 
 class StoreAccess:
-    """The coordinator of a store, as long as the store is open."""
+    """The coordinator of a store, while the store is open."""
 
     def __init__(self, path: str) -> None:
         self.path = path
         self.opened = Opened("the store")
-        self.coordinator: Coordinator | None = None
+        self.opened_coordinator: Coordinator | None = None
 
     @property
-    def inside(self) -> Coordinator:
-        """The coordinator. Raises `Closed` where the store is not open."""
-        if self.coordinator is None:
+    def coordinator(self) -> Coordinator:
+        """The coordinator. Raises `Closed` if the store is not open."""
+        if self.opened_coordinator is None:
             raise Closed(
                 f"{self.path}: the store is not open. Use `async with sagas.open(...) as store`"
             )
-        if self.coordinator.forks != private.forks:
+        if self.opened_coordinator.forks != private.forks:
             self.opened.check(self.path)
-        if self.coordinator.closed:
-            raise self.coordinator.closed
-        return self.coordinator
+        if self.opened_coordinator.closed:
+            raise self.opened_coordinator.closed
+        return self.opened_coordinator
 
-    def here(self) -> Coordinator:
-        """The coordinator, for a call that waits in the store's loop.
+    def coordinator_here(self) -> Coordinator:
+        """Return the coordinator, for a call that waits in the store's loop.
 
-        Raises `Closed`, and `RuntimeError` in another loop."""
-        inside = self.coordinator
-        if inside is None or inside.closed or inside.forks != private.forks:
-            inside = self.inside  # raises
-        if asyncio.get_running_loop() is not inside.loop:
+        Raises `Closed`, and `RuntimeError` in another loop.
+        """
+        coordinator = self.opened_coordinator
+        if coordinator is None or coordinator.closed or coordinator.forks != private.forks:
+            coordinator = self.coordinator  # raises
+        if asyncio.get_running_loop() is not coordinator.loop:
             raise RuntimeError(
                 f"{self.path}: the store was opened in another event loop. Make the call "
                 "there, or use sagas.open_sync, for any thread"
             )
-        return inside
+        return coordinator
 
 
-def transactions(*words: Any) -> Any:
-    """What calls functions in transactions of PostgreSQL. It needs psycopg."""
+def transactions(*arguments: Any) -> Any:
+    """Return the caller of functions in transactions of PostgreSQL. It needs psycopg."""
     from sagas.runtime.transactional_steps import Transactions
 
-    return Transactions(*words)
+    return Transactions(*arguments)

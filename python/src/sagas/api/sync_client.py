@@ -27,16 +27,16 @@ class SyncClientRun(Facade[ClientRun]):
 
     Attributes:
         key: The saga's key.
-        new: As of `ClientRun`.
+        new: As for `ClientRun`.
     """
 
     def __init__(self, owner: SyncClient, run: ClientRun) -> None:
         super().__init__(run, owner._loop)
-        self._owner, self.key, self.new = owner, run.key, run.new
+        self._client, self.key, self.new = owner, run.key, run.new
 
     def wait(self, timeout: float | None = None) -> SagaResult:
         """Wait until the saga has ended. See `ClientRun.wait`."""
-        inner = self._owner._inner
+        inner = self._client._inner
         return self._loop.in_time(
             self.key, self._inner.wait(), timeout, lambda: inner.waits_for(self.key)
         )
@@ -74,7 +74,7 @@ class SyncClient(Facade[Client]):
 
     @property
     def codec(self) -> Codec | None:
-        """What encodes values; None if nothing does."""
+        """The codec of values, or None."""
         return self._inner.codec
 
     def __enter__(self) -> SyncClient:
@@ -86,7 +86,7 @@ class SyncClient(Facade[Client]):
             raise
         return self
 
-    if not TYPE_CHECKING:  # a checker says so by itself
+    if not TYPE_CHECKING:  # a type checker reports that itself
 
         async def __aenter__(self) -> SyncClient:
             raise TypeError(
@@ -105,7 +105,7 @@ class SyncClient(Facade[Client]):
         self.close()
 
     def close(self) -> None:
-        """Close its connections."""
+        """Close the connections."""
         if self._loop.runs:
             try:
                 self._loop.do(self._inner.close())
@@ -132,16 +132,16 @@ class SyncClient(Facade[Client]):
             TypeError: The connection is not a `psycopg.Connection`.
         """
         if connection is None:
-            more: dict[str, Any] = {"deadline": deadline, "traceparent": traceparent}
-            start = self._inner.start(saga, key, input, labels=labels, **more)
+            options: dict[str, Any] = {"deadline": deadline, "traceparent": traceparent}
+            start = self._inner.start(saga, key, input, labels=labels, **options)
             return SyncClientRun(self, self._loop.do(start))
         caller_connection.check_kind(connection, plain=True)
         starter = self._inner._starter
-        words = starter.words(saga, key, input, labels, deadline, traceparent)
+        request = starter.start_request(saga, key, input, labels, deadline, traceparent)
         if (check := client_start.shape_check(saga, input)) is not None:
             check()
-        new = starter.start_now(words, connection, self._loop.do)
-        return SyncClientRun(self, ClientRun(self._inner, key, words, new))
+        new = starter.start_now(request, connection, self._loop.do)
+        return SyncClientRun(self, ClientRun(self._inner, key, request, new))
 
     def get(self, key: str) -> SyncClientRun | None:
         """Return the saga with this key, or None. See `Client.get`."""

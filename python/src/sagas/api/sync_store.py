@@ -9,7 +9,7 @@ from types import TracebackType
 from typing import TYPE_CHECKING, Any
 
 from sagas.base.errors import InvalidStore
-from sagas.api.facade import Facade, asked, blocking
+from sagas.api.facade import Facade, blocking_plain, blocking
 from sagas.api.loop_thread import Loop
 from sagas.api.run import Run
 from sagas.api.store import Store
@@ -60,7 +60,7 @@ class SyncStore(Facade[Store]):
 
     @property
     def codec(self) -> Codec | None:
-        """What encodes values; None if nothing does."""
+        """The codec of values, or None."""
         return self._inner.codec
 
     def __enter__(self) -> SyncStore:
@@ -70,10 +70,10 @@ class SyncStore(Facade[Store]):
         except BaseException:
             self._loop.end()
             raise
-        self._loop.where = self._inner.path  # it has the database's name by now
+        self._loop.path = self._inner.path  # the name of the database is known now
         return self
 
-    if not TYPE_CHECKING:  # a checker says so by itself
+    if not TYPE_CHECKING:  # a type checker reports that itself
 
         async def __aenter__(self) -> SyncStore:
             raise TypeError(
@@ -98,7 +98,7 @@ class SyncStore(Facade[Store]):
             try:
                 self._loop.do(self._inner.close(shutdown_timeout))
             finally:
-                if self._inner._is_over:  # else it is still to be closed
+                if self._inner._is_over:  # otherwise it must still be closed
                     self._loop.end()
 
     def serve(self) -> None:
@@ -112,19 +112,19 @@ class SyncStore(Facade[Store]):
             raise RuntimeError(
                 "serve() must be called in the main thread, which receives the signals"
             )
-        told = threading.Event()
+        stop = threading.Event()
         before = {
-            number: signal.signal(number, lambda *_: told.set())
+            number: signal.signal(number, lambda *_: stop.set())
             for number in (signal.SIGTERM, signal.SIGINT)
         }
 
         async def watch() -> asyncio.Future[InvalidStore]:
-            self._inner._refusal.add_done_callback(lambda _: told.set())
+            self._inner._refusal.add_done_callback(lambda _: stop.set())
             return self._inner._refusal
 
         try:
             refusal = self._loop.do(watch())
-            told.wait()
+            stop.wait()
             if refusal.done():
                 raise refusal.result()
         finally:
@@ -153,8 +153,12 @@ class SyncStore(Facade[Store]):
             >>> first.new, again.new
             (True, False)
         """
-        words: dict[str, Any] = {"labels": labels, "deadline": deadline, "traceparent": traceparent}
-        return SyncRun(self, self._loop.do(self._inner.start(saga, key, input, **words)))
+        options: dict[str, Any] = {
+            "labels": labels,
+            "deadline": deadline,
+            "traceparent": traceparent,
+        }
+        return SyncRun(self, self._loop.do(self._inner.start(saga, key, input, **options)))
 
     def get(self, key: str) -> SyncRun | None:
         """Return the saga with this key, or None. See `Store.get`."""
@@ -171,7 +175,7 @@ class SyncStore(Facade[Store]):
         """Wait until no saga is open.
 
         Args:
-            timeout: Seconds (default: without end).
+            timeout: Seconds (default: without limit).
 
         Raises:
             TimeoutError: Sagas are still open.
@@ -181,7 +185,7 @@ class SyncStore(Facade[Store]):
         inner = self._inner
         try:
             self._loop.do(
-                inner.wait_idle() if timeout is None else inner._inside.settled(), timeout
+                inner.wait_idle() if timeout is None else inner._coordinator.settled(), timeout
             )
         except TimeoutError as error:
             raise error if timeout is None else TimeoutError(
@@ -210,7 +214,7 @@ class SyncStore(Facade[Store]):
     stuck = blocking(Store.stuck)
     attention = blocking(Store.attention)
     unknown = blocking(Store.unknown)
-    active_attempts = asked(Store.active_attempts)
+    active_attempts = blocking_plain(Store.active_attempts)
     log = blocking(Store.log)
     plan = blocking(Store.plan)
     draw = blocking(Store.draw)

@@ -20,8 +20,9 @@ async def in_time(
     timeout: float,
     waits: Callable[[], Awaitable[list[str]]],
 ) -> T:
-    """What `work` gives, if it does so in time; else `TimeoutError`, with what the saga `waits`
-    for.
+    """Return the result of `work`; a timeout says what the saga waits for.
+
+    Raises `TimeoutError`.
     """
     scope = asyncio.timeout(timeout)
     try:
@@ -32,9 +33,9 @@ async def in_time(
             raise
     try:
         async with asyncio.timeout(SOON):
-            found = await waits()
+            waited_for = await waits()
     except TimeoutError:
-        found = ["its store does not answer"]
+        waited_for = ["its store does not answer"]
     except SagasError as error:
-        found = [str(error)]
-    raise still_open(key, timeout, found)
+        waited_for = [str(error)]
+    raise still_open(key, timeout, waited_for)

@@ -1,4 +1,4 @@
-"""Reports that their sagas did not use: sagas of their own undo them."""
+"""Undoes reports that their sagas did not use, by separate sagas."""
 
 from __future__ import annotations
 
@@ -27,7 +27,7 @@ from sagas.runtime import given_values, stored_values
 from sagas.storage import operator_requests
 
 PAUSE = 30.0
-"""Seconds until reports are looked for that another node left, and that nobody told of."""
+"""Seconds between checks for reports that another node left without a notification."""
 LEFT = """
 SELECT s.key, s.id, h.step FROM suspensions h JOIN sagas s ON s.id = h.id
 WHERE h.number = 0 AND h.reason = 'early_result' AND s.phase IS NOT NULL AND s.note IS NULL
@@ -37,81 +37,87 @@ LABELS = f"SELECT name, value FROM labels WHERE id = ? AND name <> '{TOKEN}'"
 
 
 class UnusedReports:
-    """Starts the sagas that call the compensations.
+    """Starts sagas that compensate unused reports.
 
-    Each is started before its report counts as undone. If that is not stored, it is started again,
-    and its key has one saga: so no compensation is called again that has succeeded.
+    Such a saga is started before its report counts as undone. If that mark is not stored, the saga
+    is started again, and its key identifies one saga. So a compensation that has succeeded is not
+    called again.
 
     Attributes:
-        starter: What starts them; `Store` sets it.
+        starter: Starts the sagas; `Store` sets it.
     """
 
     starter: Starter
 
     def __init__(self, access: StoreAccess, lookup: SagaLookup) -> None:
         self._access, self._lookup = access, lookup
-        self._news = asyncio.Event()
+        self._changed = asyncio.Event()
 
     async def compensate(self, key: str, step: str, request: Wanted, of: int | None = None) -> None:
-        """Have the compensation of a step called whose report was not used."""
+        """Have the compensation called for a step whose report was not used."""
         row = await self._ended(key, of)
-        inside = self._access.inside
-        known = await inside.store.known(row)
-        kind = inside.shelf.kind(known.definition)
+        coordinator = self._access.coordinator
+        known = await coordinator.store.known(row)
+        kind = coordinator.registry.kind(known.definition)
         if step not in kind.names:
             raise StepNotWaiting(f"saga {key!r} has no step {step!r}{meant(step, kind.names)}")
         number = kind.names.index(step)
-        rows = await inside.store.read(step_reports.EARLY, row.id, number, Action.RUN.value)
+        rows = await coordinator.store.read(step_reports.EARLY, row.id, number, Action.RUN.value)
         reason, text = rows[0] if rows else (None, None)
         if reason == EarlyReason.UNDONE and report_undos.fault(kind.steps[number]) is None:
             return
-        where = f"saga {key!r}, step {step!r}"
+        subject = f"saga {key!r}, step {step!r}"
         if reason != EarlyReason.RESULT:
-            raise StepNotWaiting(f"{where}: there is no unused report of it")
+            raise StepNotWaiting(f"{subject}: there is no unused report of it")
         if row.note is not None:
-            raise StepNotWaiting(f"{where}: the saga is resolved already")
+            raise StepNotWaiting(f"{subject}: the saga is resolved already")
         declared = kind.steps[number]
         if kind.saga is None or declared is None:
-            if inside.store.shared:
+            if coordinator.store.shared:
                 await self._hand_over(row, step, request)
                 return
             raise StepNotWaiting(
-                f"{where}: this program does not have the definition. Ask one that has it, or undo "
-                "the step by hand, and resolve the saga"
+                f"{subject}: this program does not have the definition. Ask one that has it, or "
+                "undo the step by hand, and resolve the saga"
             )
         if fault := report_undos.fault(declared):
-            raise StepNotWaiting(f"{where}: {fault}. Undo it by hand, and resolve the saga")
-        saga = inside.shelf.report_undo(kind.saga, declared)
-        given = await self._input(row, known, kind, number, text or "null")
-        labels = {str(name): str(value) for name, value in await inside.store.read(LABELS, row.id)}
+            raise StepNotWaiting(f"{subject}: {fault}. Undo it by hand, and resolve the saga")
+        saga = coordinator.registry.report_undo(kind.saga, declared)
+        input = await self._input(row, known, kind, number, text or "null")
+        labels = {
+            str(name): str(value) for name, value in await coordinator.store.read(LABELS, row.id)
+        }
         options = StartOptions(labels, parent=row.id)
-        await self.starter.start_child(saga, children.key_of(key, step, undo=True), given, options)
-        batch = Batch(-1, inside.clock())
+        await self.starter.start_child(saga, children.key_of(key, step, undo=True), input, options)
+        batch = Batch(-1, coordinator.clock())
         batch.more.undone.append((row.id, number))
         batch.answer(request, "true")
-        await inside.kept(batch)
+        await coordinator.kept(batch)
 
     async def _hand_over(self, row: SagaRow, step: str, request: Wanted) -> None:
-        """Ask the nodes that have the definition. What was asked here by a row is theirs to
-        answer.
+        """Ask the nodes that have the definition.
+
+        These nodes themselves execute a stored command.
         """
         if isinstance(request, int):
             raise Moved(f"saga {row.key!r}")
-        inside = self._access.inside
+        coordinator = self._access.coordinator
         value = serialization.write({"step": step}) if request is None else request[2]
-        answer = await inside.store.ask(row, "compensate", value, inside.shelf.payloads)
+        answer = await coordinator.store.ask(
+            row, "compensate", value, coordinator.registry.payloads
+        )
         operator_requests.told(answer)
 
     async def _ended(self, key: str, of: int | None) -> SagaRow:
-        """The saga with this key. Raises `StepNotWaiting` where it has not ended."""
+        """Return the row of a saga. Raises `StepNotWaiting` if it has not ended."""
         live = await self._lookup.live(key)
         if live is not None and live.over:
             with contextlib.suppress(Moved):
-                await self._access.inside.sagas.ends.wait(live)
+                await self._access.coordinator.sagas.ends.wait(live)
         row = await self._lookup.row(key, of)
         if row.phase is None:
             raise StepNotWaiting(
-                f"saga {key!r} has not ended. Reports that it does not use are undone behind its "
+                f"saga {key!r} has not ended. Reports that it does not use are undone after its "
                 "end"
             )
         return row
@@ -119,17 +125,19 @@ class UnusedReports:
     async def _input(
         self, row: SagaRow, known: Known, kind: Kind, step: int, text: str
     ) -> dict[str, Any]:
-        """The input of the saga that undoes a report. It is the same whoever makes it."""
+        """Return the input of the saga that undoes a report. All nodes compute the same."""
         decode, name = kind.payloads.decode, kind.names[step]
-        store = self._access.inside.store
+        store = self._access.coordinator.store
         ((shard,),) = await store.read(NAME, row.id // SHARD_CAPACITY)
         token = tokens.saga_token(shard, row.id % SHARD_CAPACITY)
-        given = decode(await stored_values.input_of(store, row.id, row.input))
+        saga_input = decode(await stored_values.input_of(store, row.id, row.input))
         values = ShapeValues() if known.shape is None else ShapeValues.read(decode(known.shape))
-        place = kind.place(name, values, given)
-        done = {at: value for at, _, _, event, value, _ in known.results if event == "commit"}
-        below = [at for at in kind.below[step] if at in done]
-        results = {kind.names[at]: decode(done[at] or "null") for at in below}
+        location = kind.place(name, values, saga_input)
+        committed = {
+            index: value for index, _, _, event, value, _ in known.results if event == "commit"
+        }
+        needed = [index for index in kind.below[step] if index in committed]
+        results = {kind.names[index]: decode(committed[index] or "null") for index in needed}
         task: Task[Any] = Task(
             Told(
                 kind.name,
@@ -138,51 +146,51 @@ class UnusedReports:
                 True,
                 1,
                 token,
-                place.input if place else given,
+                location.input if location else saga_input,
                 results,
                 decode(text),
-                place=place,
+                place=location,
             )
         )
-        plain = task.plain
-        told = None
-        if place is not None:
-            words = ("shape", "declared_step", "index", "item_key", "item")
-            told = {word: plain[word] for word in words} | {"step": name}
-            told["given"] = serialization.read(given_values.text_of(task))
+        fields_of_task = task.plain
+        location_data = None
+        if location is not None:
+            fields = ("shape", "declared_step", "index", "item_key", "item")
+            location_data = {field: fields_of_task[field] for field in fields} | {"step": name}
+            location_data["given"] = serialization.read(given_values.text_of(task))
         return {
             "key": row.key,
             "token": token,
             "saga": task.saga,
             "step": name,
-            "input": plain["input"],
-            "results": plain["results"] | {name: plain["result"]},
-            "place": told,
+            "input": fields_of_task["input"],
+            "results": fields_of_task["results"] | {name: fields_of_task["result"]},
+            "place": location_data,
         }
 
-    # -- unasked
+    # -- in the background
 
     def look(self) -> None:
-        """A saga has ended without a report."""
-        self._news.set()
+        """Check for unused reports, because a saga has ended with one."""
+        self._changed.set()
 
     async def run(self) -> None:
-        """Undo the reports of steps with `early_unused="compensate"`, until the store is closed."""
-        inside = self._access.inside
-        while not inside.closed:
-            self._news.clear()
-            with contextlib.suppress(SagasError):  # the next look finds them
+        """Undo reports of steps with `early_unused="compensate"`, until the store closes."""
+        coordinator = self._access.coordinator
+        while not coordinator.closed:
+            self._changed.clear()
+            with contextlib.suppress(SagasError):  # the next check finds them
                 await self._undo_all()
             with contextlib.suppress(TimeoutError):
                 async with asyncio.timeout(PAUSE):
-                    await self._news.wait()
+                    await self._changed.wait()
 
     async def _undo_all(self) -> None:
-        inside = self._access.inside
-        for key, id, number in await inside.store.read(LEFT):
+        coordinator = self._access.coordinator
+        for key, id, number in await coordinator.store.read(LEFT):
             try:
                 row = await self._lookup.row(str(key), int(id))
-                kind = inside.shelf.kind((await inside.store.known(row)).definition)
+                kind = coordinator.registry.kind((await coordinator.store.known(row)).definition)
                 declared = kind.steps[int(number)]
                 if declared is not None and declared.early_unused == "compensate":
                     await self.compensate(row.key, kind.names[int(number)], None, row.id)
@@ -190,5 +198,5 @@ class UnusedReports:
                 raise
             except NoSuchSaga:
                 continue
-            except Exception as error:  # a person finds it in `attention`
+            except Exception as error:  # `attention` lists it for operators
                 logger.warning("a report of saga %r is not undone yet: %s", key, error)

@@ -1,6 +1,6 @@
 """A worker over HTTP: it claims tasks, calls functions and reports outcomes.
 
-    worker = sagas.Worker("http://127.0.0.1:8080", token="..")
+    worker = sagas.Worker("http://127.0.0.1:8080", token="...")
 
     @worker.step("trip", "car")
     def car(task):
@@ -8,9 +8,9 @@
 
     worker.run()
 
-It needs nothing but the standard library. What a function does means what it means in a store:
-it returns, raises (it had no effect), raises `Fail`, or `Unknown`, a timeout or a lost
-connection (nobody knows).
+It needs only the standard library. A function has the same meaning as in a store. It returns, or
+raises (it had no effect), or raises `Fail`. If it raises `Unknown`, or after a timeout or a lost
+connection, the outcome is unknown.
 """
 
 from __future__ import annotations
@@ -29,13 +29,13 @@ from typing import Any
 from sagas.api.service_connection import REPEAT, ServiceConnection, ServiceRefused, is_final
 from sagas.api.worker_task import (
     Function,
-    Held,
+    HeldTask,
     WorkerStep,
     lifespan,
     outcome,
     task_of,
     unstorable,
-    word_of,
+    step_name,
 )
 from sagas.base.errors import DefinitionError
 from sagas.definition import tracing, validation
@@ -44,23 +44,27 @@ from sagas.definition.step import UNKNOWN, Unknowns
 from sagas.definition.task import Task
 
 logger = logging.getLogger("sagas.worker")
-AHEAD, MOST_AHEAD = 0.1, 10
-"""One question takes as many tasks as are lately done in so many seconds, and at most so many."""
-NO_CONTEXT = "the worker was made without one: give it by sagas.Worker(.., context=..)"
+AHEAD, MAX_AHEAD = 0.1, 10
+"""One request claims as many tasks as were recently done in `AHEAD` seconds, but at most
+`MAX_AHEAD`.
+"""
+NO_CONTEXT = "the worker has no context. Pass one with sagas.Worker(..., context=...)"
 HEARTBEAT, REPORT = 10.0, 40.0
-"""Seconds that one try may take at most; less, by the lease, so that the next service hears in
-time."""
+"""Maximum seconds of one try. It is less with a short lease, so that the next service is reached in
+time.
+"""
 LOOK = 0.5
-"""Seconds between looks at what was taken ahead; also the shortest lease of the service."""
+"""Seconds between checks of tasks that were claimed ahead; also the shortest lease of the service.
+"""
 
 
 class Worker:
     """Execute steps for a service: claim tasks, call functions, report outcomes.
 
     It uses only the standard library. Each task runs in a thread. If the functions are short, one
-    request claims up to ten tasks, and returns those that no thread begins within half a second.
-    While a function runs, its lease is renewed three times before it would end. By that the worker
-    hears of an abort, and sets `task.cancelled`.
+    request claims up to ten tasks, and returns those that no thread starts within half a second.
+    While a function runs, its lease is renewed three times before it would expire. The renewal
+    reports an abort to the worker, which sets `task.cancelled`.
 
     Attributes:
         concurrency: Maximum number of tasks that run at once.
@@ -84,13 +88,13 @@ class Worker:
 
         Args:
             url: The service, or several services over one database: if one does not answer, the
-                next one is asked.
+                worker asks the next one.
             token: The worker's token (default: None).
             concurrency: Maximum number of tasks that run at once (default: 4).
             lease: Seconds after which another worker may have the task of a worker that is gone
                 (default: 30).
             wait: Seconds that one request for tasks waits at the service, at most 30 (default: 20).
-            name: The worker's name, for people (default: of host and process).
+            name: The worker's name, for people (default: from host and process).
             context: What functions get as `task.context` (default: none): an object; or a function
                 that returns a plain context manager, which `run` enters and leaves.
 
@@ -99,22 +103,22 @@ class Worker:
         """
         self.concurrency, self.lease, self.wait = concurrency, lease, wait
         self.name = (name or f"{socket.gethostname()}-{os.getpid()}")[:64]
-        self._given, self._context = context, Context(NO_CONTEXT)
+        self._context_source, self._context = context, Context(NO_CONTEXT)
         self._tracer = tracing.tracer()
         self._stop = threading.Event()
         self._service = ServiceConnection(url, token, wait + 40.0, self._stop)
         self._steps: dict[str, WorkerStep] = {}
-        self._ahead: deque[Held] = deque()  # taken, and not begun
-        self._held: set[Held] = set()  # begun
-        self._rests = threading.Condition()
-        self._busy = self._asking = self._moves = 0
-        # seconds that a function took lately; that nothing is known makes one task at a time
+        self._ahead: deque[HeldTask] = deque()  # claimed, and not started
+        self._held: set[HeldTask] = set()  # started
+        self._condition = threading.Condition()
+        self._busy = self._asking = self._handled = 0
+        # recent seconds of a function; the initial value makes one task at a time
         self._mean = AHEAD
         self._fault: BaseException | None = None
 
     @property
     def url(self) -> str:
-        """The service that it asks now."""
+        """The service that the worker asks now."""
         return self._service.url
 
     # -- what it can do
@@ -124,7 +128,7 @@ class Worker:
     ) -> Callable[[Function], Function]:
         """Declare the function that performs a step, by `@worker.step(saga, step)`.
 
-        It gets a `Task`, and means by its result or exception what a step's function means.
+        It gets a `Task`. Its result or exception has the same meaning as that of a step's function.
 
         Args:
             saga: The saga's name.
@@ -132,8 +136,8 @@ class Worker:
             unknown: Exceptions after which the outcome is unknown (default: `(TimeoutError,
                 ConnectionError)`).
             cancel_on_abort: Whether an abort raises `asyncio.CancelledError` in the async function
-                (default: False). The worker hears of an abort by its next heartbeat, within a third
-                of `lease`.
+                (default: False). The worker learns of an abort by its next heartbeat, within a
+                third of `lease`.
 
         Raises:
             DefinitionError: The step has a function already, or `cancel_on_abort` is set for a
@@ -151,22 +155,24 @@ class Worker:
         return self._declare(f"{saga}/{step}/undo", unknown)
 
     def _declare(
-        self, word: str, unknown: Unknowns, cancel_on_abort: bool = False
+        self, step: str, unknown: Unknowns, cancel_on_abort: bool = False
     ) -> Callable[[Function], Function]:
         def declare(function: Function) -> Function:
             if cancel_on_abort and not inspect.iscoroutinefunction(function):
                 raise DefinitionError(
-                    f"{word}: cancel_on_abort is for async functions. A plain function asks "
+                    f"{step}: cancel_on_abort needs an async function. In a plain function, check "
                     "task.cancelled"
                 )
-            there = self._steps.get(word)
-            if there is not None:
-                where = (
+            existing = self._steps.get(step)
+            if existing is not None:
+                locations = (
                     f"{validation.place(function) or '?'} and "
-                    f"{validation.place(there.function) or '?'}"
+                    f"{validation.place(existing.function) or '?'}"
                 )
-                raise DefinitionError(f"{word} is declared twice, at {where}. Remove one of them")
-            self._steps[word] = WorkerStep(function, unknown, cancel_on_abort)
+                raise DefinitionError(
+                    f"{step} is declared twice, at {locations}. Remove one of them"
+                )
+            self._steps[step] = WorkerStep(function, unknown, cancel_on_abort)
             return function
 
         return declare
@@ -187,7 +193,7 @@ class Worker:
             raise ValueError(
                 "the worker has no function. Declare one with @worker.step(saga, step)"
             )
-        with lifespan(self._given, self._context):
+        with lifespan(self._context_source, self._context):
             self._run()
         if self._fault:
             raise self._fault
@@ -204,23 +210,23 @@ class Worker:
                 thread.start()
             for thread in threads:
                 while thread.is_alive():
-                    thread.join(0.2)  # so that a signal is heard
+                    thread.join(0.2)  # so that a signal is handled
         except KeyboardInterrupt:
             self.stop()
-            with self._rests:
-                self._rests.wait_for(lambda: not self._busy and not self._ahead)
+            with self._condition:
+                self._condition.wait_for(lambda: not self._busy and not self._ahead)
         finally:
             self._service.close_idle()
 
     def stop(self) -> None:
         """Claim nothing more; running functions end and are reported.
 
-        Tasks that have not begun are given back.
+        Tasks that have not started are released.
         """
         self._stop.set()
 
     def _live(self, work: Callable[[], None]) -> None:
-        """The life of a thread. If it ends early, the worker ends with it, and says why."""
+        """Run a thread. If it fails, the worker stops with the same error."""
         try:
             work()
         except BaseException as fault:
@@ -230,178 +236,185 @@ class Worker:
             self.stop()
 
     def _work(self) -> None:
-        while one := self._one():
-            told = None
+        while held := self._next_task():
+            reply = None
             try:
-                told = self._do(one)
+                reply = self._do(held)
             finally:
-                with self._rests:
+                with self._condition:
                     self._busy -= 1
-                    self._add(told)
+                    self._add(reply)
 
-    def _one(self) -> Held | None:
-        """A task to begin, taken ahead or asked for now; where several may come at once, one
-        thread asks for all. None: it was stopped.
+    def _next_task(self) -> HeldTask | None:
+        """Return a task to start, or None if the worker was stopped.
+
+        It is a task that was claimed ahead, or a new one. If a request may return several tasks,
+        only one thread sends it.
         """
         while True:
-            with self._rests:
-                self._rests.wait_for(
+            with self._condition:
+                self._condition.wait_for(
                     lambda: self._ahead
                     or self._stop.is_set()
                     or not self._asking
-                    or self._most() == 1
+                    or self._claim_limit() == 1
                 )
                 while self._ahead and not self._stop.is_set():
-                    one = self._ahead.popleft()
-                    self._moves += 1
-                    if time.monotonic() < one.until:  # else it is another's, or soon will be
-                        self._held.add(one)
+                    held = self._ahead.popleft()
+                    self._handled += 1
+                    if time.monotonic() < held.until:  # otherwise another worker may claim it
+                        self._held.add(held)
                         self._busy += 1
-                        return one
+                        return held
                 self._asking += 1
-            told = None
+            reply = None
             try:
                 if self._stop.is_set():
                     self._give_back()
                     return None
                 wait = (
-                    self.wait if self._service.heard else 0.0
-                )  # the first answer comes at once: it says which steps are unknown there
-                told = self._service.until_told(
-                    "/v1/tasks/claim", {**self._wanted(), "wait": wait}, giving_up=True
+                    self.wait if self._service.has_answered else 0.0
+                )  # the first reply comes at once, and names the steps that are unknown there
+                reply = self._service.ask_until_answered(
+                    "/v1/tasks/claim", {**self._claim_body(), "wait": wait}, giving_up=True
                 )
             finally:
-                with self._rests:
+                with self._condition:
                     self._asking -= 1
-                    self._add(told)
+                    self._add(reply)
 
-    def _most(self) -> int:
-        return max(1, min(MOST_AHEAD, int(AHEAD / max(self._mean, 1e-6))))
+    def _claim_limit(self) -> int:
+        return max(1, min(MAX_AHEAD, int(AHEAD / max(self._mean, 1e-6))))
 
-    def _wanted(self) -> dict[str, Any]:
+    def _claim_body(self) -> dict[str, Any]:
         return {
             "steps": sorted(self._steps),
-            "limit": self._most(),
+            "limit": self._claim_limit(),
             "lease": self.lease,
             "worker": self.name,
         }
 
-    def _add(self, told: dict[str, Any] | None) -> None:
-        """The tasks of an answer are any thread's. Under the lock."""
-        claimed = (told.get("next") or told) if told else {}
+    def _add(self, reply: dict[str, Any] | None) -> None:
+        """Add the tasks of a reply. The caller holds the lock."""
+        claimed = (reply.get("next") or reply) if reply else {}
         for task in claimed.get("tasks", ()):
             self._ahead.append(
-                Held(
+                HeldTask(
                     task["attempt_id"],
                     task["lease"],
                     task_of(task, self._context),
                     time.monotonic() + task["seconds"] / 2,
                 )
             )
-            self._moves += 1
-        self._rests.notify_all()
+            self._handled += 1
+        self._condition.notify_all()
 
-    def _do(self, one: Held) -> dict[str, Any] | None:
-        """Does a task and reports it; gives the answer, with what was taken with the report
-        where nothing was there to go on with.
-        """
-        task, began = one.task, time.monotonic()
+    def _do(self, held: HeldTask) -> dict[str, Any] | None:
+        """Execute a task and report it; return the reply, which may contain new tasks."""
+        task, began = held.task, time.monotonic()
         try:
             verb, body = outcome(
-                self._steps[word_of(task)],
+                self._steps[step_name(task)],
                 task,
                 self._tracer,
             )
         finally:
-            with self._rests:
-                self._held.discard(one)
+            with self._condition:
+                self._held.discard(held)
                 self._mean += (time.monotonic() - began - self._mean) / 4
-                more = {} if self._ahead or self._stop.is_set() else {"next": self._wanted()}
-        return self._report(one, verb, body, more)
+                more = {} if self._ahead or self._stop.is_set() else {"next": self._claim_body()}
+        return self._report(held, verb, body, more)
 
     def _report(
         self,
-        one: Held,
+        held: HeldTask,
         verb: str,
         body: dict[str, Any],
         more: dict[str, Any],
     ) -> dict[str, Any] | None:
-        """Says how a task ended. Where no more tasks may be taken with it, it is said alone."""
-        path, told = f"/v1/tasks/{one.attempt_id}/{verb}", {"lease": one.lease, **body}
+        """Report the outcome of a task, and claim more in the same request if allowed."""
+        path, report = f"/v1/tasks/{held.attempt_id}/{verb}", {"lease": held.lease, **body}
         try:
             seconds = min(REPORT, max(1.0, self.lease / 3))
-            return self._service.until_told(path, {**told, **more}, seconds)
+            return self._service.ask_until_answered(path, {**report, **more}, seconds)
         except ServiceRefused as refusal:
             if is_final(refusal):
                 if refusal.status == 403 and more:
-                    return self._report(one, verb, body, {})
+                    return self._report(held, verb, body, {})
                 raise
-            if refusal.status in (413, 422) and verb == "complete" and not one.unstorable:
-                one.unstorable = True  # the effect happened; what it gave cannot be stored
-                return self._report(one, verb, unstorable(str(refusal)), more)
-            logger.warning("%s: %s was rejected: %s", one.attempt_id, verb, refusal)
+            if refusal.status in (413, 422) and verb == "complete" and not held.is_unstorable:
+                held.is_unstorable = True  # the effect happened, but its result cannot be stored
+                return self._report(held, verb, unstorable(str(refusal)), more)
+            logger.warning("%s: %s was rejected: %s", held.attempt_id, verb, refusal)
             return None
 
     def _keep_leases(self) -> None:
-        """Keeps the leases of what runs. Gives back what was taken ahead where no thread has
-        come to it since the last look, and at a stop.
+        """Renew the leases of running tasks.
+
+        Tasks that were claimed ahead are released if no thread has started them since the last
+        check, and at a stop.
         """
-        looks, seen, ends = max(1, round(self.lease / 3 / LOOK)), -1, True  # between two beats
+        looks, seen, ends = max(1, round(self.lease / 3 / LOOK)), -1, True  # checks per heartbeat
         pause = self.lease / 3 / looks
         for look in itertools.count(1):
             stopped = self._stop.wait(pause)
-            if stopped or self._moves == seen:
+            if stopped or self._handled == seen:
                 self._give_back()
-            seen = self._moves
+            seen = self._handled
             if stopped and self._asking and ends:
-                ends = self._service.try_to_tell("/v1/tasks/claim/end", {"worker": self.name}, LOOK)
-            with self._rests:
+                ends = self._service.try_once("/v1/tasks/claim/end", {"worker": self.name}, LOOK)
+            with self._condition:
                 if stopped:
-                    self._rests.notify_all()  # whoever waits for another's answer
-                    if self._rests.wait_for(lambda: not self._held and not self._asking, pause):
+                    self._condition.notify_all()  # threads that wait for a reply
+                    if self._condition.wait_for(lambda: not self._held and not self._asking, pause):
                         return
                 is_time = look % looks == 0
-                held = [one for one in self._held if one.unheard or is_time and not one.lost]
-            for one in held:
-                self._renew(one, self.lease)
+                held = [
+                    task
+                    for task in self._held
+                    if task.is_unanswered or is_time and not task.is_lost
+                ]
+            for task in held:
+                self._renew(task, self.lease)
 
     def _give_back(self) -> None:
-        """What was taken ahead is this worker's no more, and its lease is cut short; where the
-        service does not hear of that, it runs out.
+        """Release tasks that were claimed ahead, by shortening their leases.
+
+        If the service does not receive that, the leases expire.
         """
-        with self._rests:
-            back = list(self._ahead)
-            if not back:
+        with self._condition:
+            returned = list(self._ahead)
+            if not returned:
                 return
             self._ahead.clear()
             self._busy += 1
             self._mean = max(self._mean, LOOK)
         try:
-            for one in back:
-                self._renew(one, LOOK)
+            for held in returned:
+                self._renew(held, LOOK)
         finally:
-            with self._rests:
+            with self._condition:
                 self._busy -= 1
-                self._rests.notify_all()
+                self._condition.notify_all()
 
-    def _renew(self, one: Held, seconds: float) -> None:
-        url, told = self.url, one.task.news()
-        more = {"progress": told.fraction, "detail": told.detail} if told else {}
-        path = f"/v1/tasks/{one.attempt_id}/heartbeat"
-        body = {"lease": one.lease, "seconds": seconds, **more}
+    def _renew(self, held: HeldTask, seconds: float) -> None:
+        url, progress = self.url, held.task.news()
+        more = {"progress": progress.fraction, "detail": progress.detail} if progress else {}
+        path = f"/v1/tasks/{held.attempt_id}/heartbeat"
+        body = {"lease": held.lease, "seconds": seconds, **more}
         try:
-            found = self._service.ask(url, path, body, min(HEARTBEAT, self.lease / 6))
-            one.unheard = False
-            if reason := found.get("cancelled"):
-                one.task.cancelled.set(reason)
+            reply = self._service.ask(url, path, body, min(HEARTBEAT, self.lease / 6))
+            held.is_unanswered = False
+            if reason := reply.get("cancelled"):
+                held.task.cancelled.set(reason)
         except ServiceRefused as refusal:
-            one.unheard = refusal.status in REPEAT
+            held.is_unanswered = refusal.status in REPEAT
             if refusal.status in (403, 404, 409):
-                one.lost = True
-                one.task.cancelled.set("lost")
-            logger.warning("%s: %s", one.attempt_id, refusal)
+                held.is_lost = True
+                held.task.cancelled.set("lost")
+            logger.warning("%s: %s", held.attempt_id, refusal)
         except (OSError, ValueError) as error:
-            one.unheard = True
-            logger.info("%s: the heartbeat failed: %s", one.attempt_id, error)
-        if one.unheard:
+            held.is_unanswered = True
+            logger.info("%s: the heartbeat failed: %s", held.attempt_id, error)
+        if held.is_unanswered:
             self._service.turn_from(url)

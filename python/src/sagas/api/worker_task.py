@@ -25,19 +25,23 @@ from sagas.definition.tracing import Tracer
 
 logger = logging.getLogger("sagas.worker")
 Function = Callable[[Task[Any]], Any]
-MOST_TEXT = 4000
+MAX_TEXT = 4000
 KINDS = {
     "complete": OutcomeKind.SUCCEEDED,
     "fail": OutcomeKind.FAILED,
     "unknown": OutcomeKind.UNKNOWN,
 }
-"""What the verb of a report says."""
+"""The outcome that the verb of a report means."""
 
 
 @dataclasses.dataclass(frozen=True, slots=True)
 class WorkerStep:
-    """A function, the exceptions after which nobody knows whether it had its effect, and whether
-    an abort cancels it.
+    """A function of a worker, with its options.
+
+    Attributes:
+        function: The function.
+        unknown: Exceptions after which the outcome is unknown.
+        cancel_on_abort: Whether an abort cancels it.
     """
 
     function: Function
@@ -46,76 +50,86 @@ class WorkerStep:
 
 
 @dataclasses.dataclass(slots=True, eq=False)
-class Held:
-    """A task that a worker has; until half of its lease is over it may be begun, so that its
-    first heartbeat comes in time. `unheard`: no service heard its last one.
+class HeldTask:
+    """A task that a worker has claimed.
+
+    Attributes:
+        attempt_id: The id of the attempt.
+        lease: The lease.
+        task: What its function is called with.
+        until: When half of its lease is over. Later it is not started, so that its first heartbeat
+            is in time.
+        is_lost: Whether another worker may have it.
+        is_unanswered: Whether no service replied to its last heartbeat.
+        is_unstorable: Whether its result could not be stored.
     """
 
     attempt_id: str
     lease: str
     task: Task[Any]
     until: float
-    lost: bool = False
-    unheard: bool = False
-    unstorable: bool = False
+    is_lost: bool = False
+    is_unanswered: bool = False
+    is_unstorable: bool = False
 
 
 @contextlib.contextmanager
-def lifespan(given: Any, shared: Context) -> Iterator[None]:
-    """A worker's context, while the worker runs. Raises `TypeError` where it is an async one, which
-    functions in threads have no loop for.
+def lifespan(source: Any, shared: Context) -> Iterator[None]:
+    """Enter and leave the context of a worker.
+
+    Raises `TypeError` if it is an async context manager, because threads have no event loop.
     """
-    if not context.is_factory(given):
-        if given is not None:
-            shared.put(given)
+    if not context.is_factory(source):
+        if source is not None:
+            shared.put(source)
         yield
         return
-    manager = context.made(given)
+    manager = context.made(source)
     if not isinstance(manager, contextlib.AbstractContextManager):
         raise TypeError(
-            f"context={shown(given)}: returned {type(manager).__name__}, but a worker has no event "
-            "loop. Return a plain context manager (@contextlib.contextmanager)"
+            f"context={shown(source)}: returned {type(manager).__name__}, but a worker has no "
+            "event loop. Return a plain context manager (@contextlib.contextmanager)"
         )
     with manager as value:
         shared.put(value)
         yield
 
 
-def word_of(task: Task[Any]) -> str:
-    """What a worker asks for: `trip/car`, or `trip/car/undo`."""
+def step_name(task: Task[Any]) -> str:
+    """Return the name of a task's step for claims: `trip/car`, or `trip/car/undo`."""
     return f"{task.saga}/{task.declared_step}{'/undo' if task.is_compensation else ''}"
 
 
-def task_of(told: dict[str, Any], shared: Context) -> Task[Any]:
-    """What a function is handed, of what the service told."""
-    undo, step = told["undo"], told["step"]
-    saga_token = told["idempotency_key"].removesuffix(f"-{step}-{'undo' if undo else 'run'}")
-    results = {name: serialization.write(value) for name, value in told["results"].items()}
-    result = serialization.write(told["result"]) if undo else None
+def task_of(reply: dict[str, Any], shared: Context) -> Task[Any]:
+    """Return the argument of a function, from a reply of the service."""
+    undo, step = reply["undo"], reply["step"]
+    saga_token = reply["idempotency_key"].removesuffix(f"-{step}-{'undo' if undo else 'run'}")
+    results = {name: serialization.write(value) for name, value in reply["results"].items()}
+    result = serialization.write(reply["result"]) if undo else None
     task: Task[Any] = Task(
         Told(
-            told["definition"],
-            told["key"],
+            reply["definition"],
+            reply["key"],
             step,
             undo,
-            told["attempt"],
+            reply["attempt"],
             saga_token,
-            serialization.write(told["input"]),
+            serialization.write(reply["input"]),
             results,
             result,
-            deadline=told.get("deadline"),
-            traceparent=told.get("traceparent"),
+            deadline=reply.get("deadline"),
+            traceparent=reply.get("traceparent"),
             context=shared,
-            place=None if told.get("shape") is None else ToldPlace(told),
+            place=None if reply.get("shape") is None else ToldPlace(reply),
         )
     )
-    if reason := told.get("cancelled"):
+    if reason := reply.get("cancelled"):
         task.cancelled.set(reason)
     return task
 
 
 async def _awaited(manner: WorkerStep, task: Task[Any], work: Coroutine[Any, Any, Any]) -> Any:
-    """What an async function returns; it is cancelled where an abort is to end it, once."""
+    """Return the result of an async function; cancel it once if an abort must end it."""
     if not manner.cancel_on_abort or task.cancelled.reason == "aborted":
         return await work
     async with asyncio.TaskGroup() as group:
@@ -129,32 +143,32 @@ async def _awaited(manner: WorkerStep, task: Task[Any], work: Coroutine[Any, Any
 def outcome(
     manner: WorkerStep, task: Task[Any], tracer: Tracer | None = None
 ) -> tuple[str, dict[str, Any]]:
-    """Calls the function; gives how it ended, and what is told of that."""
+    """Call a function; return the verb and the body of the report."""
     if tracer is None:
         return _outcome(manner, task)[:2]
     with tracer.attempt(task, manner.function) as span:
-        verb, told, error = _outcome(manner, task)
-        kind = OutcomeKind.FAILED_PERMANENTLY if told.get("final") else KINDS[verb]
-        span.ended(kind.value, told.get("error", ""), error)
-    return verb, told
+        verb, reply, error = _outcome(manner, task)
+        kind = OutcomeKind.FAILED_PERMANENTLY if reply.get("final") else KINDS[verb]
+        span.ended(kind.value, reply.get("error", ""), error)
+    return verb, reply
 
 
 def _outcome(
     manner: WorkerStep, task: Task[Any]
 ) -> tuple[str, dict[str, Any], BaseException | None]:
-    """As `outcome`, with what was raised."""
+    """Call a function; return verb and body of the report, and the exception."""
     try:
         result = manner.function(task)
         if inspect.isawaitable(result):
             result = asyncio.run(_awaited(manner, task, awaitables.whole(result)))
     except asyncio.CancelledError:
         return "unknown", {"error": "cancelled, since the saga was aborted"}, None
-    except BaseException as error:  # sys.exit() too is only the function's: its thread goes on
+    except BaseException as error:  # also sys.exit(): the thread of the function continues
         kind = outcomes.classify(error, manner.unknown)
-        told: dict[str, Any] = {"error": outcomes.described(error)[:MOST_TEXT]}
+        reply: dict[str, Any] = {"error": outcomes.described(error)[:MAX_TEXT]}
         if kind is outcomes.PERMANENT:
-            told["final"] = True
-        return ("unknown" if kind is outcomes.UNKNOWN else "fail"), told, error
+            reply["final"] = True
+        return ("unknown" if kind is outcomes.UNKNOWN else "fail"), reply, error
     try:
         return "complete", {"result": json.loads(serialization.write_value(result))}, None
     except NotSerializable as error:
@@ -163,5 +177,5 @@ def _outcome(
 
 
 def unstorable(why: str) -> dict[str, Any]:
-    """What is told of a result that cannot be stored: the step is done all the same."""
-    return {"result": {"unstorable": why[:MOST_TEXT]}}
+    """Return the body of a report whose result cannot be stored: the step succeeded."""
+    return {"result": {"unstorable": why[:MAX_TEXT]}}

@@ -39,11 +39,12 @@ class Workers:
         Args:
             steps: What the worker can do, each `(saga, step, "run" or "undo")`.
             limit: Maximum number of tasks (default: 1).
-            wait: Seconds to wait if there is none (default: 0).
+            wait: Seconds to wait if there is no task (default: 0).
             lease: Seconds without a heartbeat after which another worker may claim a task (default:
                 30).
             worker: The worker's name, for people.
-            holder: Who may report the tasks: give the same to `heartbeat` and `report`.
+            holder: The identity that may report the tasks: pass the same to `heartbeat` and
+                `report`.
 
         Returns:
             The tasks with their leases; an empty list if none came in time.
@@ -52,8 +53,8 @@ class Workers:
             StoreUnavailable: The leases could not be written, and nothing was claimed.
             Closed: The store is closed.
         """
-        inside = self._access.inside
-        return await inside.external.claim([*steps], limit, wait, lease, worker, holder)
+        coordinator = self._access.coordinator
+        return await coordinator.external.claim([*steps], limit, wait, lease, worker, holder)
 
     async def heartbeat(
         self,
@@ -72,12 +73,12 @@ class Workers:
             lease: The lease of the claim.
             seconds: How long the lease lasts from now (default: 30).
             holder: As given to `claim`.
-            progress: How far the worker is, from 0 to 1 (default: not told).
-            detail: A text with it, for people, of which 200 characters are kept (default: None).
+            progress: How far the worker is, from 0 to 1 (default: not reported).
+            detail: A text with it, for people; at most 200 characters are kept (default: None).
 
         Returns:
             When the lease ends, and whether the saga is being undone. The worker still reports how
-            the task ended.
+                the task ended.
 
         Raises:
             InvalidLease: The lease was not issued for this task to this holder.
@@ -89,14 +90,14 @@ class Workers:
             StoreUnavailable: The database does not answer.
             Closed: The store is closed.
         """
-        told = None if progress is None else checked(progress, detail)
-        external = self._access.inside.external
-        return await external.heartbeat(attempt_id, lease, holder, seconds, told)
+        reported_progress = None if progress is None else checked(progress, detail)
+        external = self._access.coordinator.external
+        return await external.heartbeat(attempt_id, lease, holder, seconds, reported_progress)
 
     async def give_back(self, tasks: Iterable[LeasedTask], *, holder: str = "") -> None:
-        """Give back tasks that are not performed, so that others may claim them at once.
+        """Release tasks that are not performed, so that others may claim them at once.
 
-        If the database does not answer, the leases end when their time is over.
+        If the database does not answer, the leases expire.
 
         Args:
             tasks: What `claim` returned, or a part of it.
@@ -106,24 +107,24 @@ class Workers:
             InvalidLease: A lease was not issued for its task to this holder.
             Closed: The store is closed.
         """
-        await self._access.inside.external.give_back(tasks, holder)
+        await self._access.coordinator.external.give_back(tasks, holder)
 
     async def set_aside(self, task: LeasedTask, why: str, *, holder: str = "") -> None:
         """Set a claimed task aside whose values cannot be read or written.
 
-        Nothing of it has failed. It waits for a program that can read it, or for an operator, and
-        is listed by `Store.attention`.
+        The task has not failed. It waits for a program that can read it, or for an operator, and is
+        listed by `Store.attention`.
 
         Args:
             task: One that `claim` returned.
-            why: What is wrong with it, without a value.
+            why: The reason, without a value.
             holder: As given to `claim`.
 
         Raises:
             InvalidLease: The lease was not issued for this task to this holder.
             Closed: The store is closed.
         """
-        await self._access.inside.external.set_aside(task, holder, why)
+        await self._access.coordinator.external.set_aside(task, holder, why)
 
     async def report(
         self,
@@ -159,7 +160,7 @@ class Workers:
         Raises:
             InvalidLease: The lease was not issued for this task to this holder.
             ConflictingReport: Another outcome was reported first, and that one counts.
-            LeaseLost: The lease is not the newest, or a person has to report the task.
+            LeaseLost: The lease is not the newest, or an operator has to report the task.
             NoSuchTask: No task has this id.
             OwnerUnavailable: The node that executes the saga does not answer.
             NotSerializable: The result is not JSON.
@@ -170,23 +171,23 @@ class Workers:
             outcome = outcomes.unknown(unknown)
         else:
             outcome = reported(result, error, final)
-        external = self._access.inside.external
+        external = self._access.coordinator.external
         return await external.report(attempt_id, lease, holder, outcome, stored)
 
     async def queues(self) -> builtins.list[Queue]:
-        """Return what waits for workers at any node, by step.
+        """Return the tasks that wait for workers at any node, by step.
 
         Raises:
             StoreUnavailable: The database does not answer.
             Closed: The store is closed.
         """
-        return await self._access.inside.external.queues()
+        return await self._access.coordinator.external.queues()
 
     @property
     def takeovers(self) -> int:
         """How many tasks another worker claimed because their leases ended."""
-        return self._access.inside.external.takeovers
+        return self._access.coordinator.external.takeovers
 
     def peers(self) -> Peers | None:
-        """Return how this node asks other nodes; None over a file."""
-        return self._access.inside.store.peers()
+        """Return the connection to other nodes; None over a file."""
+        return self._access.coordinator.store.peers()

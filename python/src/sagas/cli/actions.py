@@ -23,7 +23,7 @@ from sagas.definition.validation import meant
 from sagas.inspection import lists
 from sagas.inspection.names import step_names
 from sagas.inspection.views import Waits
-from sagas.runtime.operator_commands import words_of
+from sagas.runtime.operator_commands import step_arguments
 from sagas.storage import admin, codec_note, factory
 from sagas.storage.admin import Trouble
 from sagas.storage.batches import Batch
@@ -311,5 +311,5 @@ def kind_of(undo: bool) -> str:
 def report_of(words: argparse.Namespace) -> Json:
     """Which step is meant, and why."""
     early = getattr(words, "early", True) and not words.all  # those of --all are under way
-    value = words_of(words.step, kind_of(words.undo), early)
+    value = step_arguments(words.step, kind_of(words.undo), early)
     return value | ({"note": words.note} if words.note else {})

@@ -1,8 +1,7 @@
-"""What a program acknowledges of its shards, for its record.
+"""Which events each acknowledgement of a program rests on, for its record.
 
-Each acknowledgement rests on the events that were decided with its cause. Those are noted as they
-are decided, and not when they are known to be stored. So a record shows an acknowledgement that
-came too early.
+An acknowledgement rests on the events that were decided with its cause. They are noted when they
+are decided, not when they are stored. So the record shows an acknowledgement that came too early.
 """
 
 from __future__ import annotations
@@ -19,36 +18,36 @@ from sagas.storage.record_file import BEYOND, RecordFile, Rest
 
 
 class Acknowledgements:
-    """Notes what each acknowledgement rests on, and records it at the edges: when a function is
-    called, and when a caller that waits is woken.
+    """Records what each acknowledgement rests on.
+
+    An acknowledgement happens when a function is called, and when a waiting caller is woken.
     """
 
     def __init__(self, record: RecordFile) -> None:
-        self._record, self._told, self._sessions = record, record.told, record.sessions
+        self._record, self._acknowledge, self._sessions = record, record.told, record.sessions
         self._aborts: dict[SagaInstance, dict[Abort, Rest]] = {}
-        self._called: Rest | None = None  # that calls rested on last
-        self._woken: Rest | None = None  # the same of those who were woken
-        # who waits until a report is in the store: without them, none is noted
-        self._kept: Mapping[Attempt, object] = {}
+        self._called: Rest | None = None  # what the last call rested on
+        self._woken: Rest | None = None  # what the last notification rested on
+        # callers that wait until a report is stored; if there are none, no report is noted
+        self._report_waiters: Mapping[Attempt, object] = {}
 
     @classmethod
     def of(cls, store: Database) -> Acknowledgements | None:
-        """Make one, if the program has a record."""
+        """Return the acknowledgements of a program, or None if it has no record."""
         return cls(store.record) if store.record else None
 
     def follow(self, sagas: Instances, kept: Waiters[Attempt]) -> None:
-        """Hear of callers before they are notified: those that wait for sagas, and those that wait
-        until a report is in the store.
-        """
-        sagas.starts.told, sagas.ends.told = self.started, self.ended
-        sagas.answered = self.aborted
-        kept.told, self._kept = self.reported, kept.futures
+        """Have this object called before callers are notified."""
+        sagas.starts.before_notify, sagas.ends.before_notify = self.started, self.ended
+        sagas.before_abort_answer = self.aborted
+        kept.before_notify, self._report_waiters = self.reported, kept.futures
 
-    # -- noted
+    # -- what is decided
 
     def decided(self, effects: Effects, rest: Rest | None = None) -> None:
-        """The engine's answer came to these effects, which are not in the store yet. They rest on
-        all events up to those that the answer has, if nothing else is given.
+        """Note effects that the engine has decided and that are not stored yet.
+
+        They rest on `rest`, or by default on all events up to the last one of the engine's reply.
         """
         if rest is None:
             batch = effects.batch
@@ -64,32 +63,33 @@ class Acknowledgements:
         if effects.ended:
             for saga in effects.ended:
                 saga.end_rest = rest
-        if self._kept:
+        if self._report_waiters:
             for attempt in effects.reported:
                 attempt.rest = rest
         if effects.rare is not NOTHING_RARE:
             for abort in effects.rare.aborted:
                 self._aborts.setdefault(abort.saga, {})[abort] = rest
 
-    def recovered(self, found: Recovery) -> None:
-        """A shard was recovered: what continues rests on what the store has."""
-        batch = found.effects.batch
+    def recovered(self, recovery: Recovery) -> None:
+        """Note a recovered shard: what continues rests on the events that are stored."""
+        batch = recovery.effects.batch
         rest = self._record.session(batch.log, batch.epoch), batch.first
-        self.over(found.gone)
-        self.over(found.restored)
-        for saga in found.restored:
+        self.over(recovery.gone)
+        self.over(recovery.restored)
+        for saga in recovery.restored:
             saga.rest = rest
-        for attempt in found.forgotten:  # its saga may be restored
+        for attempt in recovery.forgotten:  # its saga may be restored
             attempt.rest = None
-        for attempt in found.resumed:
+        for attempt in recovery.resumed:
             attempt.rest = rest
-        for abort in found.aborted:
+        for abort in recovery.aborted:
             self._aborts.setdefault(abort.saga, {})[abort] = rest
-        self.decided(found.effects, rest)
+        self.decided(recovery.effects, rest)
 
     def lost(self, effects: Effects) -> None:
-        """They are not in the store. What is acknowledged of them all the same is because of what
-        was found there.
+        """Forget effects that were not stored.
+
+        A later acknowledgement of them rests on the recovery of the shard.
         """
         for saga in effects.opened:
             saga.rest = None
@@ -101,18 +101,20 @@ class Acknowledgements:
             self._aborts.get(abort.saga, {}).pop(abort, None)
 
     def over(self, sagas: Collection[SagaInstance]) -> None:
-        """These are not this program's any more."""
+        """Forget sagas that this program no longer executes."""
         for saga in sagas:
             saga.rest = saga.end_rest = None
         if self._aborts:
             for saga in sagas:
                 self._aborts.pop(saga, None)
 
-    # -- at the edges
+    # -- what is acknowledged
 
     def called(self, attempt: Attempt) -> None:
-        """A function is about to be called. One that nothing was decided about rests on more than
-        there is; so does one whose saga is not this program's.
+        """Record that a function is about to be called.
+
+        If nothing was decided about the attempt, or if its saga belongs to another program, the
+        call rests on events that do not exist. The record shows that as an error.
         """
         try:
             rest = None if attempt.instance.rest is None else attempt.rest
@@ -120,35 +122,38 @@ class Acknowledgements:
             rest = None
         if rest is None:
             if shard := attempt.instance.shard:
-                self._told((self._record.session(shard.number, shard.epoch), BEYOND), "call")
+                self._acknowledge((self._record.session(shard.number, shard.epoch), BEYOND), "call")
         elif rest is not self._called:
             self._called = rest
-            self._told(rest, "call")
+            self._acknowledge(rest, "call")
 
     def started(self, saga: SagaInstance) -> None:
-        """A caller is about to be notified that a saga is started."""
+        """Record that a caller is about to be notified that a saga is started."""
         self._wake(getattr(saga, "rest", None))
 
     def ended(self, saga: SagaInstance) -> None:
-        """A caller is about to be notified that a saga has ended."""
+        """Record that a caller is about to be notified that a saga has ended."""
         self._wake(getattr(saga, "end_rest", None))
 
     def reported(self, attempt: Attempt) -> None:
-        """A caller is about to be notified that a report is stored."""
+        """Record that a caller is about to be notified that a report is stored."""
         if getattr(attempt.instance, "rest", None) is not None:
             self._wake(getattr(attempt, "rest", None))
 
     def aborted(self, abort: Abort) -> None:
-        """A caller is about to be notified of the outcome of an abort."""
+        """Record that a caller is about to be notified of the outcome of an abort."""
         self._wake(self._aborts.get(abort.saga, {}).get(abort))
 
     def _wake(self, rest: Rest | None) -> None:
         if rest is not None and rest is not self._woken:
             self._woken = rest
-            self._told(rest, "wake")
+            self._acknowledge(rest, "wake")
 
     def replied(self, saga: SagaInstance | None) -> None:
-        """A service is about to answer that a saga is started; None if it is over by now."""
+        """Record that a service is about to reply that a saga is started.
+
+        `saga` is None if the saga is over.
+        """
         rest: Rest | None = getattr(saga, "rest", None)
         if rest is not None:
-            self._told(rest, "reply")
+            self._acknowledge(rest, "reply")

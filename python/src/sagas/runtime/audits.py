@@ -15,33 +15,36 @@ from sagas.runtime.commit_queue import CommitQueue
 from sagas.storage import queries
 from sagas.storage.interface import Database
 
-EACH = "SELECT shard, name FROM shards ORDER BY shard"
-FIRST_PAUSE, MOST_PAUSE = 1.0, 300.0
-"""Seconds until a shard is closed again that could not be."""
+ALL_SHARDS = "SELECT shard, name FROM shards ORDER BY shard"
+FIRST_PAUSE, MAX_PAUSE = 1.0, 300.0
+"""Seconds until a shard that could not be closed is tried again: the first and the longest pause.
+"""
 
 
-async def verdict(where: str, text: str, definitions: list[str]) -> tuple[bool, str]:
-    """Return whether `sagas audit` says yes to an event log, and what it says.
+async def verdict(program_path: str, text: str, definitions: list[str]) -> tuple[bool, str]:
+    """Return whether `sagas audit` accepts an event log, and its message.
 
     Args:
-        where: The program.
+        program_path: The program `sagas`.
         text: The event log, without the header.
-        definitions: The shard's definitions.
+        definitions: The definitions of the shard.
 
     Raises:
-        EngineError: It could not say anything, as where it was killed.
+        EngineError: The program returned no verdict, for example because it was killed.
     """
-    done = await asyncio.to_thread(
-        program.run, "audit", [protocol.HEADER + text, *definitions], where
+    process = await asyncio.to_thread(
+        program.run, "audit", [protocol.HEADER + text, *definitions], program_path
     )
-    said = (done.stdout + done.stderr).strip()
-    if done.returncode < 0 or done.returncode == program.CANNOT:
-        raise EngineError(f"sagas audit ended with {done.returncode}: {said or 'it was killed'}")
-    return done.returncode == 0, said
+    message = (process.stdout + process.stderr).strip()
+    if process.returncode < 0 or process.returncode == program.CANNOT:
+        raise EngineError(
+            f"sagas audit exited with status {process.returncode}: {message or 'it was killed'}"
+        )
+    return process.returncode == 0, message
 
 
 class Auditor:
-    """Audits shards, one at a time: nobody waits for it."""
+    """Audits finished shards in the background, one at a time."""
 
     def __init__(
         self,
@@ -56,20 +59,21 @@ class Auditor:
         self._turn = asyncio.Semaphore(1)
 
     async def close(self, driver: ShardDriver) -> None:
-        """Audit a settled shard and mark it closed. Where it cannot be read, audited or written
-        now, that is done again after a while, or by the next opening.
+        """Audit a finished shard, and mark it as closed.
+
+        If the shard cannot be read, audited or written, the auditor retries with longer pauses.
         """
         pause = FIRST_PAUSE
         while True:
             try:
                 await self._close(driver)
-            except Lost:  # it is another node's
+            except Lost:  # another node owns the shard
                 return
-            except (SagasError, OSError) as fault:
-                detail = f"shard {driver.name} could not be closed yet: {fault}"
+            except (SagasError, OSError) as error:
+                detail = f"shard {driver.name} could not be closed yet: {error}"
                 self._teller.tell("commit_failed", detail=detail)
                 await asyncio.sleep(pause)
-                pause = min(MOST_PAUSE, 2 * pause)
+                pause = min(MAX_PAUSE, 2 * pause)
             else:
                 self._teller.tell("shard_closed", detail=driver.name)
                 return
@@ -77,18 +81,18 @@ class Auditor:
     async def _close(self, driver: ShardDriver) -> None:
         async with self._turn:
             text = await self._store.text(driver.number)
-            is_good, said = await verdict(self._program, text, driver.identity.definitions.texts)
+            is_good, message = await verdict(self._program, text, driver.identity.definitions.texts)
         if not is_good:
-            self._teller.tell("audit_failed", detail=f"shard {driver.name}: {said}")
+            self._teller.tell("audit_failed", detail=f"shard {driver.name}: {message}")
         batch = Batch(driver.number, self._clock(), epoch=driver.epoch)
-        batch.more.closed = 1 if is_good else 2, said
+        batch.more.closed = 1 if is_good else 2, message
         await self._commits.kept(batch)
 
     async def all_shards(self) -> dict[str, str]:
         """Return the verdict of each shard by its name."""
-        found = {}
-        for number, name in await self._store.read(EACH):
+        verdicts = {}
+        for number, name in await self._store.read(ALL_SHARDS):
             text = await self._store.text(number)
-            texts = [one for _, one in await self._store.read(queries.TEXTS, number, number)]
-            _, found[name] = await verdict(self._program, text, texts)
-        return found
+            texts = [text for _, text in await self._store.read(queries.TEXTS, number, number)]
+            _, verdicts[name] = await verdict(self._program, text, texts)
+        return verdicts

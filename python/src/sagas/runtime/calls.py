@@ -1,4 +1,4 @@
-"""The functions that run now."""
+"""Calls step functions, and tracks the calls that run."""
 
 from __future__ import annotations
 
@@ -26,38 +26,38 @@ from sagas.runtime import invocation
 from sagas.runtime.acknowledgements import Acknowledgements
 from sagas.runtime.current_step import CALLED
 from sagas.runtime.dispatcher import Dispatcher
-from sagas.runtime.executor_host import Host
+from sagas.runtime.executor_host import CoordinatorForExecutor
 from sagas.runtime.fleet_limits import Fleet, Gate
 
 QUIET = 1.0
-"""Seconds that closing may wait before it says for what."""
+"""Seconds that closing waits before it logs which functions it waits for."""
 FORKED = 70
-"""The exit status of a child that a function forked, and that came back here."""
+"""The exit status of a forked child process that returned from a step function."""
 
 
-class Ends(Protocol):
-    """What is told how a function ended."""
+class CallListener(Protocol):
+    """Receives the outcomes of calls."""
 
     closing: bool
 
     def ended(self, attempt: Attempt, outcome: Outcome, at_once: bool) -> None:
-        """Its function is over."""
+        """Handle that the function of an attempt has returned or raised."""
 
     def succeeded(self, attempts: Sequence[Attempt]) -> None:
-        """As `ended`, of many that are finished already."""
+        """Handle that the functions of several attempts succeeded: as `ended`, for all."""
 
     def enter(self, attempt: Attempt) -> None:
-        """It is to be called again: it is known to have done nothing, by no fault of its own."""
+        """Have the attempt called again: the call had no effect, and did not fail."""
 
     def lost(self, attempt: Attempt, fault: Lost) -> None:
-        """Nobody knows whether its transaction was committed."""
+        """Handle that it is unknown whether the transaction of an attempt was committed."""
 
-    def tell(self, attempt: Attempt, name: str, detail: str | None = None) -> None:
-        """Tell an event of it."""
+    def emit(self, attempt: Attempt, name: str, detail: str | None = None) -> None:
+        """Emit an event of an attempt."""
 
 
 Remote = Callable[[Manner, Attempt], Any]
-"""What orders an attempt of a queue's worker, and gives its outcome, or None."""
+"""Sends an attempt to a worker of a queue, and returns its outcome, or None."""
 
 
 class Calls:
@@ -65,13 +65,13 @@ class Calls:
 
     Attributes:
         running: The attempts that have a slot, each with the task that calls its function.
-        acknowledgements: What is acknowledged, if the program has a record.
+        acknowledgements: The acknowledgements, if the program has a record.
     """
 
     def __init__(
         self,
-        ends: Ends,
-        host: Host,
+        listener: CallListener,
+        coordinator: CoordinatorForExecutor,
         slots: Slots,
         fleet: Fleet,
         threads: Threads,
@@ -80,31 +80,38 @@ class Calls:
         fill: Callable[[Attempt], Awaitable[None]],
     ) -> None:
         self._fill = fill
-        self._ends, self._store, self._slots, self._fleet = ends, host.store, slots, fleet
+        self._listener, self._store, self._slots, self._fleet = (
+            listener,
+            coordinator.store,
+            slots,
+            fleet,
+        )
         self._threads, self._remote = threads, remote
-        self._teller, self._clock = host.teller, host.clock
+        self._teller, self._clock = coordinator.teller, coordinator.clock
         self._forks, self._tracer = private.forks, tracer
-        self.acknowledgements = Acknowledgements.of(host.store)
+        self.acknowledgements = Acknowledgements.of(coordinator.store)
         self._called = self.acknowledgements.called if self.acknowledgements else None
         self.running: dict[Attempt, asyncio.Task[None] | None] = {}
-        self._alone = Dispatcher(self, host, self.running)
-        self._inside = Dispatcher(self, host, self.running, host.store.inside)
-        self._has_inside = host.store.inside is not None
-        self._holders: set[tuple[str, str, str]] = set()  # told that they held the loop
+        self._dispatcher = Dispatcher(self, coordinator, self.running)
+        self._transaction_dispatcher = Dispatcher(
+            self, coordinator, self.running, coordinator.store.inside
+        )
+        self._has_transactions = coordinator.store.inside is not None
+        self._blocking: set[tuple[str, str, str]] = set()  # functions that were warned of
 
     def coming(self) -> int:
-        """How many functions are about to be called, which may end at once."""
-        return self._alone.waiting + self._inside.waiting
+        """Return how many functions are about to be called, and may end at once."""
+        return self._dispatcher.waiting + self._transaction_dispatcher.waiting
 
     async def settled(self) -> None:
-        """Wait until all simple functions are called that are to be."""
-        await self._alone.settled()
-        await self._inside.settled()
+        """Wait until all queued simple functions are called."""
+        await self._dispatcher.settled()
+        await self._transaction_dispatcher.settled()
 
     # -- call
 
     def start(self, attempt: Attempt) -> None:
-        """Call its function; it has a slot."""
+        """Call the function of an attempt that has a slot."""
         if attempt.action.simple and self._tracer is None and not attempt.lacks():
             self.start_simple([attempt])
             return
@@ -114,35 +121,39 @@ class Calls:
             attempt.start()
             work = self._call(attempt)
         else:
-            work = self._pass(attempt, gate)
-        self.running[attempt] = self._alone.start(work)
+            work = self._call_limited(attempt, gate)
+        self.running[attempt] = self._dispatcher.start(work)
 
     def start_simple(self, attempts: Sequence[Attempt]) -> None:
-        """Call simple functions; each has a slot."""
-        if self._tracer is not None:  # each has a span, and so a task of its own
+        """Call the simple functions of attempts that have slots."""
+        if self._tracer is not None:  # each call has a span, and so its own task
             for attempt in attempts:
                 self.start(attempt)
             return
         self.running.update(dict.fromkeys(attempts))
         start_all(attempts)
-        inside = [one for one in attempts if one.action.inside] if self._has_inside else ()
+        inside = (
+            [attempt for attempt in attempts if attempt.action.inside]
+            if self._has_transactions
+            else ()
+        )
         if not inside:
-            self._alone.call(attempts)
+            self._dispatcher.call(attempts)
             return
         if len(inside) < len(attempts):
-            self._alone.call([one for one in attempts if not one.action.inside])
-        self._inside.call(inside)
+            self._dispatcher.call([attempt for attempt in attempts if not attempt.action.inside])
+        self._transaction_dispatcher.call(inside)
 
-    async def _pass(self, attempt: Attempt, gate: Gate) -> None:
-        """It is called if it gets a place of its step; else it waits without that and a slot."""
+    async def _call_limited(self, attempt: Attempt, gate: Gate) -> None:
+        """Call the function if its fleet limit grants a slot; otherwise, let it wait."""
         granted = await gate.ask(attempt)
-        if granted and attempt.state is QUEUED and not self._ends.closing:
+        if granted and attempt.state is QUEUED and not self._listener.closing:
             attempt.start()
             await self._call(attempt)
             return
         del self.running[attempt]
         self._leave(attempt)
-        if attempt.state is QUEUED and not self._ends.closing:
+        if attempt.state is QUEUED and not self._listener.closing:
             gate.hold(attempt, first=True)
 
     async def _call(self, attempt: Attempt) -> None:
@@ -160,7 +171,10 @@ class Calls:
         self._ended(attempt, began, outcome, fault, at_once=False)
 
     async def _has_values(self, attempt: Attempt) -> bool:
-        """Read what it lacks. False: it was cancelled meanwhile. Raises `BlobUnavailable`."""
+        """Read missing values; return False if the call was cancelled.
+
+        Raises `BlobUnavailable`.
+        """
         if attempt.lacks():
             try:
                 await self._fill(attempt)
@@ -169,13 +183,13 @@ class Calls:
         return True
 
     async def _outcome(self, attempt: Attempt, manner: Manner) -> Outcome | None:
-        """Call what is not simple: in a thread, in its time, in a transaction, or elsewhere."""
+        """Call a function that is not simple: in a thread, a transaction, or at a worker."""
         if manner.queue:
             outcome: Outcome | None = await self._remote(manner, attempt)
             return outcome
         inside = self._store.inside if manner.transaction else None
         call = inside.call if inside else invocation.call_alone
-        late = functools.partial(self._ends.tell, attempt, "step_overdue")
+        late = functools.partial(self._listener.emit, attempt, "step_overdue")
         try:
             task = attempt.task()
         except CannotDecode as error:  # by the store's codec
@@ -189,9 +203,9 @@ class Calls:
             return outcome
 
     async def end(self, timeout: float | None) -> set[asyncio.Task[None]]:
-        """Wait for the functions that run; return the tasks of those that are not over in time.
+        """Wait for running functions; return the tasks that did not end in time.
 
-        For which ones it waits is logged, after a while.
+        After a while it logs the functions that it waits for.
         """
         running = {job for job in self.running.values() if job}
         if not running:
@@ -199,8 +213,12 @@ class Calls:
         quiet = QUIET if timeout is None else min(timeout, QUIET)
         _, late = await asyncio.wait(running, timeout=quiet)
         if late and (timeout is None or timeout > QUIET):
-            at = self.running.items()
-            names = sorted(f"{one.name} of {one.key!r}" for one, job in at if job in late)
+            running_items = self.running.items()
+            names = sorted(
+                f"{attempt.name} of {attempt.key!r}"
+                for attempt, job in running_items
+                if job in late
+            )
             logger.warning(
                 "closing waits for %d running functions%s: %s",
                 len(names),
@@ -210,13 +228,14 @@ class Calls:
             _, late = await asyncio.wait(late, timeout=None if timeout is None else timeout - QUIET)
         return late
 
-    # -- what the dispatchers ask and tell
+    # -- calls by the dispatchers
 
     def begins(self, attempt: Attempt) -> bool:
-        """Whether it is called now: it was not forgotten meanwhile, and its shard is this
-        program's.
+        """Return whether the attempt is called now.
+
+        It is not called if it was forgotten, or if its shard may belong to another program.
         """
-        if private.forks != self._forks:  # a function forked, and its child came back here
+        if private.forks != self._forks:  # a forked child process returned from a function
             os._exit(FORKED)
         if attempt.state is RUNNING and self._store.holds():
             if self._called is not None:
@@ -224,38 +243,38 @@ class Calls:
             if attempt.extras is not None:
                 spans.noted(attempt, self._clock())
             if self._teller.listens:
-                self._ends.tell(attempt, "step_started")
+                self._listener.emit(attempt, "step_started")
             return True
-        if attempt.state is RUNNING:  # its shard may be another's: it is looked at, then begins
+        if attempt.state is RUNNING:  # another node may own the shard: it is loaded again first
             attempt.claim()
         del self.running[attempt]
         self._leave(attempt)
         return False
 
     def ended(self, attempt: Attempt, began: float, outcome: Outcome | None) -> None:
-        """A simple one was called, and waited, or did not end well."""
+        """Handle that a simple function waited, failed or was cancelled."""
         fault = attempt.record.lost() if attempt.record else None
         self._ended(attempt, began, outcome, fault, at_once=True)
 
     def done(self, attempts: list[Attempt]) -> None:
-        """Simple ones were called, and each has succeeded: as `ended`, of all at once."""
+        """Handle that simple functions succeeded without waiting."""
         self._check_fork()
         for attempt in attempts:
             del self.running[attempt]
         self._slots.left(len(attempts))
-        self._ends.succeeded(finish_all(attempts, self._clock()))
+        self._listener.succeeded(finish_all(attempts, self._clock()))
 
     def held_loop(self, attempt: Attempt, seconds: float) -> None:
-        """A function held up everything else: that is told once of each."""
-        word = attempt.saga, attempt.declared_name, attempt.kind
-        if word not in self._holders:
-            self._holders.add(word)
-            whose = "the compensation of step" if attempt.undo else "step"
+        """Warn once for each function that it blocked the event loop."""
+        function_id = attempt.saga, attempt.declared_name, attempt.kind
+        if function_id not in self._blocking:
+            self._blocking.add(function_id)
+            subject = "the compensation of step" if attempt.undo else "step"
             logger.warning(
                 "saga %r: %s %r blocked the event loop for %.1f s. Make it a plain function "
                 "(def), which runs in a thread",
-                word[0],
-                whose,
+                function_id[0],
+                subject,
                 attempt.name,
                 seconds,
             )
@@ -272,23 +291,23 @@ class Calls:
     ) -> None:
         record, attempt.record = attempt.record, None
         attempt.recorded = record is not None and record.done
-        if not self._over(attempt, began):
+        if not self._leave_running(attempt, began):
             return
         if fault is not None:
-            self._ends.lost(attempt, fault)
+            self._listener.lost(attempt, fault)
         elif record is not None and record.again:
             attempt.claim()
-            self._ends.enter(attempt)
+            self._listener.enter(attempt)
         elif outcome is None and attempt.extras and attempt.extras.control:
             if attempt.extras.control.is_stopped:
                 attempt.extras.control.is_stopped = False
-                told = outcomes.unknown("cancelled, since the saga was aborted")
-                self._ends.ended(attempt, told, at_once)
+                outcome_unknown = outcomes.unknown("cancelled, since the saga was aborted")
+                self._listener.ended(attempt, outcome_unknown, at_once)
         elif outcome is not None:
-            self._ends.ended(attempt, outcome, at_once)
+            self._listener.ended(attempt, outcome, at_once)
 
-    def _over(self, attempt: Attempt, began: float) -> bool:
-        """Whether anything comes of a function that is over: it was not forgotten meanwhile."""
+    def _leave_running(self, attempt: Attempt, began: float) -> bool:
+        """Release the slot of a call; return whether its outcome still counts."""
         self._check_fork()
         attempt.took = time.monotonic() - began
         del self.running[attempt]
@@ -296,22 +315,23 @@ class Calls:
         return attempt.state is RUNNING
 
     def _leave(self, attempt: Attempt) -> None:
-        """Slot and place are for the next."""
+        """Release the slot, and the slot of the fleet limit."""
         self._slots.leave(attempt)
         if gate := self._fleet.gate(attempt):
             gate.leave(attempt)
 
     def _check_fork(self) -> None:
-        if private.forks != self._forks:  # a function forked, and its child came back here
+        if private.forks != self._forks:  # a forked child process returned from the function
             os._exit(FORKED)
 
     # -- cancellation and progress
 
     def cancel(self, instance: SagaInstance) -> None:
-        """Tell the functions of a saga that what they do may not be wanted any more. Those that
-        asked for it are cancelled where the saga was aborted.
+        """Inform the functions of a draining saga that their work may no longer be needed.
+
+        If the saga was aborted, functions that opted in (`cancel_on_abort`) are cancelled.
         """
-        if not instance.draining:  # it was planned meanwhile
+        if not instance.draining:  # its plan was adopted in the meantime
             return
         for attempt in instance.busy.values():
             if attempt.undo or attempt.state is not RUNNING or attempt not in self.running:
@@ -323,23 +343,23 @@ class Calls:
                 control.is_stopped = job.cancel()
 
     def close(self) -> None:
-        """Tell all functions that the store is about to be closed."""
+        """Inform all functions that the store is about to be closed."""
         for attempt in self.running:
             attempt.control.cancelled.set("closing")
 
-    def news(self) -> list[Attempt]:
-        """Return the attempts whose functions told of progress since this was asked."""
-        found = []
+    def with_new_progress(self) -> list[Attempt]:
+        """Return the attempts whose functions reported progress since the last call."""
+        attempts = []
         for attempt in self.running:
             control = attempt.extras.control if attempt.extras else None
             if control and attempt.state is RUNNING and control.news():
-                found.append(attempt)
-        return found
+                attempts.append(attempt)
+        return attempts
 
     def forget(self, attempt: Attempt) -> None:
-        """Its shard does not have it: its function is stopped, unless it is one in a thread.
+        """Stop the function of an attempt that its shard no longer has.
 
-        Its slot is its own until its function is over.
+        A function in a thread continues. The attempt keeps its slot until its function has ended.
         """
         job = self.running.get(attempt)
         if attempt in self.running:
@@ -349,13 +369,13 @@ class Calls:
         if job is None or self._is_in_thread(attempt):
             return
         state = inspect.getcoroutinestate(job.get_coro())  # type: ignore[arg-type]
-        if state == inspect.CORO_CREATED:  # it never runs a line
+        if state == inspect.CORO_CREATED:  # the coroutine has not started
             del self.running[attempt]
             self._leave(attempt)
         job.cancel()
 
     def _is_in_thread(self, attempt: Attempt) -> bool:
-        """Whether its function is a plain one, which is called here."""
+        """Return whether its function is a plain one that is called in this program."""
         function = attempt.manner.function
         is_here = attempt.manner.queue is None and function is not None
         return is_here and not awaitables.is_async(function)

@@ -1,4 +1,4 @@
-"""Starts children, waits for their ends, and aborts those whose parents are aborted."""
+"""Starts child sagas, waits until they end, and aborts them with their parents."""
 
 from __future__ import annotations
 
@@ -32,14 +32,14 @@ from sagas.definition.labels import TOKEN
 from sagas.definition.saga import Saga
 from sagas.definition.start_options import StartOptions, deadline_at
 from sagas.runtime import stored_values
-from sagas.runtime.executor_host import Host
+from sagas.runtime.executor_host import CoordinatorForExecutor
 from sagas.runtime.stored_values import ValueReader
 from sagas.runtime.waiters import Waiters
 
-AGAIN = 1.0
-"""Seconds until what the store could not do is tried again."""
-LOOK = 5.0
-"""Seconds until a stuck child is looked at by itself: another node may have resolved it."""
+RETRY_DELAY = 1.0
+"""Seconds until a failed operation of the store is tried again."""
+STUCK_POLL = 5.0
+"""Seconds between checks of a stuck child, which another node may have resolved."""
 PARENTS = "SELECT s.id, c.parent, s.key FROM sagas s LEFT JOIN children c ON c.id = s.id"
 PARENT = f"{PARENTS} WHERE s.key = ?"
 CHILD = f"{PARENTS} WHERE s.key IN (?, ?)"
@@ -48,8 +48,10 @@ NAME = "SELECT name FROM shards WHERE shard = ?"
 
 
 class ChildEnd(NamedTuple):
-    """How a child ended, with what the store has of it: its id, its definition and, as they are
-    stored, its input, which may be a reference to a blob, and the results of its steps.
+    """How a child ended, and what the store has of it.
+
+    That is its id, its definition, its input and the results of its steps. The input is as it is
+    stored, and may be a reference to a blob.
     """
 
     end: SagaResult
@@ -59,11 +61,14 @@ class ChildEnd(NamedTuple):
     results: Mapping[int, str]
 
 
-class Carrier(Protocol):
-    """What starts, finds and aborts sagas by their keys, wherever they are executed."""
+class SagaOperations(Protocol):
+    """Starts, finds and aborts sagas by their keys, on any node."""
 
-    async def start(self, saga: Saga | Kind, key: str, given: Any, options: StartOptions) -> bool:
-        """Start a saga, also where the store starts no new ones. False: the key has one."""
+    async def start(self, saga: Saga | Kind, key: str, input: Any, options: StartOptions) -> bool:
+        """Start a saga; return False if the key is used.
+
+        A store that accepts no new sagas starts it too.
+        """
 
     async def end(self, key: str) -> ChildEnd:
         """Wait until a saga has ended."""
@@ -72,63 +77,66 @@ class Carrier(Protocol):
         """Abort a saga, unless it has ended."""
 
     async def is_dropped(self, key: str, id: int, step: int) -> bool:
-        """Whether a plan would undo a step of a saga, if all that is under way succeeds."""
+        """Return whether a plan would undo a step if all running attempts succeed."""
 
 
-class Reports(Protocol):
-    """Takes how attempts ended."""
+class OutcomeListener(Protocol):
+    """Receives the outcomes of attempts."""
 
     kept: Waiters[Attempt]
 
     def ended(self, attempt: Attempt, outcome: Outcome) -> None:
-        """Its child has ended."""
+        """Handle that the child of an attempt has ended."""
 
 
 class Children:
-    """The attempts of this program that wait for children.
+    """The attempts of this program that wait for child sagas.
 
-    All that it does may be done again, by this program or by another one at the same time: the key
-    of a child has one saga, and whether that is this attempt's child is in the store. A child that
-    is not there is started even if its parent is aborted, and aborted then: else an earlier
-    program, or a slow one, might start it behind the parent's end.
+    All operations are idempotent, also across programs. The key of a child identifies one saga, and
+    the store records which attempt started it. A missing child is started even if its parent is
+    aborted, and is then aborted. Otherwise, an earlier or slower program could start the child
+    after the parent has ended.
     """
 
-    def __init__(self, host: Host, reports: Reports, values: ValueReader) -> None:
-        self._host, self._reports, self._values = host, reports, values
-        self.carrier: Carrier | None = None
+    def __init__(
+        self, coordinator: CoordinatorForExecutor, listener: OutcomeListener, values: ValueReader
+    ) -> None:
+        self._coordinator, self._listener, self._values = coordinator, listener, values
+        self.operations: SagaOperations | None = None
         self._jobs: dict[Attempt, asyncio.Task[None]] = {}
         self._aborts: dict[Attempt, asyncio.Task[None]] = {}
         self._drops: dict[Attempt, asyncio.Task[None]] = {}
-        self._there: dict[Attempt, str] = {}  # the keys of children that are in the store
-        self._news, self._is_open = asyncio.Event(), asyncio.Event()
+        self._stored_keys: dict[Attempt, str] = {}  # keys of children that exist in the store
+        self._changed, self._is_open = asyncio.Event(), asyncio.Event()
 
     def open(self) -> None:
-        """All shards of this program are taken up: what is not here is elsewhere, or over."""
+        """Allow lookups: all shards of this program are loaded."""
         self._is_open.set()
 
-    # -- what the executor tells
+    # -- calls by the executor
 
     def follow(self, attempt: Attempt) -> None:
-        """Start its child, and report it once that has ended. If its saga is aborted, abort the
-        child.
+        """Start the child of an attempt, and report the attempt when the child ends.
+
+        If the saga of the attempt is aborted, the child is aborted too.
         """
         if attempt not in self._jobs:
-            self._jobs[attempt] = self._host.spawn(self._follow(attempt))
+            self._jobs[attempt] = self._coordinator.spawn(self._follow(attempt))
         self._abort_if_due(attempt)
 
     def gone(self, attempt: Attempt) -> None:
-        """It is reported, or not this program's any more."""
-        self._there.pop(attempt, None)
+        """Stop following the child of an attempt that is reported, or no longer here."""
+        self._stored_keys.pop(attempt, None)
         for jobs in (self._jobs, self._aborts, self._drops):
             job = jobs.pop(attempt, None)
             if job is not None and job is not asyncio.current_task():
                 job.cancel()
 
     def look(self) -> None:
-        """Somebody may have resolved a stuck child."""
-        self._news.set()
+        """Check stuck children again, which may have been resolved."""
+        self._changed.set()
 
-    # -- followed
+    # -- start and wait
 
     async def _follow(self, attempt: Attempt) -> None:
         await self._is_open.wait()
@@ -142,61 +150,61 @@ class Children:
                 outcome = outcomes.parked(str(error))
                 break
             except (TemporaryError, Moved, NoSuchSaga) as error:
-                logger.info("child of %r is looked at again: %s", attempt.key, error)
-                await asyncio.sleep(AGAIN)
-            except Exception as error:  # nobody else would report the attempt
-                logger.error("child of %r is looked at again", attempt.key, exc_info=error)
-                await asyncio.sleep(AGAIN)
+                logger.info("retrying the child of %r: %s", attempt.key, error)
+                await asyncio.sleep(RETRY_DELAY)
+            except Exception as error:  # otherwise the attempt would never be reported
+                logger.error("retrying the child of %r after an error", attempt.key, exc_info=error)
+                await asyncio.sleep(RETRY_DELAY)
         self.gone(attempt)
         is_here = attempt.instance.busy.get(attempt.word) is attempt
         if is_here and attempt.state is SUSPENDED and attempt.reason is Suspension.CHILD:
-            self._reports.ended(attempt, outcome)
+            self._listener.ended(attempt, outcome)
 
     async def _outcome(self, attempt: Attempt) -> Outcome:
-        """Start its child, if it is not there, and wait for what that comes to."""
+        """Start the child if it does not exist, and return the outcome of the attempt."""
         try:
-            found = await self._begun(attempt)
+            key_or_outcome = await self._begun(attempt)
         except (TemporaryError, Moved, NoSuchSaga):
             raise
         except (CannotDecode, MissingStep):
             raise
         except SagasError as error:
             return outcomes.failure(f"{type(error).__name__}: {error}", final=True)
-        if isinstance(found, Outcome):
-            return found
-        self._there[attempt] = found
+        if isinstance(key_or_outcome, Outcome):
+            return key_or_outcome
+        self._stored_keys[attempt] = key_or_outcome
         self._abort_if_due(attempt)
         while True:
-            self._news.clear()
-            ended = await self._carried.end(found)
+            self._changed.clear()
+            ended = await self._operations.end(key_or_outcome)
             outcome = children.outcome(ended.end, ended.kind, ended.results)
             if outcome is not None:
                 if attempt.undo and outcome.kind is SUCCEEDED:
                     return Outcome(SUCCEEDED, "null")
                 return outcome
             try:
-                async with asyncio.timeout(LOOK):
-                    await self._news.wait()
+                async with asyncio.timeout(STUCK_POLL):
+                    await self._changed.wait()
             except TimeoutError:
                 pass
 
     @property
-    def _carried(self) -> Carrier:
-        assert self.carrier
-        return self.carrier
+    def _operations(self) -> SagaOperations:
+        assert self.operations
+        return self.operations
 
     async def _begun(self, attempt: Attempt) -> str | Outcome:
-        """The key of its child, which is in the store; or what it comes to without one.
+        """Start the child if needed; return its key, or an outcome if there is no child.
 
         Raises:
-            KeyConflict: The key is another saga's.
+            KeyConflict: Another saga has the key.
             SagasError: The child cannot be started.
         """
         key = children.key_of(attempt)
-        while (there := await self._key_there(attempt, key)) is None:
+        while (stored_key := await self._stored_key(attempt, key)) is None:
             await self._values.fill(attempt)
             try:
-                saga, given = await self._new(attempt)
+                saga, input = await self._new(attempt)
             except SagasError:
                 raise
             except Exception as error:  # of the step's function
@@ -205,19 +213,20 @@ class Children:
                 attempt.instance.release()
             if saga is None:
                 return Outcome(SUCCEEDED, "null")  # there is no compensation to be called
-            if await self._carried.start(saga, key, given, await self._options(attempt, saga)):
+            if await self._operations.start(saga, key, input, await self._options(attempt, saga)):
                 return key
-        return there
+        return stored_key
 
-    async def _key_there(self, attempt: Attempt, key: str) -> str | None:
-        """The key of its child, if that is in the store: this one, or that of an earlier release.
-        Raises `KeyConflict`.
+    async def _stored_key(self, attempt: Attempt, key: str) -> str | None:
+        """Return the key of a stored child, or None. Raises `KeyConflict`.
+
+        Children that an earlier release started have keys in another format.
         """
         earlier = f"{attempt.key}/{key[len(attempt.key) + len(BELOW) :]}"
-        for id, parent, there in await self._host.store.read(CHILD, key, earlier):
+        for id, parent, stored_key in await self._coordinator.store.read(CHILD, key, earlier):
             if parent == attempt.instance.id:
-                return str(there)
-            if there == key:
+                return str(stored_key)
+            if stored_key == key:
                 raise KeyConflict(
                     f"key {key!r} belongs to saga {id}, which is not the child of saga "
                     f"{attempt.key!r}. Use other keys for sagas that are not children"
@@ -225,43 +234,46 @@ class Children:
         return None
 
     async def _new(self, attempt: Attempt) -> tuple[Saga | Kind | None, Any]:
-        """What its child is of, and is started with; nothing where there is nothing to be undone.
-        What undoes a child is made of the definition that the child ran with.
+        """Return the definition and the input of the child to start.
+
+        The definition is None if there is nothing to undo. A saga that undoes a child is made from
+        the definition that the child ran with.
 
         Raises:
-            MissingStep: This program lacks a compensation.
+            MissingStep: This program has no function for a compensation.
         """
         undone = await self._child_to_undo(attempt)
         if undone is None:
             call = children.child_input(attempt)
-            given = await self._host.declared.call(attempt.instance.kind.name, call)
-            return attempt.declared.child, given
-        ended = await self._carried.end(undone)
-        kind = self._host.shelf.undo_kind(ended.kind)
+            input = await self._coordinator.declared.call(attempt.instance.kind.name, call)
+            return attempt.declared.child, input
+        ended = await self._operations.end(undone)
+        kind = self._coordinator.registry.undo_kind(ended.kind)
         if kind is None:
             return None, None
-        text = await stored_values.input_of(self._host.store, ended.id, ended.text)
-        ((name,),) = await self._host.store.read(NAME, ended.id // SHARD_CAPACITY)
+        text = await stored_values.input_of(self._coordinator.store, ended.id, ended.text)
+        ((name,),) = await self._coordinator.store.read(NAME, ended.id // SHARD_CAPACITY)
         token = tokens.saga_token(name, ended.id % SHARD_CAPACITY)
         earlier = await self._earlier(attempt)
-        before = [(await self._carried.end(one)).end.states for one in earlier]
+        before = [(await self._operations.end(earlier_key)).end.states for earlier_key in earlier]
         done = children.left_by(ended.end.states, before)
         return kind, children.undo_input(
             undone, token, ended.kind, text, ended.results, done, earlier
         )
 
     async def _child_to_undo(self, attempt: Attempt) -> str | None:
-        """The key of the child that an attempt undoes; None if it starts one. Raises
-        `InvalidResult` if the step's result has none, as a result by hand in a store of an earlier
-        release may.
+        """Return the key of the child that an attempt undoes; None if it starts one.
+
+        Raises `InvalidResult` if the result of the step names no child. That can happen if an
+        operator entered the result in an earlier release.
         """
         if not attempt.undo:
             return children.undone_key(attempt)
         result = attempt.task().result
         key = result.get("key") if isinstance(result, dict) else None
         if isinstance(key, str):
-            is_own = child_keys.is_of_step(key, attempt.key, attempt.name) or BELOW not in key
-            rows = await self._host.store.read(PARENT, key) if is_own else ()
+            is_child_key = child_keys.is_of_step(key, attempt.key, attempt.name) or BELOW not in key
+            rows = await self._coordinator.store.read(PARENT, key) if is_child_key else ()
             if any(parent == attempt.instance.id for _, parent, _ in rows):
                 return key
         raise InvalidResult(
@@ -270,31 +282,33 @@ class Children:
         )
 
     async def _earlier(self, attempt: Attempt) -> list[str]:
-        """The keys of the sagas that have undone a part of the same child, in their order."""
-        found = []
+        """Return the keys of sagas that have undone a part of the same child, in order."""
+        keys = []
         if child_keys.undoes_child(attempt.key):
-            given = attempt.task().input
-            for before in given.get("earlier", ()):
+            undone_child = attempt.task().input
+            for before in undone_child.get("earlier", ()):
                 number = 1
                 while await self._is_known(key := child_keys.key_of(before, attempt.name, number)):
-                    found.append(key)
+                    keys.append(key)
                     number += 1
         for number in range(1, children.number_of(attempt)):
             key = child_keys.key_of(attempt.key, attempt.name, number, attempt.undo)
-            if (there := await self._key_there(attempt, key)) is not None:
-                found.append(there)
-        return found
+            if (stored_key := await self._stored_key(attempt, key)) is not None:
+                keys.append(stored_key)
+        return keys
 
     async def _is_known(self, key: str) -> bool:
-        """Whether a saga has the key."""
-        return bool(await self._host.store.read(PARENT, key))
+        """Return whether a saga has the key."""
+        return bool(await self._coordinator.store.read(PARENT, key))
 
     async def _options(self, attempt: Attempt, saga: Saga | Kind) -> StartOptions:
-        """Labels and trace context of the parent, and the earlier deadline; what undoes a child has
-        no deadline.
+        """Return labels, trace context and deadline of a child.
+
+        Labels and trace context are those of the parent. The deadline is the earlier one of parent
+        and child. A saga that undoes a child has no deadline.
         """
-        parent, now = attempt.instance, self._host.clock()
-        rows = await self._host.store.read(LABELS, parent.id)
+        parent, now = attempt.instance, self._coordinator.clock()
+        rows = await self._coordinator.store.read(LABELS, parent.id)
         labels: dict[str, str] = {name: value for name, value in rows}
         deadline = None
         if isinstance(saga, Saga):
@@ -302,61 +316,68 @@ class Children:
             deadline = min((at for at in times if at is not None), default=None)
         return StartOptions(labels, deadline, parent.id, traceparent=parent.options.traceparent)
 
-    # -- aborted
+    # -- abort
 
     def _abort_if_due(self, attempt: Attempt) -> None:
-        """Abort its child with its saga; or where a step has failed, and the plan that follows
-        would undo the child.
-        """
+        """Abort the child with its saga, or if the next plan would undo the child."""
         undoes = attempt.undo or child_keys.undoes_child(attempt.key)
-        if undoes or attempt not in self._there:
+        if undoes or attempt not in self._stored_keys:
             return
         if not attempt.instance.drains:
             return
         if attempt.instance.aborted and attempt not in self._aborts:
-            self._aborts[attempt] = self._host.spawn(self._abort(attempt))
+            self._aborts[attempt] = self._coordinator.spawn(self._abort(attempt))
         elif attempt not in self._drops:
-            self._drops[attempt] = self._host.spawn(self._abort_if_dropped(attempt))
+            self._drops[attempt] = self._coordinator.spawn(self._abort_if_dropped(attempt))
 
     async def _abort(self, attempt: Attempt) -> None:
-        key = self._there[attempt]
+        key = self._stored_keys[attempt]
         while True:
             try:
-                await self._carried.abort(key, f"the abort of saga {attempt.key}")
+                await self._operations.abort(key, f"the abort of saga {attempt.key}")
                 return
             except Closed:
                 return
             except (TemporaryError, Moved, NoSuchSaga) as error:
-                logger.info("child %r is aborted in a moment: %s", key, error)
-                await asyncio.sleep(AGAIN)
+                logger.info("retrying the abort of child %r: %s", key, error)
+                await asyncio.sleep(RETRY_DELAY)
 
     async def _abort_if_dropped(self, attempt: Attempt) -> None:
-        """Once all others have ended: the plan is made only behind the ends of the children."""
+        """Wait for the other attempts, then abort the child if a plan would undo it.
+
+        The saga is planned only after its children have ended.
+        """
         while True:
             try:
                 await self._others_ended(attempt)
-                if await self._carried.is_dropped(attempt.key, attempt.instance.id, attempt.step):
+                if await self._operations.is_dropped(
+                    attempt.key, attempt.instance.id, attempt.step
+                ):
                     await self._abort(attempt)
                 return
             except (Closed, NoSuchSaga, CannotDecode):
                 return
             except (TemporaryError, Moved) as error:
-                logger.info("child of %r is looked at again: %s", attempt.key, error)
-                await asyncio.sleep(AGAIN)
+                logger.info("retrying the child of %r: %s", attempt.key, error)
+                await asyncio.sleep(RETRY_DELAY)
 
     async def _others_ended(self, attempt: Attempt) -> None:
-        """Wait until all that began of its saga has ended in the store, except for children."""
+        """Wait until the other attempts of the saga have stored outcomes.
+
+        Attempts that wait for children are not awaited.
+        """
         while others := list(_others(attempt)):
-            await self._reports.kept.wait(others[0])
+            await self._listener.kept.wait(others[0])
 
 
 def _others(attempt: Attempt) -> Iterator[Attempt]:
-    """What began of its saga and does not wait for a child, as far as the store does not have its
-    end.
+    """Yield the other attempts of the saga that have no stored outcome.
+
+    Attempts that wait for children are left out.
     """
     instance = attempt.instance
     assert instance.shard
-    for one in (*instance.busy.values(), *instance.shard.unkept()):
-        is_child = one.state is SUSPENDED and one.reason is Suspension.CHILD
-        if one.instance is instance and not is_child:
-            yield one
+    for other in (*instance.busy.values(), *instance.shard.unkept()):
+        is_child = other.state is SUSPENDED and other.reason is Suspension.CHILD
+        if other.instance is instance and not is_child:
+            yield other

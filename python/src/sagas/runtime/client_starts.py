@@ -1,4 +1,4 @@
-"""Takes the starts that clients wrote."""
+"""Reads the starts that clients wrote into the store, and opens their sagas."""
 
 from __future__ import annotations
 
@@ -21,22 +21,23 @@ from sagas.definition.saga import Saga
 from sagas.definition.shelf import Fitted, Shelf
 from sagas.definition.start_options import StartOptions
 from sagas.runtime.commit_queue import CommitQueue
-from sagas.runtime.declared_calls import DeclaredCalls
+from sagas.runtime.declared_calls import DefinitionCaller
 from sagas.runtime.instances import Instances
-from sagas.runtime.relocation import conflict_there
+from sagas.runtime.relocation import conflict_with_stored
 from sagas.storage.interface import Database
 
 MANY = 64
-"""Starts that are taken at once: other nodes take theirs meanwhile."""
-AGAIN = 1.0
-"""Seconds after which starts that failed are taken again."""
-LEFT = 10.0
-"""Seconds for which a start whose input cannot be decoded is left to other nodes."""
+"""Maximum number of starts that one read takes, so that other nodes get some too."""
+RETRY_DELAY = 1.0
+"""Seconds after which failed starts are read again."""
+LEAVE_SECONDS = 10.0
+"""Seconds for which a start with an undecodable input is left to other nodes."""
 
 
-class Doubt:
-    """Whether starts of clients that are this node's may not be under way: nobody else takes
-    them.
+class StartDoubt:
+    """Whether starts that this node has claimed may have been lost.
+
+    No other node takes such starts, so this node reads them again.
     """
 
     def __init__(self, loop: asyncio.AbstractEventLoop, look: Callable[[], None]) -> None:
@@ -44,81 +45,87 @@ class Doubt:
         self._is_set = False
 
     def doubt(self, looks: bool = True) -> None:
-        """Some may not be. `looks`: they are looked for in a while."""
+        """Mark that some may be lost. With `looks`, they are read again after a delay."""
         self._is_set = True
         if looks:
-            self._loop.call_later(AGAIN, self._look)
+            self._loop.call_later(RETRY_DELAY, self._look)
 
     def settle(self) -> bool:
-        """Return whether some may not be; they are looked for now."""
+        """Return whether some may be lost, and clear the mark."""
         was_set, self._is_set = self._is_set, False
         return was_set
 
 
-class Host(Protocol):
-    """The open store around them."""
+class CoordinatorForStarts(Protocol):
+    """The coordinator, as the reader of starts uses it."""
 
     closed: SagasError | None
-    declared: DeclaredCalls
+    declared: DefinitionCaller
 
     def spawn(self, work: Coroutine[None, None, None]) -> object:
-        """Do it in the background."""
+        """Run a coroutine in the background."""
 
 
-class Starts:
-    """Takes starts when there may be some, one lot behind the other."""
+class StartReader:
+    """Reads starts of clients in batches, one after another."""
 
     def __init__(
         self,
-        host: Host,
+        coordinator: CoordinatorForStarts,
         store: Database,
         definitions: Shelf,
         sagas: Instances,
         commits: CommitQueue,
-        doubt: Doubt,
+        doubt: StartDoubt,
         clock: Callable[[], float],
-        place: Callable[[SagaInstance], None],
+        assign: Callable[[SagaInstance], None],
     ) -> None:
-        self._host, self._store, self._definitions, self._sagas = host, store, definitions, sagas
-        self._commits, self._doubt, self._clock, self._place = commits, doubt, clock, place
+        self._coordinator, self._store, self._definitions, self._sagas = (
+            coordinator,
+            store,
+            definitions,
+            sagas,
+        )
+        self._commits, self._doubt, self._clock, self._assign = commits, doubt, clock, assign
         self._is_taking = self._again = False
         self._left: dict[int, float] = {}
-        self._fitted: set[int] = set()  # functions of their definitions are called for these
+        self._fitted: set[int] = set()  # starts for which functions of definitions run
 
     def look(self) -> None:
-        """There may be some."""
+        """Read starts, because there may be some."""
         self._again = True
         if not self._is_taking:
             self._is_taking = True
-            self._host.spawn(self._take())
+            self._coordinator.spawn(self._take())
 
     async def _take(self) -> None:
         try:
-            while self._again and not self._host.closed:
+            while self._again and not self._coordinator.closed:
                 self._again = False
                 rows = await self._store.starts(MANY, self._under_way(), self._left_now())
                 opening = (self._open(row) for row in rows)
-                faults = await asyncio.gather(*opening, return_exceptions=True)
-                for fault in faults:
-                    if fault is not None:
-                        raise fault
+                errors = await asyncio.gather(*opening, return_exceptions=True)
+                for failure in errors:
+                    if failure is not None:
+                        raise failure
                 self._again = self._again or len(rows) == MANY
         except Exception as error:
             logger.info("starts of clients could not be read: %s. Retrying", error)
-            self._doubt.doubt(not self._host.closed)
+            self._doubt.doubt(not self._coordinator.closed)
             if not isinstance(error, StoreUnavailable):
                 raise
         finally:
             self._is_taking = False
 
     def _under_way(self) -> list[int] | None:
-        """Where some of this node's may not be under way, those that are: all others are given
-        again.
+        """Return the starts in progress if claimed starts may be lost, otherwise None.
+
+        The store returns all other starts of this node again.
         """
         if not self._doubt.settle():
             return None
-        begun = [saga.start for saga in self._sagas.by_key.values() if saga.start is not None]
-        return [*begun, *self._fitted]
+        start_ids = [saga.start for saga in self._sagas.by_key.values() if saga.start is not None]
+        return [*start_ids, *self._fitted]
 
     def _left_now(self) -> list[int]:
         """Return the starts that are left to other nodes at this moment."""
@@ -127,12 +134,12 @@ class Starts:
         return [*self._left]
 
     async def _open(self, row: Start) -> None:
-        """Open a start, or leave it to other nodes if this one cannot decode its input."""
+        """Open a start; leave it to other nodes if this one cannot decode its input."""
         try:
             await self._begin(row)
         except CannotDecode as error:
             id, key, saga, *_ = row
-            self._left[id] = asyncio.get_running_loop().time() + LEFT
+            self._left[id] = asyncio.get_running_loop().time() + LEAVE_SECONDS
             logger.warning(
                 "saga %r: the input of the start with the key %r cannot be decoded: %s. It is left "
                 "to a node that can decode it",
@@ -147,20 +154,20 @@ class Starts:
         by_key = self._sagas.by_key
         if id in self._fitted or (key in by_key and by_key[key].start == id):
             return
-        there = await self._store.find(key)
-        if self._host.closed:
+        stored = await self._store.find(key)
+        if self._coordinator.closed:
             return
-        if key in by_key and not (there and there.id >= 0):
-            # begun here too, and not in the store yet: should that fail, this start counts
+        if key in by_key and not (stored and stored.id >= 0):
+            # started here too, and not stored yet: if that fails, this start counts
             self._doubt.doubt()
             return
         declared, payloads = self._definitions.sagas[saga, version], self._definitions.payloads
-        if there and there.id >= 0:
+        if stored and stored.id >= 0:
             batch = Batch(-1, self._clock())
-            error = await conflict_there(
-                self._store, key, declared, text, there.saga, there.input, payloads
+            error = await conflict_with_stored(
+                self._store, key, declared, text, stored.saga, stored.input, payloads
             )
-            batch.more.begun.append((id, there.id if error is None else None))
+            batch.more.begun.append((id, stored.id if error is None else None))
             await self._commits.kept(batch)
             return
         try:
@@ -171,49 +178,52 @@ class Starts:
         value = payloads.decode(text)
         try:
             fitted = self._definitions.fit(declared, value)
-        except Exception as error:  # of the user's code: its text may have the input
+        except Exception as error:  # raised by user code: its text may contain the input
             fitted = self._misfit(saga, error)
         if fitted is not None:
             await self._put(row, fitted)
             return
-        self._fitted.add(id)  # in the background: others need not wait for slow functions
-        self._host.spawn(self._fit(row, declared, value))
+        self._fitted.add(id)  # in the background, so that slow functions delay no other start
+        self._coordinator.spawn(self._fit(row, declared, value))
 
     @staticmethod
     def _misfit(saga: str, error: Exception) -> Fitted:
-        wrong = InvalidInput(f"saga {saga!r}: {type(error).__name__} for this input")
-        return Fitted(None, None, wrong)
+        invalid_input = InvalidInput(
+            f"saga {saga!r}: a function of the definition raised {type(error).__name__} for this "
+            "input. Correct the input or the function"
+        )
+        return Fitted(None, None, invalid_input)
 
     async def _fit(self, row: Start, declared: Saga, value: str) -> None:
-        """Begin one whose steps come from its input."""
+        """Open a start whose steps come from its input."""
         definitions = self._definitions
         try:
             try:
-                fitted = await self._host.declared.fit(definitions, declared, value)
-            except Exception as error:  # of the user's code: its text may have the input
+                fitted = await self._coordinator.declared.fit(definitions, declared, value)
+            except Exception as error:  # raised by user code: its text may contain the input
                 fitted = self._misfit(declared.name, error)
-            if not self._host.closed:
+            if not self._coordinator.closed:
                 await self._put(row, fitted)
         except Exception as error:
-            logger.info("a start of a client is taken again: %s", error)
-            self._doubt.doubt(not self._host.closed)
+            logger.info("retrying the start of a client: %s", error)
+            self._doubt.doubt(not self._coordinator.closed)
             if not isinstance(error, StoreUnavailable):
                 raise
         finally:
             self._fitted.discard(row[0])
 
     async def _put(self, row: Start, fitted: Fitted) -> None:
-        """Begin one of this definition; or refuse it, if its input gives it none."""
+        """Open a start with its definition, or refuse it if its input is invalid."""
         id, key, _, _, text, labels, deadline, traceparent = row
-        kind, shape, wrong = fitted
+        kind, shape, error = fitted
         if kind is None:
-            assert wrong
-            await self._store.give_back(id, str(wrong))
+            assert error
+            await self._store.give_back(id, str(error))
             return
-        if key in self._sagas.by_key:  # begun here meanwhile: should that fail, this start counts
+        if key in self._sagas.by_key:  # started here in the meantime: if that fails, this counts
             self._doubt.doubt()
             return
         options = StartOptions(labels, deadline, shape=shape, traceparent=traceparent)
         instance = self._sagas.add(key, text, kind, options)
         instance.start = id
-        self._place(instance)
+        self._assign(instance)

@@ -15,73 +15,77 @@ from sagas.core.group_commit import GroupCommitPolicy, half
 from sagas.storage.interface import CommitWriter
 
 
-class Owner(Protocol):
-    """What hears how its batches fared."""
+class CommitListener(Protocol):
+    """Is notified whether its batches were committed."""
 
     def committed(self, effects: Effects) -> None:
-        """The batch is durable."""
+        """Handle that the batch is durable."""
 
     def failed(self, effects: Effects, fault: BaseException | None) -> None:
-        """As far as is known it is not. `fault`: why; None where it is refused since its shard, or
-        one of its keys, is another's.
+        """Handle that the batch is not durable, as far as is known.
+
+        `fault` is the error; None if the batch was refused because another node has the shard, or
+        because one of its keys belongs to another saga.
         """
 
     def broken(self, error: Exception) -> None:
-        """What it did when it heard that raised this: a fault of this package."""
+        """Handle that a method of this listener raised: an error of this package."""
 
 
-class Load(Protocol):
-    """What is under way, and comes to a commit."""
+class CommitLoad(Protocol):
+    """How much work is about to reach a commit."""
 
     def coming(self) -> int:
-        """How many calls are on their way to a commit."""
+        """Return how many calls are on their way to a commit."""
 
     def calls(self) -> int:
-        """How many functions are about to be called."""
+        """Return how many functions are about to be called."""
 
     def is_alone(self) -> bool:
-        """Whether there is one saga, and no function runs: nothing else comes."""
+        """Return whether there is only one saga, and no function runs."""
 
 
-Entry = tuple[Effects, Owner | None]
-"""A batch that waits, or is being written, with what hears how it fared."""
+Entry = tuple[Effects, CommitListener | None]
+"""A batch that waits or is being written, with its listener."""
 
 
-class Waiter:
-    """Who waits for one batch."""
+class BatchWaiter:
+    """A caller that waits for one batch."""
 
-    def __init__(self, path: str, over: asyncio.Future[None]) -> None:
-        self._path, self._over = path, over
+    def __init__(self, path: str, durable: asyncio.Future[None]) -> None:
+        self._path, self._durable = path, durable
 
     def committed(self, effects: Effects) -> None:
-        """As `Owner`."""
-        if not self._over.done():  # who waited may have been cancelled
-            self._over.set_result(None)
+        """See `CommitListener`."""
+        if not self._durable.done():  # the caller may have been cancelled
+            self._durable.set_result(None)
 
     def failed(self, effects: Effects, fault: BaseException | None) -> None:
-        """As `Owner`."""
-        if self._over.done():
+        """See `CommitListener`."""
+        if self._durable.done():
             return
         if fault is None:
             fault = Lost(f"shard {effects.batch.log}")
         is_ours = isinstance(fault, SagasError)
-        self._over.set_exception(fault if is_ours else StoreUnavailable(f"{self._path}: {fault}"))
+        self._durable.set_exception(
+            fault if is_ours else StoreUnavailable(f"{self._path}: {fault}")
+        )
 
     def broken(self, error: Exception) -> None:
-        """As `Owner`."""
+        """See `CommitListener`."""
 
 
 def _rows_of(entries: Sequence[Entry]) -> int:
-    """How many sagas they open and results they have."""
+    """Return how many sagas the batches open, plus how many results they have."""
     batches = [effects.batch for effects, _ in entries]
     return sum(len(batch.results) + len(batch.opened) for batch in batches)
 
 
 class CommitQueue:
-    """Writes batches in the order in which they come, one transaction at a time."""
+    """Writes batches in the order of their arrival, one transaction at a time."""
 
     def __init__(
-        self, store: CommitWriter, load: Load, teller: Teller, loop: asyncio.AbstractEventLoop
+        self, store: CommitWriter, load: CommitLoad, teller: Teller, loop: asyncio.AbstractEventLoop
     ) -> None:
         self._store, self._load, self._teller, self._loop = store, load, teller, loop
         self._policy = GroupCommitPolicy()
@@ -94,29 +98,30 @@ class CommitQueue:
 
     @property
     def is_writing(self) -> bool:
-        """Whether a commit is under way, or something waits for one."""
+        """Whether a commit is in progress, or a batch waits for one."""
         return self._is_under_way or bool(self._queue)
 
-    def lot(self, ready: int) -> int:
-        """Return how many of so many functions that are called now are told of at once: half,
-        where the server would have nothing to do until all were over.
+    def batch_size(self, ready: int) -> int:
+        """Return how many of `ready` calls are reported at once.
+
+        That is half of them if the server would otherwise be idle until all calls ended.
         """
         return half(ready) if self._store.takes and not self.is_writing else ready
 
-    # -- to be written
+    # -- queue
 
-    def put(self, effects: Effects, owner: Owner | None, at_once: bool = False) -> None:
+    def put(self, effects: Effects, listener: CommitListener | None, at_once: bool = False) -> None:
         """Put a batch into the next transaction.
 
         Args:
             effects: The effects whose batch it is.
-            owner: What hears how it fared.
-            at_once: Whether nothing else is in the middle of something here: then the owner may
-                hear before this returns.
+            listener: Is notified whether the batch was committed.
+            at_once: Whether no other operation of this program is half done. Then the listener may
+                be notified before this call returns.
         """
         if self._store.takes:
             self._policy.came(self._loop.time())
-        self._queue.append((effects, owner))
+        self._queue.append((effects, listener))
         if self._is_under_way:
             return
         self._is_urgent = at_once
@@ -126,7 +131,7 @@ class CommitQueue:
             self._is_urgent = False
 
     def put_alone(self, batch: Batch) -> None:
-        """Put a batch into the next transaction, and do not ask how it fared."""
+        """Put a batch into the next transaction, and ignore whether it is committed."""
         self.put(Effects(batch), None)
 
     async def kept(self, batch: Batch) -> None:
@@ -134,30 +139,30 @@ class CommitQueue:
 
         Raises:
             StoreUnavailable: It cannot be written now.
-            Lost: Its shard is another node's.
+            Lost: Another node owns the shard.
         """
-        over: asyncio.Future[None] = self._loop.create_future()
-        self.put(Effects(batch), Waiter(self._store.path, over))
-        await over
+        durable: asyncio.Future[None] = self._loop.create_future()
+        self.put(Effects(batch), BatchWaiter(self._store.path, durable))
+        await durable
 
     async def written(self) -> None:
-        """Wait until nothing waits for a commit, whose caller may be gone."""
+        """Wait until no batch waits for a commit, including batches of cancelled callers."""
         while self.is_writing:
             self._idle = self._loop.create_future()
             await self._idle
 
     def drop(self, shards: Sequence[int]) -> None:
-        """Do not write what waits of these shards."""
+        """Discard the waiting batches of these shards."""
         self._queue = [entry for entry in self._queue if entry[0].batch.log not in shards]
 
-    # -- written
+    # -- write
 
     def write(self) -> None:
-        """Write what waits, unless a commit is under way, or more is worth to wait for."""
+        """Write the waiting batches, unless a commit is in progress or waiting pays off."""
         if not self._queue or self._is_under_way:
             return
-        takes = self._store.takes
-        if takes and self._holds(takes):
+        commit_seconds = self._store.takes
+        if commit_seconds and self._waits_for_more(commit_seconds):
             return
         entries, self._queue = self._queue, []
         at_once, self._is_urgent, self._is_under_way = self._is_urgent, False, True
@@ -170,25 +175,25 @@ class CommitQueue:
         if not at_once:
             self._settle_soon()
 
-    def _holds(self, takes: float) -> bool:
+    def _waits_for_more(self, commit_seconds: float) -> bool:
         if self._load.is_alone():
             return False
         policy, now = self._policy, self._loop.time()
-        holds = policy.holds(self._load.coming(), _rows_of(self._queue), takes, now)
-        if self._timer and not holds:
+        waits = policy.holds(self._load.coming(), _rows_of(self._queue), commit_seconds, now)
+        if self._timer and not waits:
             self._timer.cancel()
             self._timer = None
-        elif holds and self._timer is None and policy.until is not None:
-            self._timer = self._loop.call_at(policy.until, self._rang)
-        return holds
+        elif waits and self._timer is None and policy.until is not None:
+            self._timer = self._loop.call_at(policy.until, self._timer_fired)
+        return waits
 
-    def _rang(self) -> None:
+    def _timer_fired(self) -> None:
         self._timer = None
         self.write()
 
     def _settle_soon(self) -> None:
-        """What is over is told in the loop's next turn."""
-        if not self._store.shared:  # a server's answer comes in a turn of its own
+        """Have the result of a commit to a file delivered in the next turn of the loop."""
+        if not self._store.shared:  # the reply of a server arrives in its own turn
             self._loop.call_soon(self._store.settle)
 
     def _written(
@@ -196,44 +201,44 @@ class CommitQueue:
     ) -> None:
         entries, self._under_way, self._is_under_way = self._under_way, [], False
         if fault is not None or lost:
-            entries = self._with_those_behind(entries, fault, lost)
-        takes = self._store.takes
+            entries = self._with_later_entries(entries, fault, lost)
+        commit_seconds = self._store.takes
         if self._queue and fault is None:
-            is_soon = takes and self._policy.is_soon(
-                _rows_of(entries), _rows_of(self._queue), takes
+            is_soon = commit_seconds and self._policy.is_soon(
+                _rows_of(entries), _rows_of(self._queue), commit_seconds
             )
             if not is_soon:
                 self.write()
-        for effects, owner in entries:
-            if owner is not None:
-                _tell(effects, owner, fault, fault is not None or effects.batch.log in lost)
-        if takes:
+        for effects, listener in entries:
+            if listener is not None:
+                _notify(effects, listener, fault, fault is not None or effects.batch.log in lost)
+        if commit_seconds:
             self._policy.committed(self._load.calls(), self._loop.time())
         if self._queue:
             self.write()
         if self._idle and not self._idle.done() and not self.is_writing:
             self._idle.set_result(None)
 
-    def _with_those_behind(
+    def _with_later_entries(
         self, entries: list[Entry], fault: BaseException | None, lost: frozenset[int]
     ) -> list[Entry]:
-        """Those that were not written, and what stands behind them in their shards, which cannot
-        be written either.
-        """
+        """Return the failed entries with later ones of their shards, which fail too."""
         if fault is not None:
             self._teller.tell("commit_failed", detail=str(fault))
         shards = {effects.batch.log for effects, _ in entries} if fault else lost
-        behind = [entry for entry in self._queue if entry[0].batch.log in shards]
+        later = [entry for entry in self._queue if entry[0].batch.log in shards]
         self.drop(list(shards))
-        return [*entries, *behind]
+        return [*entries, *later]
 
 
-def _tell(effects: Effects, owner: Owner, fault: BaseException | None, is_lost: bool) -> None:
+def _notify(
+    effects: Effects, listener: CommitListener, fault: BaseException | None, is_lost: bool
+) -> None:
     try:
         if is_lost:
-            owner.failed(effects, None if isinstance(fault, Lost) else fault)
+            listener.failed(effects, None if isinstance(fault, Lost) else fault)
         else:
-            owner.committed(effects)
-    except Exception as error:  # the others have to hear of theirs
+            listener.committed(effects)
+    except Exception as error:  # the other listeners must still be notified
         logger.exception("shard %d: an error after a commit", effects.batch.log)
-        owner.broken(error)
+        listener.broken(error)

@@ -22,11 +22,11 @@ from sagas.core.undo_check import CompletedChild
 from sagas.definition.shelf import Shelf
 from sagas.definition.tracing import Tracer
 from sagas.runtime import decode_check, remote_steps
-from sagas.runtime.client_starts import Starts
+from sagas.runtime.client_starts import StartReader
 from sagas.runtime.commit_queue import CommitQueue
 from sagas.runtime.deadlines import Deadlines
-from sagas.runtime.deadlocks import Waits
-from sagas.runtime.declared_calls import DeclaredCalls
+from sagas.runtime.deadlocks import DeadlockCheck
+from sagas.runtime.declared_calls import DefinitionCaller
 from sagas.runtime.executor import Executor
 from sagas.runtime.external_queue import ExternalQueue
 from sagas.runtime.instances import Instances
@@ -36,35 +36,38 @@ from sagas.runtime.shards import Shards
 from sagas.storage.interface import Database
 
 QUIET = 1.0
-"""Seconds that closing waits for the last commits, and then for engines that it has ended."""
+"""Seconds that closing waits for the last commits, and then for ended engine processes."""
 
 
 class Coordinator:
-    """The inside of an open store. Everything here happens in its loop.
+    """Owns and connects the parts of an open store.
+
+    All its methods are called in the event loop of the store.
 
     Attributes:
         store: The database.
-        shelf: The definitions that the store was opened with.
-        teller: What events are told to.
+        registry: The definitions that the store was opened with.
+        teller: Receives events.
         clock: Wall time in seconds.
         loop: The event loop.
         sagas: The open sagas of this program.
-        executor: What calls functions.
-        commits: What writes to the store.
+        executor: Executes attempts.
+        commits: Writes to the store.
         shards: The shards of this program.
-        declared: What calls functions of definitions.
+        declared: Calls functions of definitions.
         external: The tasks of external workers.
         waits: Functions that wait for sagas.
-        deadlines: When sagas are aborted.
-        closed: Why nothing begins any more.
+        deadlines: Aborts sagas at their deadlines.
+        closed: Why nothing starts any more.
         forks: The number of this process.
-        listeners: What is called when there may be commands or starts.
+        refusal: Done, with the reason, when this node can no longer execute anything.
+        listeners: Functions that are called when there may be commands or starts.
     """
 
     def __init__(
         self,
         store: Database,
-        shelf: Shelf,
+        registry: Shelf,
         *,
         program: str,
         concurrency: int,
@@ -76,28 +79,27 @@ class Coordinator:
         context: Any = None,
         tracer: Tracer | None = None,
     ) -> None:
-        self.store, self.shelf, self.teller, self.clock = store, shelf, teller, clock
+        self.store, self.registry, self.teller, self.clock = store, registry, teller, clock
         self.loop = asyncio.get_running_loop()
         self.forks = private.forks
         self.closed: SagasError | None = None
         self.refusal: asyncio.Future[InvalidStore] = self.loop.create_future()
-        """Why it cannot execute anything, and will not be able to."""
         self.listeners: list[Callable[[], None]] = []
         self._is_feeding = False
         self._threads = ThreadPoolExecutor(threads, "sagas-step")
         self._jobs: set[asyncio.Task[None]] = set()
         self._timer: asyncio.TimerHandle | None = None
-        self.declared = DeclaredCalls(threads)
+        self.declared = DefinitionCaller(threads)
         self.external = ExternalQueue(self)
         self.sagas = Instances(self.loop)
         self.executor = Executor(self, self.external, concurrency, self._threads, tracer)
         if acknowledgements := self.executor.calls.acknowledgements:
             acknowledgements.follow(self.sagas, self.executor.kept)
-        self.executor.slots.is_fair = any(saga.fair_by for saga in shelf.sagas.values())
+        self.executor.slots.is_fair = any(saga.fair_by for saga in registry.sagas.values())
         self.commits = CommitQueue(store, self, teller, self.loop)
         self.shards = Shards(
             store,
-            shelf,
+            registry,
             program,
             engine_processes,
             self.sagas,
@@ -111,65 +113,72 @@ class Coordinator:
             idle,
         )
         self.deadlines = Deadlines(self.sagas, self.shards.abort, teller, clock)
-        self.sagas.driven = self.deadlines.add
+        self.sagas.on_executed = self.deadlines.add
         self.shards.abort_overdue = self.deadlines.look
-        self.waits = Waits(self)
+        self.waits = DeadlockCheck(self)
         self.listeners.append(self.executor.children.look)
-        self._lifespan = Lifespan(context, shelf.context)
+        self._lifespan = Lifespan(context, registry.context)
 
-    def starts(self) -> Starts:
-        """Make what takes the starts of clients."""
-        return Starts(
+    def start_reader(self) -> StartReader:
+        """Return the reader of clients' starts."""
+        return StartReader(
             self,
             self.store,
-            self.shelf,
+            self.registry,
             self.sagas,
             self.commits,
-            self.shards.starts,
+            self.shards.start_doubt,
             self.clock,
-            self.shards.place,
+            self.shards.assign,
         )
 
     # -- opening
 
     async def open(self) -> None:
-        """Take up each shard that is not closed.
+        """Load each shard that is not closed.
 
         Raises:
-            MissingStep: This program lacks a function.
-            EngineError: No engine can be started, or one cannot be understood.
+            MissingStep: This program has no function for a step.
+            EngineError: An engine process cannot be started, or its output is invalid.
             StoreUnavailable: The store cannot be read or written.
         """
-        rows = await self.store.open(self.lacks)
+        rows = await self.store.open(self.missing_functions)
         await self.external.open()
-        await remote_steps.check(self.store, self.shelf.sagas.values())
+        await remote_steps.check(self.store, self.registry.sagas.values())
         await self._lifespan.enter()
         await self.shards.open(rows)
         self.executor.children.open()
         self.shards.close_all_over()
         self._timer = self.loop.call_later(1.0, self._tick, 0.0)
 
-    def lacks(
-        self, texts: list[str], places: list[int], completed: Sequence[CompletedChild]
+    def missing_functions(
+        self, texts: list[str], indexes: list[int], completed: Sequence[CompletedChild]
     ) -> str | None:
-        """Return what this program has no function for, of the definitions at these places of a
-        shard, and of the completed children that its open sagas may undo.
+        """Return which function this program does not have, or None.
+
+        Args:
+            texts: The definitions of a shard.
+            places: The indexes of those that its open sagas have.
+            completed: The completed children that its open sagas may undo.
         """
-        for place in places:
+        for index in indexes:
             try:
-                kind = self.shelf.kind(texts[place])
+                kind = self.registry.kind(texts[index])
             except (ValueError, LookupError, TypeError, SagasError):
-                continue  # its shard is set aside
-            lacks = kind.lacks()
-            if lacks:
-                return f"saga {kind.name!r} (version {kind.version}) has open sagas, but {lacks}"
+                continue  # the shard of an invalid definition is set aside
+            missing = kind.lacks()
+            if missing:
+                return f"saga {kind.name!r} (version {kind.version}) has open sagas, but {missing}"
         try:
-            return undo_check.lacking(self.shelf.kind, completed)
-        except (ValueError, LookupError, TypeError, SagasError):  # a text of another shard
+            return undo_check.lacking(self.registry.kind, completed)
+        except (ValueError, LookupError, TypeError, SagasError):  # an invalid definition
             return None
 
     def _tick(self, offered: float) -> None:
-        """Look at what nobody tells. `offered`: when shards were offered to other nodes."""
+        """Run the periodic checks.
+
+        `offered` is the time at which shards were last offered to other nodes.
+        """
         self.shards.tick()
         self.waits.look()
         self.deadlines.look()
@@ -180,75 +189,76 @@ class Coordinator:
             self.shards.offer_unread()
         self._timer = self.loop.call_later(self.shards.pause, self._tick, offered)
 
-    # -- what the store tells (`storage.interface.Watcher`)
+    # -- notifications by the store (`storage.interface.Watcher`)
 
     def look(self) -> None:
-        """There may be commands or starts."""
+        """Check for commands and starts."""
         if not self.closed:
             for listener in self.listeners:
                 listener()
 
     def lapsed(self, is_older: bool = False) -> None:
-        """The lease ran out meanwhile; or another server has taken over, which may know less
-        (`is_older`).
+        """Handle that the lease expired.
+
+        With `is_older`, another server has taken over, and may have lost recent commits.
         """
         self.shards.lapsed(is_older)
 
     def taken(self, rows: list[LogRow]) -> None:
-        """Shards that another node had are this one's."""
+        """Execute shards that this node has taken over."""
         self.shards.taken(rows)
         self.look()
 
     def vacant(self) -> None:
-        """Some node gave places of a step back."""
+        """Handle that a node released slots of a fleet limit."""
         self.executor.fleet.look()
 
     def reported(self) -> None:
-        """Somebody reported an attempt that is done elsewhere."""
+        """Read reports of external attempts."""
         self.external.look()
 
     def offered(self) -> None:
-        """Another node has something for workers."""
+        """Wake waiting claims, because another node offers tasks."""
         self.external.offered_elsewhere()
 
     def refused(self, error: InvalidStore) -> None:
-        """The server has no tables of the store, and this node may not make them."""
+        """Handle that the database has no tables that this node may use or create."""
         if not self.refusal.done():
             self.refusal.set_result(error)
 
     def logs(self) -> list[int]:
-        """Return the shards that this program drives, or is about to close."""
+        """Return the shards that this program executes, or is about to close."""
         return self.shards.numbers()
 
-    # -- what is under way (`commit_queue.Load`, `dispatcher.Turns`)
+    # -- load (`commit_queue.CommitLoad`, `dispatcher.TurnPolicy`)
 
     def coming(self) -> int:
-        """How many calls are on their way to a commit."""
+        """Return how many calls are on their way to a commit."""
         return self.calls() + self.shards.coming() + self.store.sought
 
     def calls(self) -> int:
-        """How many functions are about to be called."""
+        """Return how many functions are about to be called."""
         return self.executor.calls.coming()
 
     def is_alone(self) -> bool:
-        """Whether there is one saga, and no function runs: nothing else comes."""
+        """Return whether there is one saga, and no function runs."""
         return not self.slots.running and len(self.sagas.by_key) == 1
 
-    def lot(self, ready: int) -> int:
-        """How many of so many functions that are called now are told of at once."""
-        return self.commits.lot(ready)
+    def batch_size(self, ready: int) -> int:
+        """Return how many of `ready` calls are reported at once."""
+        return self.commits.batch_size(ready)
 
-    def lets(self) -> bool:
-        """Whether others have their turn before further functions are called."""
-        return self.sagas.lets()
+    def must_yield(self) -> bool:
+        """Return whether callers get their turn before further functions are called."""
+        return self.sagas.must_yield()
 
     @property
     def slots(self) -> Slots:
-        """How many functions may run."""
+        """The slots for running functions."""
         return self.executor.slots
 
     def feed(self) -> None:
-        """There are slots again: shards that wait for them go on."""
+        """Resume shards that wait for slots, in the next turn of the loop."""
         if not self._is_feeding:
             self._is_feeding = True
             self.loop.call_soon(self._feed)
@@ -258,13 +268,13 @@ class Coordinator:
         self.slots.feed()
 
     def runner(self, shard: ShardDriver) -> ShardRunner | None:
-        """Return what drives a shard; None if it is not this program's any more."""
+        """Return the runner of a shard; None if this program no longer has the shard."""
         return self.shards.runner(shard)
 
     # -- in the background
 
     def spawn(self, work: Coroutine[None, None, None]) -> asyncio.Task[None]:
-        """Do it in the background; what it raises is logged."""
+        """Run a coroutine in the background, and log what it raises."""
         job = self.loop.create_task(work)
         self._jobs.add(job)
         job.add_done_callback(self._done)
@@ -276,7 +286,7 @@ class Coordinator:
             logger.error("a background task failed: %r", job.exception(), exc_info=job.exception())
 
     async def kept(self, batch: Batch) -> None:
-        """Write a batch, and wait until it is durable (`CommitQueue.kept`)."""
+        """Write a batch, and wait until it is durable. See `CommitQueue.kept`."""
         await self.commits.kept(batch)
 
     async def settled(self) -> None:
@@ -289,18 +299,19 @@ class Coordinator:
     # -- closing
 
     async def close(self, shutdown_timeout: float | None) -> None:
-        """Take nothing new. Functions that run end and are kept, or are cancelled after so many
-        seconds. The context is left last. See `Lifespan.end`.
+        """Accept nothing new, wait for running functions, and leave the context.
+
+        After `shutdown_timeout` seconds, running functions are cancelled. See `Lifespan.end`.
         """
         self.closed = self.closed or Closed(
-            f"{self.store.path}: the store is closed. Open sagas go on when it is opened again"
+            f"{self.store.path}: the store is closed. Open sagas continue when it is opened again"
         )
         work = functools.partial(self._close, self.closed, shutdown_timeout)
         await self._lifespan.end(work, shutdown_timeout)
 
     @property
     def is_over(self) -> bool:
-        """Whether all of it is closed, as far as it can be."""
+        """Whether the store is closed and the context left."""
         return self._lifespan.is_over
 
     async def _close(self, closed: SagasError, shutdown_timeout: float | None) -> None:
@@ -334,7 +345,7 @@ class Coordinator:
             await asyncio.wait([engine.buried for engine in engines], timeout=QUIET)
 
     async def _late(self, shutdown_timeout: float | None) -> set[asyncio.Task[None]]:
-        """Wait for the functions that run; return the tasks of those that are not over in time."""
+        """Wait for running functions; return the tasks that did not end in time."""
         calls = self.executor.calls
         ending = asyncio.create_task(self._ended(shutdown_timeout))
         either: list[asyncio.Future[Any]] = [ending, self._lifespan.hurry]

@@ -13,17 +13,16 @@ from sagas.core.model import RUNNING, Attempt
 Running = Mapping[Attempt, "asyncio.Task[None] | None"]
 """The attempts of a store that have a slot, each with the task that calls its function."""
 CALLED: ContextVar[Attempt | None] = ContextVar("sagas_called", default=None)
-"""The attempt whose function is called. What it begins beside itself (a task, a thread) has it as
-well."""
+"""The attempt whose function is called. Tasks and threads that the function starts inherit it."""
 _BLOCKS: ContextVar[Attempt | None] = ContextVar("sagas_blocks", default=None)
-"""The same, of what its thread waits for in the store's loop."""
+"""The attempt whose thread is blocked until a call in the store's loop returns."""
 _THREAD: ContextVar[int | None] = ContextVar("sagas_thread", default=None)
-"""The thread that calls its plain function."""
+"""The thread that runs the plain function."""
 
 
 @contextlib.contextmanager
 def in_thread() -> Iterator[None]:
-    """Say, around the call of a plain function, that this thread goes on behind it."""
+    """Mark that this thread runs a plain function, for the duration of the call."""
     token = _THREAD.set(threading.get_ident())
     try:
         yield
@@ -33,7 +32,7 @@ def in_thread() -> Iterator[None]:
 
 @contextlib.contextmanager
 def blocking() -> Iterator[None]:
-    """Say, around what a thread hands to the loop, that it waits for that."""
+    """Mark that this thread is blocked by what it submits to the loop."""
     token = _BLOCKS.set(CALLED.get() if _THREAD.get() == threading.get_ident() else None)
     try:
         yield
@@ -42,9 +41,11 @@ def blocking() -> Iterator[None]:
 
 
 def waiter(running: Running) -> Attempt | None:
-    """Return the attempt of a store whose function goes on only behind what is awaited here.
+    """Return the attempt that is blocked until the awaited call returns, or None.
 
-    What a function awaits in a task or a thread of its own may be for nobody, so there is none."""
+    A task or a thread that a function started may not be awaited by the function, so the function
+    does not count as blocked by it.
+    """
     attempt = CALLED.get()
     if attempt is None or attempt.state is not RUNNING or attempt not in running:
         return None

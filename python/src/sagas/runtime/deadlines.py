@@ -1,4 +1,4 @@
-"""Aborts sagas whose time is over."""
+"""Aborts sagas whose deadlines have passed."""
 
 from __future__ import annotations
 
@@ -11,14 +11,14 @@ from sagas.base.events import Teller
 from sagas.core.model import SagaInstance
 from sagas.runtime.instances import Instances
 
-MOST = 1000
-"""So many deadlines are kept before those of sagas that are over are dropped."""
+MAX_ENTRIES = 1000
+"""Number of deadlines at which those of ended sagas are dropped."""
 
 
 class Deadlines:
     """The deadlines of the open sagas of this program, the next one first.
 
-    They are in the store with their sagas, so that whoever drives one knows its deadline.
+    They are stored with their sagas, so each node that executes a saga knows its deadline.
     """
 
     def __init__(
@@ -31,25 +31,25 @@ class Deadlines:
         self._sagas, self._abort, self._teller, self._clock = sagas, abort, teller, clock
         self._heap: list[tuple[float, int, SagaInstance]] = []
         self._order = itertools.count()
-        self._most = MOST
+        self._max_entries = MAX_ENTRIES
 
     def add(self, saga: SagaInstance) -> None:
-        """It is driven here from now on."""
+        """Add the deadline of a saga that this program executes from now on."""
         if saga.options.deadline is not None:
-            if len(self._heap) >= self._most:
+            if len(self._heap) >= self._max_entries:
                 self._drop()
             heapq.heappush(self._heap, (saga.options.deadline, next(self._order), saga))
 
     def _drop(self) -> None:
-        """Keep one of each saga that is driven here: most are over long before their deadlines."""
+        """Keep one entry for each open saga: most sagas end long before their deadlines."""
         by_key = self._sagas.by_key
-        kept = {one[2]: one for one in self._heap if by_key.get(one[2].key) is one[2]}
-        self._heap = [*kept.values()]
+        entries = {entry[2]: entry for entry in self._heap if by_key.get(entry[2].key) is entry[2]}
+        self._heap = [*entries.values()]
         heapq.heapify(self._heap)
-        self._most = max(MOST, 2 * len(self._heap))
+        self._max_entries = max(MAX_ENTRIES, 2 * len(self._heap))
 
     def look(self) -> None:
-        """Abort those whose time has come. Where another node has one, that does it."""
+        """Abort the open sagas of this program whose deadlines have passed."""
         if not self._heap:
             return
         now = self._clock()
@@ -58,10 +58,13 @@ class Deadlines:
             is_here = self._sagas.by_key.get(saga.key) is saga
             if is_here and not saga.over and not saga.aborted:
                 self._teller.tell("saga_overdue", key=saga.key, saga=saga.kind.name)
-                self._abort(saga).add_done_callback(_heard)
+                self._abort(saga).add_done_callback(_ignore_result)
 
 
-def _heard(aborted: asyncio.Future[bool]) -> None:
-    """Whether it was aborted is told by its events; where it moved, its node aborts it."""
+def _ignore_result(aborted: asyncio.Future[bool]) -> None:
+    """Ignore the result of an abort.
+
+    Events report it, and another node aborts a saga that moved.
+    """
     if not aborted.cancelled():
         aborted.exception()

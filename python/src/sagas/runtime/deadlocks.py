@@ -15,36 +15,43 @@ if TYPE_CHECKING:
     from sagas.runtime.coordinator import Coordinator
 
 T = TypeVar("T")
-ELSEWHERE = "Wait for it outside of the saga's steps"
+REMEDY = "Wait for it outside of the saga's steps"
 
 
 @dataclasses.dataclass
-class Wait:
-    """For which saga a function waits, without an end; `is_given_up`: no place is left for that
-    saga to go on."""
+class SagaWait:
+    """A function that waits for a saga without a timeout.
+
+    Attributes:
+        key: The key of the saga.
+        scope: Ends the wait.
+        is_given_up: Whether the wait was ended because no slot is free for the saga.
+    """
 
     key: str
     scope: asyncio.Timeout
     is_given_up: bool = False
 
 
-class Waits:
-    """Those of a store's functions that wait for a saga of the store."""
+class DeadlockCheck:
+    """The step functions of a store that wait for sagas of the same store."""
 
-    def __init__(self, owner: Coordinator) -> None:
-        self._owner = owner
-        self._waits: dict[Attempt, Wait] = {}
-        self._seen: tuple[Attempt, ...] = ()  # that took all places at the last look
+    def __init__(self, coordinator: Coordinator) -> None:
+        self._coordinator = coordinator
+        self._waits: dict[Attempt, SagaWait] = {}
+        self._full_before: tuple[Attempt, ...] = ()  # attempts that had all slots at the last check
 
-    async def during(self, attempt: Attempt, key: str, work: Coroutine[object, object, T]) -> T:
-        """What `work` gives, which waits for the saga with this key. Raises `WouldWaitForever`
-        where that cannot end, also later."""
+    async def guard(self, attempt: Attempt, key: str, work: Coroutine[object, object, T]) -> T:
+        """Return the result of `work`, which waits for the saga with this key.
+
+        Raises `WouldWaitForever` if the wait can never end, also if that becomes true later.
+        """
         try:
             self._check(attempt, key)
         except WouldWaitForever:
             work.close()
             raise
-        wait = Wait(key, asyncio.timeout(None))
+        wait = SagaWait(key, asyncio.timeout(None))
         self._waits[attempt] = wait
         try:
             async with wait.scope:
@@ -53,75 +60,81 @@ class Waits:
             if not wait.is_given_up:
                 raise
             attempt.rare.gave_way = True
-            raise SlotsTaken(self._no_place(attempt, key)) from None
+            raise SlotsTaken(self._slots_taken(attempt, key)) from None
         finally:
             del self._waits[attempt]
 
     def _check(self, attempt: Attempt, key: str) -> None:
-        """Raises `WouldWaitForever` where the saga ends only behind this very function."""
-        way, at = [key], key
-        while at != attempt.instance.key:
-            found = [wait.key for other, wait in self._waits.items() if other.instance.key == at]
-            following = next((one for one in found if one not in way), None)
+        """Raise `WouldWaitForever` if the saga can end only after this function."""
+        chain, last = [key], key
+        while last != attempt.instance.key:
+            waited_keys = [
+                wait.key for other, wait in self._waits.items() if other.instance.key == last
+            ]
+            following = next(
+                (waited_key for waited_key in waited_keys if waited_key not in chain), None
+            )
             if following is None:
                 return
-            way.append(following)
-            at = following
-        who = f"{attempt.name!r} of saga {attempt.instance.key!r}"
-        if len(way) == 1:
+            chain.append(following)
+            last = following
+        step = f"{attempt.name!r} of saga {attempt.instance.key!r}"
+        if len(chain) == 1:
             raise WouldWaitForever(
-                f"step {who} waits for its own saga, which ends only after it. {ELSEWHERE}"
+                f"step {step} waits for its own saga, which ends only after it. {REMEDY}"
             )
-        told = ", which waits for ".join(f"saga {one!r}" for one in way)
+        chain_text = ", which waits for ".join(f"saga {waited_key!r}" for waited_key in chain)
         raise WouldWaitForever(
-            f"step {who} waits for {told}, so none of them would ever end. {ELSEWHERE}"
+            f"step {step} waits for {chain_text}, so none of them would ever end. {REMEDY}"
         )
 
-    def _no_place(self, attempt: Attempt, key: str) -> str:
-        most = self._owner.slots.most
+    def _slots_taken(self, attempt: Attempt, key: str) -> str:
+        limit = self._coordinator.slots.most
         return (
             f"step {attempt.name!r} of saga {attempt.instance.key!r} waits for saga "
-            f"{key!r}, and all {most} slots of the store's concurrency are taken by steps "
+            f"{key!r}, and all {limit} slots of the store's concurrency are taken by steps "
             "that wait like this. Open the store with a larger concurrency=, or let the "
             "last step of the child complete an external step of the parent"
         )
 
     def look(self) -> None:
-        """Gives one up where all places are taken by such waits, and each waits for a saga that
-        needs a place. It has to be so twice in a row."""
-        slots = self._owner.slots
+        """End one wait if all slots are taken by waits for sagas that need a slot.
+
+        This has to be true at two checks in a row.
+        """
+        slots = self._coordinator.slots
         if (
             len(self._waits) < slots.most
             or len(self._waits) < slots.running
-            or not all(map(self._needs_a_place, self._waits.values()))
+            or not all(map(self._needs_slot, self._waits.values()))
         ):
-            self._seen = ()
+            self._full_before = ()
             return
         now = tuple(self._waits)
-        if self._seen == now:
+        if self._full_before == now:
             wait = self._waits[now[-1]]
             wait.is_given_up = True
-            wait.scope.reschedule(self._owner.loop.time())
-            self._seen = ()
+            wait.scope.reschedule(self._coordinator.loop.time())
+            self._full_before = ()
         else:
-            self._seen = now
+            self._full_before = now
 
-    def _needs_a_place(self, wait: Wait) -> bool:
-        """Whether the saga that is waited for goes on only once a function that waits now is
-        over."""
-        live = self._owner.sagas.by_key.get(wait.key)
-        if live is None or not live.committed or live.over or not self._rests(live):
+    def _needs_slot(self, wait: SagaWait) -> bool:
+        """Return whether the awaited saga needs the slot of a waiting function."""
+        saga = self._coordinator.sagas.by_key.get(wait.key)
+        if saga is None or not saga.committed or saga.over or not self._is_quiet(saga):
             return False
-        if not live.busy:
-            runner = self._owner.runner(live.shard) if live.shard else None
-            return runner is not None and self._owner.slots.is_starved(runner)
+        if not saga.busy:
+            runner = self._coordinator.runner(saga.shard) if saga.shard else None
+            return runner is not None and self._coordinator.slots.is_starved(runner)
         return any(
-            one in self._waits or self._owner.slots.is_waiting(one) for one in live.busy.values()
+            attempt in self._waits or self._coordinator.slots.is_waiting(attempt)
+            for attempt in saga.busy.values()
         )
 
-    def _rests(self, live: SagaInstance) -> bool:
-        """Whether nothing of the saga's shard is on its way, which might end it."""
-        shard = live.shard
+    def _is_quiet(self, saga: SagaInstance) -> bool:
+        """Return whether nothing in progress in the saga's shard could end the saga."""
+        shard = saga.shard
         is_here = shard is not None and shard.state in (ShardState.ACTIVE, ShardState.IDLE)
         if shard is None or not is_here or shard.unwritten or shard.asked:
             return False

@@ -1,4 +1,4 @@
-"""Calls the functions of definitions: in threads, so that a slow one holds up nothing else."""
+"""Calls functions of definitions in threads, so that a slow one delays nothing."""
 
 from __future__ import annotations
 
@@ -12,30 +12,35 @@ from sagas.definition.shelf import Fitted, Shelf
 from sagas.runtime.function_threads import FunctionThreads
 
 T = TypeVar("T")
-LEAST = 4
-"""Threads, at least: functions of one definition that are slow leave some for all others."""
+MIN_THREADS = 4
+"""Minimum number of threads. Slow functions of one definition use only some of them."""
 
 
-class DeclaredCalls:
-    """Calls what the functions of definitions say: which steps there are, when, and for whom.
+class DefinitionCaller:
+    """Calls functions of definitions: which steps exist, and when they run.
 
-    They have threads of their own: all threads of the steps may be taken for long.
+    They have their own threads, because steps may occupy all threads of the steps for a long time.
     """
 
     def __init__(self, threads: int) -> None:
-        self._threads = FunctionThreads(max(LEAST, threads), "sagas-declared")
+        self._threads = FunctionThreads(max(MIN_THREADS, threads), "sagas-declared")
         self.end, self.close = self._threads.end, self._threads.close
 
     async def call(self, name: str, function: Callable[[], T]) -> T:
-        """Call a function of the definition with this name in a thread; return what it returns, or
-        raise that.
+        """Call a function in a thread; return its result, or raise its exception.
+
+        Args:
+            name: The name of the definition.
+            function: The function.
         """
         value: T = await self._threads.call(name, function)
         return value
 
     async def answer(self, attempt: Attempt, question: Question) -> bool:
-        """Let an attempt have the answers of a question. False: something else became of the
-        attempt meanwhile.
+        """Store the answers of a question in an attempt.
+
+        Returns:
+            False if the attempt changed in the meantime.
         """
         is_same, extras = attempt.pausing(), attempt.rare
         extras.asked = question.words
@@ -48,9 +53,9 @@ class DeclaredCalls:
         extras.returned |= answers
         return True
 
-    async def fit(self, shelf: Shelf, saga: Saga, text: str) -> Fitted:
-        """Return the definition of a saga with an input. See `Shelf.fit`."""
-        fitted = shelf.fit(saga, text)
+    async def fit(self, registry: Shelf, saga: Saga, text: str) -> Fitted:
+        """Return the definition of a saga with an input."""
+        fitted = registry.fit(saga, text)
         if fitted is None:
-            fitted = shelf.shaped(text, await self.call(saga.name, shelf.shaping(saga, text)))
+            fitted = registry.shaped(text, await self.call(saga.name, registry.shaping(saga, text)))
         return fitted

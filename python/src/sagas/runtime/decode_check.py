@@ -1,7 +1,7 @@
 """Leaves a shard to another node if this program cannot decode its values.
 
-What is stored of open sagas and cannot be read by this program: it is told, and another node may
-have the shard.
+If stored values of open sagas cannot be read, the program logs it, and offers the shard to other
+nodes.
 """
 
 from __future__ import annotations
@@ -22,29 +22,32 @@ from sagas.runtime.retries import until_answered
 from sagas.storage.interface import Database
 
 MANY = 32
-"""Sagas that are looked at in one turn of the loop."""
+"""Number of sagas that are checked in one turn of the loop."""
 PAUSE = 2.0
-"""Seconds after which it is looked again whether another node has come."""
+"""Seconds between checks whether another node can take the shard."""
 REMEDY = "they wait for a program that can. Give new fields a default"
 
 
-class Checked(Protocol):
-    """A shard that is taken up."""
+class CheckedShard(Protocol):
+    """A shard that is being loaded."""
 
     driver: ShardDriver
     has_unread: bool
 
 
-async def faults(kinds: Sequence[Kind], rows: Loaded, store: Database) -> AsyncIterator[str]:
-    """Of each open saga of a shard yield the first thing that cannot be read. What is in a blob
-    store is not looked at: a function that needs it reads it.
+async def unreadable_sagas(
+    kinds: Sequence[Kind], rows: Loaded, store: Database
+) -> AsyncIterator[str]:
+    """Yield the first unreadable value of each open saga of a shard.
+
+    Values in a blob store are not checked. They are read when a function needs them.
     """
     results: dict[int, dict[int, str]] = {}
     for id, step, word, _, outcome, value, _ in rows.results:
         if outcome in ("commit", "ok") and word == "run":
             results.setdefault(id, {})[step] = value or "null"
-    for count, (id, key, place, input, *_) in enumerate(rows.open):
-        kind, text = kinds[place], cast("str | None", input)
+    for count, (id, key, index, input, *_) in enumerate(rows.open):
+        kind, text = kinds[index], cast("str | None", input)
         if count % MANY == MANY - 1:
             await asyncio.sleep(0)
         if not kind.reads:
@@ -64,31 +67,34 @@ async def faults(kinds: Sequence[Kind], rows: Loaded, store: Database) -> AsyncI
             yield f"saga {kind.name!r}, key {key!r}, {why}"
 
 
-async def is_left(shard: Checked, rows: Loaded, store: Database) -> bool:
-    """Return whether a shard that is taken up is left to another node, which may be able to read
-    what this one cannot. Else that is told, once.
+async def is_left(shard: CheckedShard, rows: Loaded, store: Database) -> bool:
+    """Return whether a shard is left to another node, because values cannot be read.
+
+    If no other node takes it, this program logs a warning once.
     """
     driver = shard.driver
-    found = [fault async for fault in faults(driver.identity.definitions.kinds, rows, store)]
-    if not found:
+    errors = [
+        error async for error in unreadable_sagas(driver.identity.definitions.kinds, rows, store)
+    ]
+    if not errors:
         return False
     if not is_at_work(driver) and await store.spare(driver.number):
-        logger.info("left shard %s to other nodes: %s", driver.name, found[0])
+        logger.info("left shard %s to other nodes: %s", driver.name, errors[0])
         return True
     if not shard.has_unread:
-        count = "1 open saga" if len(found) == 1 else f"{len(found)} open sagas"
+        count = "1 open saga" if len(errors) == 1 else f"{len(errors)} open sagas"
         logger.warning(
             "shard %s: this program cannot read %s: %s. The first one: %s",
             driver.name,
             count,
             REMEDY,
-            found[0],
+            errors[0],
         )
     shard.has_unread = True
     return False
 
 
 def is_at_work(driver: ShardDriver) -> bool:
-    """Return whether a function of its sagas runs, which would be called again elsewhere."""
-    attempts = (one for saga in driver.sagas.values() for one in saga.busy.values())
-    return any(one.state is RUNNING for one in attempts)
+    """Return whether a function runs that another node would call again."""
+    attempts = (attempt for saga in driver.sagas.values() for attempt in saga.busy.values())
+    return any(attempt.state is RUNNING for attempt in attempts)

@@ -1,7 +1,6 @@
 """Calls async functions in a row; only one that waits gets a task.
 
-The calls of async functions: those that end without waiting are called in a row by one task; one
-that waits has a task for itself.
+One task calls many functions that end without waiting. A function that waits gets its own task.
 """
 
 from __future__ import annotations
@@ -25,95 +24,103 @@ from sagas.definition.task import Task
 from sagas.runtime import invocation
 from sagas.runtime.current_step import CALLED
 
-LOT = 256
-"""So many that ended well are told at once: they go to the child while others are called."""
-AGAIN = 100
-"""Calls of a function that waited, after which it is looked at whether it still does."""
+MAX_BATCH = 256
+"""Maximum number of successes that are reported at once, while further functions are called."""
+RECHECK_AFTER = 100
+"""Number of calls after which a function that waited is tried without its own task again."""
 LONG = 1.0
-"""Seconds that a function may hold the loop before that is told."""
+"""Seconds for which a function may block the loop before a warning."""
 TURN = 0.001
-"""Seconds after which what begins meanwhile is for the loop's next turn, so that others have
-theirs: a turn takes as long as a step that has little to do.
+"""Seconds of calls after which new attempts wait for the next turn of the loop, so that other tasks
+run. A turn costs as much as a short step.
 """
 
 
-class Functions(Protocol):
-    """Of whom each call is asked for, and who is told what came of it."""
+class CallHandler(Protocol):
+    """Decides whether attempts are called, and receives the outcomes."""
 
     def begins(self, attempt: Attempt) -> bool:
-        """Whether it is called now."""
+        """Return whether the attempt is called now."""
 
     def ended(self, attempt: Attempt, began: float, outcome: Outcome | None) -> None:
-        """It is over, which began then by the monotonic clock. None: it was cancelled."""
+        """Handle that a call is over. `began` is its start by the monotonic clock.
+
+        `outcome` is None if the call was cancelled.
+        """
 
     def done(self, attempts: list[Attempt]) -> None:
-        """These succeeded without waiting; they have their outcomes."""
+        """Handle that calls succeeded without waiting. The attempts have their outcomes."""
 
     def held_loop(self, attempt: Attempt, seconds: float) -> None:
-        """It held the loop for long, up to its end or to where it first waits."""
+        """Handle that a function blocked the loop for a long time."""
 
 
-class Turns(Protocol):
-    """How the calls of functions share the loop with the rest of a store."""
+class TurnPolicy(Protocol):
+    """How calls of functions share the loop with the rest of a store."""
 
-    def lot(self, ready: int) -> int:
-        """How many of so many that are called now are told of at once."""
+    def batch_size(self, ready: int) -> int:
+        """Return how many of `ready` calls are reported at once."""
 
-    def lets(self) -> bool:
-        """Whether others have their turn before further functions are called."""
+    def must_yield(self) -> bool:
+        """Return whether callers get their turn before further functions are called."""
 
 
 class Dispatcher:
-    """Tasks that call the functions of attempts, in the order in which they come. What a
-    function sets of its context no other one sees.
+    """Calls the functions of attempts in the order in which they arrive.
 
-    Measured on 2026-11-28 against a task for each call, in instructions a saga of three steps over
-    SQLite: 27 % less for 16 sagas at a time, 24 % less for 256, and 4 % more for one.
+    Each function has its own copy of the context. Measured on 2026-11-28 against a task for each
+    call, in instructions for a saga of three steps over SQLite: 27 % less for 16 sagas at a time,
+    24 % less for 256, and 4 % more for one.
     """
 
     def __init__(
         self,
-        functions: Functions,
-        turns: Turns,
+        functions: CallHandler,
+        turns: TurnPolicy,
         jobs: dict[Attempt, asyncio.Task[None] | None],
         inside: StepTransactions | None = None,
     ) -> None:
-        """Make one.
+        """Make a dispatcher.
 
         Args:
-            functions: Whom it asks for each call, and tells what came of it.
-            turns: Whom it asks when others have their turn.
-            jobs: What is given the task that calls each attempt.
-            inside: What gives functions connections, if they may have one.
+            functions: Decides about each call, and receives its outcome.
+            turns: Decides when other tasks get their turn.
+            jobs: Receives the task that calls each attempt.
+            inside: Provides connections for functions in transactions, if there are any.
         """
         self._loop = asyncio.get_running_loop()
         self._context = contextvars.copy_context()
         self._begins, self._ended = functions.begins, functions.ended
         self._done, self._held = functions.done, functions.held_loop
-        self._lot, self._lets, self._most = turns.lot, turns.lets, LOT
+        self._batch_size, self._must_yield, self._batch_limit = (
+            turns.batch_size,
+            turns.must_yield,
+            MAX_BATCH,
+        )
         self._jobs, self._inside = jobs, inside
-        self._told = time.monotonic()
+        self._flushed_at = time.monotonic()
         self._ready: deque[Attempt] = deque()
         self._next: asyncio.Task[None] | None = None  # the task that calls those
-        # functions that waited the last time, and how many calls have their own task at once
+        # functions that waited at their last call, and how many calls get their own task
         self._waiters: dict[Function, int] = {}
-        self._over: list[Attempt] = []  # ended well, and not told
-        self._failures: list[tuple[Attempt, float, Outcome | None]] = []  # not told, in seconds
-        self._turns = _Turns()  # goes on with one after the other
+        self._succeeded: list[Attempt] = []  # successes that are not reported
+        self._failures: list[tuple[Attempt, float, Outcome | None]] = []  # with their seconds
+        self._driver = _CoroutineDriver()
 
     def call(self, attempts: Sequence[Attempt]) -> None:
-        """Call their simple functions soon."""
+        """Call the simple functions of these attempts soon."""
         self._ready.extend(
-            [one for one in attempts if not self._waits(one)] if self._waiters else attempts
+            [attempt for attempt in attempts if not self._starts_own_task(attempt)]
+            if self._waiters
+            else attempts
         )
         if self._ready and (
             self._next is None or self._next.done()
-        ):  # somebody may have cancelled it
+        ):  # a function may have cancelled it
             self._next = self.start(self._work())
 
-    def _waits(self, attempt: Attempt) -> bool:
-        """Call it by a task of its own, if it will wait as far as is known; return whether it
-        is."""
+    def _starts_own_task(self, attempt: Attempt) -> bool:
+        """Start a task for a function that waited before; return whether it did."""
         function = attempt.action.simple
         assert function
         left = self._waiters.pop(function, 0)
@@ -124,36 +131,37 @@ class Dispatcher:
         return left > 0
 
     def start(self, work: Coroutine[Any, Any, None]) -> asyncio.Task[None]:
-        """Make a task for one that is called by other means, in a context of its own."""
+        """Start a task with its own copy of the context."""
         return self._loop.create_task(work, context=self._context.copy())
 
     @property
     def waiting(self) -> int:
-        """How many are to be called."""
+        """How many attempts are queued."""
         return len(self._ready)
 
     async def settled(self) -> None:
-        """Wait until all are called that are to be."""
+        """Wait until all queued attempts are called."""
         while self._ready and self._next and not self._next.done():
             await asyncio.sleep(0)
 
     async def _work(self) -> None:
-        """Call those that are ready. What begins meanwhile follows, or is for the loop's next
-        turn, behind callers who were told something before it: else a saga might be over before
-        its caller asks how it ended.
+        """Call the attempts that are ready.
+
+        Later attempts follow, or wait for the next turn of the loop, so that notified callers run
+        first. Otherwise, a saga could end before its caller waits for the end.
         """
         job, rest, since = asyncio.current_task(), None, time.monotonic()
         assert job
-        self._lets()  # who was told before had their turn before this one
+        self._must_yield()  # notified callers had their turn before this one
         try:
             while (
                 self._ready and rest is None and not job.cancelling()
             ):  # a function may cancel the task that it is in
-                rest = self._row(job)
+                rest = self._call_ready(job)
                 if (
                     self._ready
                     and rest is None
-                    and (self._lets() or time.monotonic() - since > TURN)
+                    and (self._must_yield() or time.monotonic() - since > TURN)
                 ):
                     await asyncio.sleep(0)
                     since = time.monotonic()
@@ -162,14 +170,14 @@ class Dispatcher:
         if rest is not None:
             await rest
 
-    def _row(self, job: asyncio.Task[None]) -> Coroutine[Any, Any, None] | None:
-        """Call those that are ready now, up to one that waits; return what is left of it."""
+    def _call_ready(self, job: asyncio.Task[None]) -> Coroutine[Any, Any, None] | None:
+        """Call ready attempts until one waits; return the rest of that one."""
         ready, jobs = self._ready, self._jobs
-        self._most = min(LOT, self._lot(len(ready)))
+        self._batch_limit = min(MAX_BATCH, self._batch_size(len(ready)))
         try:
             for _ in range(len(ready)):
                 attempt = ready.popleft()
-                if self._waiters and self._waits(attempt):
+                if self._waiters and self._starts_own_task(attempt):
                     continue
                 if self._begins(attempt):
                     jobs[attempt] = job
@@ -178,25 +186,26 @@ class Dispatcher:
                         return rest
             return None
         finally:
-            if self._over or self._failures:
-                self._tell()
+            if self._succeeded or self._failures:
+                self._flush()
 
-    def _tell(self) -> None:
-        """Tell of those that are over; those that failed first, so that all of a shard go on
-        together.
+    def _flush(self) -> None:
+        """Report ended calls, failures first.
+
+        So all attempts of a shard continue together.
         """
-        over, self._over = self._over, []
+        succeeded, self._succeeded = self._succeeded, []
         failures, self._failures = self._failures, []
         for attempt, took, outcome in failures:
             self._ended(attempt, time.monotonic() - took, outcome)
-        told, self._told = self._told, time.monotonic()
-        if self._told - told > LONG:  # else none of them took so long
-            for attempt in over:
-                self._look(attempt, attempt.took or 0.0)
-        if over:
-            self._done(over)
+        previous, self._flushed_at = self._flushed_at, time.monotonic()
+        if self._flushed_at - previous > LONG:  # otherwise, no call took that long
+            for attempt in succeeded:
+                self._check_loop_held(attempt, attempt.took or 0.0)
+        if succeeded:
+            self._done(succeeded)
 
-    def _look(self, attempt: Attempt, seconds: float) -> None:
+    def _check_loop_held(self, attempt: Attempt, seconds: float) -> None:
         if seconds > LONG:
             self._held(attempt, seconds)
 
@@ -214,9 +223,9 @@ class Dispatcher:
         self._ended(attempt, began, outcome)
 
     def _call(self, attempt: Attempt) -> Coroutine[Any, Any, None] | None:
-        """Call its function up to where it waits; return what is left."""
+        """Call the function until it ends or waits; return the rest if it waits."""
         function, began, context = attempt.action.simple, time.monotonic(), self._context.copy()
-        turns, inside = self._turns, self._inside
+        driver, inside = self._driver, self._inside
         assert function
         context.run(CALLED.set, attempt)
         task: Task[Any] = Task(attempt)
@@ -227,41 +236,41 @@ class Dispatcher:
             task.enter_by(take)
         try:
             work = function(task)
-            if type(work) is not types.CoroutineType:  # it only says that it is async
+            if type(work) is not types.CoroutineType:  # an awaitable of another type
                 work = _awaited(work)
-            waits_for = context.run(turns.go, work)
+            waits_for = context.run(driver.send, work)
         except BaseException as error:
-            self._turns = _Turns()
+            self._driver = _CoroutineDriver()
             if inside and task.leave() is not None:
                 return self._wait(attempt, began, task, inside.end(attempt, task, _raised(error)))
             self._failed(attempt, began, inside.raised(error) if inside else error)
             return None
-        if waits_for is not turns.over:
-            self._turns = _Turns()
-            rest = _whole(_Rest(turns, waits_for, context))
-            return self._late(attempt, function, began, task, rest)
+        if waits_for is not driver.over:
+            self._driver = _CoroutineDriver()
+            rest = _whole_result(_Continuation(driver, waits_for, context))
+            return self._suspended(attempt, function, began, task, rest)
         value, attempt.took = waits_for.pop(), time.monotonic() - began
         try:
             attempt.outcome = outcomes.succeeded(value, task)
         except outcomes.Unawaited:
-            return self._late(attempt, function, began, task, _come_of(value, context))
+            return self._suspended(attempt, function, began, task, _awaited_value(value, context))
         if inside and task.leave() is not None:
-            return self._late(attempt, function, began, task, awaitables.whole(value))
-        self._over.append(attempt)
-        if len(self._over) >= self._most:
-            self._tell()
+            return self._suspended(attempt, function, began, task, awaitables.whole(value))
+        self._succeeded.append(attempt)
+        if len(self._succeeded) >= self._batch_limit:
+            self._flush()
         return None
 
     def _failed(self, attempt: Attempt, began: float, error: BaseException) -> None:
-        """It has raised, before it waited for anything."""
+        """Handle that a function raised before it waited for anything."""
         outcome = invocation.interrupted(error, attempt.manner)
         took = time.monotonic() - began
-        self._look(attempt, took)
+        self._check_loop_held(attempt, took)
         self._failures.append((attempt, took, outcome))
-        if outcome is None or len(self._over) + len(self._failures) >= self._most:
-            self._tell()
+        if outcome is None or len(self._succeeded) + len(self._failures) >= self._batch_limit:
+            self._flush()
 
-    def _late(
+    def _suspended(
         self,
         attempt: Attempt,
         function: Function,
@@ -269,9 +278,9 @@ class Dispatcher:
         task: Task[Any],
         rest: Awaitable[Any],
     ) -> Coroutine[Any, Any, None]:
-        """What is left of one that waits."""
-        self._waiters[function] = AGAIN
-        self._look(attempt, time.monotonic() - began)
+        """Return the rest of a function that waits."""
+        self._waiters[function] = RECHECK_AFTER
+        self._check_loop_held(attempt, time.monotonic() - began)
         if self._inside:
             rest = self._inside.end(attempt, task, rest)
         return self._wait(attempt, began, task, rest)
@@ -295,68 +304,71 @@ async def _raised(error: BaseException) -> Any:
     raise error
 
 
-async def _come_of(value: Any, context: contextvars.Context) -> Any:
-    """What comes of what a function gave that is to be awaited, in its context."""
-    return await _Rest(_Turns(), None, context, awaitables.whole(value))
+async def _awaited_value(value: Any, context: contextvars.Context) -> Any:
+    """Return the value of an awaitable that a function returned, in its context."""
+    return await _Continuation(_CoroutineDriver(), None, context, awaitables.whole(value))
 
 
-async def _whole(rest: _Rest) -> Any:
-    """What is left, and what comes of that, where it is to be awaited."""
+async def _whole_result(rest: _Continuation) -> Any:
+    """Return the result of a suspended function, awaited if it is an awaitable."""
     value = await rest
-    return await _come_of(value, rest.context) if inspect.isawaitable(value) else value
+    return await _awaited_value(value, rest.context) if inspect.isawaitable(value) else value
 
 
-class _Turns:
-    """Goes on with one function after the other, up to where it waits or is over. A function
-    that it sends along would end by an exception, which takes as long as a short function; so
-    what it sends on is over by giving `over`, a list of what it returned, and is then sent the
-    next function.
+class _CoroutineDriver:
+    """Runs one coroutine after another, each until it waits or ends.
+
+    A coroutine that is resumed directly ends by an exception, which takes as long as a short
+    function. So the driver yields `over`, a list with the result, and is then sent the next
+    coroutine.
     """
 
-    __slots__ = ("over", "go", "fail")
+    __slots__ = ("over", "send", "throw")
 
     def __init__(self) -> None:
         self.over: list[Any] = []
-        turns = _one_by_one(self.over)
-        next(turns)
-        self.go: Callable[[Any], Any] = turns.send
-        self.fail: Callable[[BaseException], Any] = turns.throw
+        generator = _drive(self.over)
+        next(generator)
+        self.send: Callable[[Any], Any] = generator.send
+        self.throw: Callable[[BaseException], Any] = generator.throw
 
 
 @types.coroutine
-def _one_by_one(over: list[Any]) -> Generator[Any, Any, None]:
+def _drive(over: list[Any]) -> Generator[Any, Any, None]:
     work = yield
     while True:
         over.append((yield from work))
         work = yield over
 
 
-class _Rest:
-    """What is left of a function that waits for something (None: the loop's next turn), each
-    part of it in its context; gives what it returns.
+class _Continuation:
+    """The rest of a function that waits, executed in the context of the function.
+
+    `waits_for` is what it waits for; None means the next turn of the loop. Awaiting the
+    continuation returns the result of the function.
     """
 
     def __init__(
         self,
-        turns: _Turns,
+        driver: _CoroutineDriver,
         waits_for: Any,
         context: contextvars.Context,
         work: Coroutine[Any, Any, Any] | None = None,
     ) -> None:
-        """`work`: it is not begun yet, and goes on with that."""
-        self._turns, self._waits_for, self.context, self._work = turns, waits_for, context, work
+        """Make one. `work` is a coroutine that has not started, to be continued first."""
+        self._driver, self._waits_for, self.context, self._work = driver, waits_for, context, work
 
     def __await__(self) -> Generator[Any, Any, Any]:
-        turns, waits_for, work = self._turns, self._waits_for, self._work
-        while waits_for is not turns.over:
+        driver, waits_for, work = self._driver, self._waits_for, self._work
+        while waits_for is not driver.over:
             try:
-                go_on, told = turns.go, (yield waits_for)
+                resume, value = driver.send, (yield waits_for)
             except BaseException as error:
-                go_on, told = turns.fail, error
+                resume, value = driver.throw, error
                 if work is not None:
                     work.close()
             else:
                 if work is not None:
-                    told, work = work, None
-            waits_for = self.context.run(go_on, told)
+                    value, work = work, None
+            waits_for = self.context.run(resume, value)
         return waits_for.pop()

@@ -1,4 +1,4 @@
-"""Reports that come before their steps, on their way to the store."""
+"""Stores reports that arrive before their steps start."""
 
 from __future__ import annotations
 
@@ -10,57 +10,58 @@ from sagas.core import early_reports
 from sagas.core.early_reports import EarlyReport, Refusal
 from sagas.core.model import SagaInstance
 from sagas.definition.compiled import Word
-from sagas.runtime.executor_host import Host
+from sagas.runtime.executor_host import CoordinatorForExecutor
 
 
 class EarlyReports:
-    """Writes them into their shards, and tells who waits.
+    """Writes early reports into their shards, and notifies the callers that wait.
 
-    A shard that has to be recovered does not write them: who waits looks again, by what was in the
-    store.
+    A shard that has to be recovered does not write them. Then the callers check the store again.
     """
 
-    def __init__(self, host: Host, clock: Callable[[], float]) -> None:
-        self._host, self._clock = host, clock
+    def __init__(self, coordinator: CoordinatorForExecutor, clock: Callable[[], float]) -> None:
+        self._coordinator, self._clock = coordinator, clock
         self._waiting: dict[EarlyReport | Refusal, asyncio.Future[None]] = {}
 
     def put(self, report: EarlyReport | Refusal) -> asyncio.Future[None]:
-        """Return a future that is done once a report is in the store, or what a refusal rests on.
-        It fails with `Moved` where its caller has to look again.
+        """Return a future that is done once a report is stored.
+
+        For a refusal, it is done once the state that justifies the refusal is stored. It fails with
+        `Moved` if its caller has to check again.
 
         Raises:
-            Moved: The saga is not driven here.
+            Moved: This program does not execute the saga.
             NotSerializable: The codec failed.
         """
         shard = report.saga.shard
-        runner = self._host.runner(shard) if shard else None
+        runner = self._coordinator.runner(shard) if shard else None
         if shard is None or runner is None:
             raise Moved(f"saga {report.saga.key!r}")
         effects = early_reports.effects(shard, report, self._clock()) if shard.is_known else None
-        future = self._waiting[report] = self._host.loop.create_future()
+        future = self._waiting[report] = self._coordinator.loop.create_future()
         if effects:
             runner.keep(effects)
         return future
 
     def waiting(self, saga: SagaInstance, word: Word) -> asyncio.Future[None] | None:
-        """Return the future of a report of this step that is on its way; None if there is none."""
-        for one, future in self._waiting.items():
-            if isinstance(one, EarlyReport) and one.saga is saga and one.word == word:
+        """Return the future of a report of this step that is being stored, or None."""
+        for report, future in self._waiting.items():
+            if isinstance(report, EarlyReport) and report.saga is saga and report.word == word:
                 return future
         return None
 
     def stored(self, report: EarlyReport | Refusal) -> None:
-        """It is in the store, or what it rests on."""
+        """Complete the future of a report or a refusal."""
         if (future := self._waiting.pop(report, None)) and not future.done():
             future.set_result(None)
 
     def look_again(self, shard: int, error: SagasError | None = None) -> None:
-        """A shard was recovered, or is not driven here any more: who waits hears so."""
-        for report in [one for one in self._waiting if _number(one) == shard]:
+        """Have callers check again: a shard was recovered, or moved to another node."""
+        for report in [report for report in self._waiting if _number(report) == shard]:
             future = self._waiting.pop(report)
             if not future.done():
                 future.set_exception(error or Moved(f"saga {report.saga.key!r}"))
-                future.exception()  # whoever waited may be gone
+                future.exception()  # the caller may have been cancelled
 
 
 def _number(report: EarlyReport | Refusal) -> int | None:

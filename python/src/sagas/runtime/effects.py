@@ -18,70 +18,79 @@ from sagas.runtime.instances import Instances
 from sagas.runtime.relocation import conflict
 
 
-class Home(Protocol):
-    """The shards of the program."""
+class ShardsForEffects(Protocol):
+    """The shards of the program, as the handler of effects uses them."""
 
-    def place(self, saga: SagaInstance) -> None:
-        """Open it in another shard."""
+    def assign(self, saga: SagaInstance) -> None:
+        """Open a saga in another shard."""
 
     def refuse(self, saga: SagaInstance, error: SagasError) -> None:
-        """It is not begun."""
+        """Refuse the start of a saga."""
 
     def withdraw(self, saga: SagaInstance) -> None:
-        """Do not open it in any shard."""
+        """Do not open a saga in any shard."""
 
     def leave(self, saga: SagaInstance, error: SagasError | None) -> None:
-        """It is not driven here: who waits looks into the store; who started it hears why it is
-        not that saga.
+        """Stop executing a saga here.
+
+        Callers that wait for its end check the store. Callers that started it receive `error`.
         """
 
-    def meet(self, saga: SagaInstance) -> None:
-        """Its key has a saga of which large values are not held: look whether it is the same."""
+    def compare_with_stored(self, saga: SagaInstance) -> None:
+        """Compare a saga with the stored one of its key.
+
+        The large values of the stored one are not in memory.
+        """
 
     def doubt(self) -> None:
-        """Starts of clients that are this node's may not be under way."""
+        """Mark that starts of clients that this node has claimed may be lost."""
 
 
-class Offers(Protocol):
-    """What is offered to external workers."""
+class ExternalOffers(Protocol):
+    """The tasks that are offered to external workers."""
 
     def offered(self, attempt: Attempt) -> None:
-        """Its row is in the store."""
+        """Handle that the row of an offer is stored."""
 
     def withdrawn(self, attempt: Attempt, is_done: bool) -> None:
-        """Its withdrawal is in the store, where no worker had it."""
+        """Handle that a withdrawal is stored. With `is_done`, no worker had the task."""
 
     def look(self) -> None:
-        """What was reported may be taken now."""
+        """Read reports, which may be accepted now."""
 
 
 class EffectHandler:
-    """Does what effects say: at once, and once their batch is durable."""
+    """Carries out effects: some at once, others after their batch is durable."""
 
     def __init__(
-        self, executor: Executor, sagas: Instances, teller: Teller, home: Home, offers: Offers
+        self,
+        executor: Executor,
+        sagas: Instances,
+        teller: Teller,
+        shards: ShardsForEffects,
+        offers: ExternalOffers,
     ) -> None:
         self._executor, self._slots, self._sagas = executor, executor.slots, sagas
-        self._teller, self._home, self._offers = teller, home, offers
+        self._teller, self._shards, self._offers = teller, shards, offers
         self._acknowledgements = executor.calls.acknowledgements
 
     def at_once(self, effects: Effects) -> None:
-        """Do what does not wait for the commit."""
+        """Carry out the effects that do not wait for the commit."""
         if self._acknowledgements is not None:
             self._acknowledgements.decided(effects)
         if effects.unclaimed:
             self._slots.release(effects.unclaimed)
         for saga in effects.rare.displaced:
-            self._home.place(saga)
+            self._shards.assign(saga)
 
     def lost(self, effects: Effects) -> None:
-        """The batch is not durable: nothing of it begins."""
+        """Discard the effects, because the batch is not durable."""
         if self._acknowledgements is not None:
             self._acknowledgements.lost(effects)
         self._slots.release(len(effects.dispatch))
 
     def committed(self, effects: Effects) -> None:
-        """Do what waits for the commit."""
+        """Carry out the effects that wait for the commit."""
         rare = effects.rare
         if effects.reported:
             self._executor.reported(effects.reported)
@@ -108,7 +117,7 @@ class EffectHandler:
                 attempt.instance.release()
 
     def _kept(self, rare: RareEffects) -> None:
-        """Rows, offers, reports and answers are in the store."""
+        """Carry out what follows from stored rows, offers, reports and answers."""
         if rare.taken:
             self._executor.reported(rare.taken)
         for attempt, row in rare.suspended:
@@ -125,49 +134,49 @@ class EffectHandler:
             self._aborted(abort)
 
     def over(self, sagas: Collection[SagaInstance]) -> None:
-        """Nothing is acknowledged of these any more."""
+        """Forget the acknowledgements of these sagas."""
         if self._acknowledgements is not None:
             self._acknowledgements.over(sagas)
 
-    # -- of a shard that was recovered
+    # -- recovery
 
-    def found(self, found: Recovery) -> None:
-        """Do what was found of its sagas."""
+    def recovered(self, recovery: Recovery) -> None:
+        """Apply the recovered state of a shard to its sagas."""
         if self._acknowledgements is not None:
-            self._acknowledgements.recovered(found)
-        for before, saga in found.replaced:
+            self._acknowledgements.recovered(recovery)
+        for before, saga in recovery.replaced:
             kind = saga.kind
             if saga.text == ABSENT:
-                self._home.withdraw(before)
-                self._home.meet(before)
+                self._shards.withdraw(before)
+                self._shards.compare_with_stored(before)
                 continue
             if error := conflict(saga.key, before.kind, before.text, kind.name, saga.text):
-                self._sagas.starts.tell(before, error)
-                self._sagas.ends.tell(before, error)
-            self._home.withdraw(before)
+                self._sagas.starts.notify(before, error)
+                self._sagas.ends.notify(before, error)
+            self._shards.withdraw(before)
             self._sagas.replace(before, saga)
-        for saga in found.restored:
+        for saga in recovery.restored:
             self._sagas.by_key[saga.key] = saga
-            self._sagas.tell_started(saga)
-        for saga in found.gone:
-            self._home.leave(saga, None)
+            self._sagas.notify_started(saga)
+        for saga in recovery.gone:
+            self._shards.leave(saga, None)
             if saga.start is not None:
-                self._home.doubt()
-        for attempt in found.forgotten:
+                self._shards.doubt()
+        for attempt in recovery.forgotten:
             self._executor.forget(attempt)
-        for abort in found.aborted:
+        for abort in recovery.aborted:
             self._sagas.answer_abort(abort)
-        self._executor.early.look_again(found.effects.batch.log)
+        self._executor.early.look_again(recovery.effects.batch.log)
 
-    def resume(self, found: Recovery) -> None:
-        """Go on with its attempts."""
-        for attempt in found.resumed:
+    def resume(self, recovery: Recovery) -> None:
+        """Resume the attempts of a recovered shard."""
+        for attempt in recovery.resumed:
             self._executor.resume(attempt)
-        for saga in found.draining:
+        for saga in recovery.draining:
             self._executor.drain(saga)
         self._offers.look()
 
-    # -- told
+    # -- events
 
     def _aborted(self, abort: Abort) -> None:
         saga = abort.saga
@@ -177,31 +186,31 @@ class EffectHandler:
         self._sagas.answer_abort(abort)
 
     def _overdue(self, saga: SagaInstance) -> None:
-        """A saga is aborted, because its deadline had passed."""
+        """Emit that a saga was aborted because its deadline had passed, and drain it."""
         self._teller.tell("saga_overdue", key=saga.key, saga=saga.kind.name)
         self._executor.drain(saga)
         self._teller.tell("saga_aborted", key=saga.key, saga=saga.kind.name)
 
     def _opened(self, sagas: Sequence[SagaInstance]) -> None:
-        tells = self._teller.wants("saga_started")
+        is_wanted = self._teller.wants("saga_started")
         for saga in sagas:
-            self._sagas.tell_started(saga)
-            if tells:
+            self._sagas.notify_started(saga)
+            if is_wanted:
                 self._teller.tell("saga_started", key=saga.key, saga=saga.kind.name)
 
     def _ended(self, sagas: Sequence[SagaInstance]) -> None:
-        tells = self._teller.wants("saga_ended")
+        is_wanted = self._teller.wants("saga_ended")
         for saga in sagas:
-            self._sagas.tell_ended(saga)
-            if tells or saga.phase != "ended":
-                self._tell_end(saga)
+            self._sagas.notify_ended(saga)
+            if is_wanted or saga.phase != "ended":
+                self._emit_end(saga)
             if saga.odd and saga.phase == "ended" and (steps := undo_failures(saga.end)):
-                self._tell_undo_failed(saga, steps)
+                self._emit_undo_failed(saga, steps)
             if unused := early_reports.unused(saga):
-                self._tell_unused(saga, unused)
+                self._emit_unused(saga, unused)
 
-    def _tell_end(self, saga: SagaInstance) -> None:
-        """How a saga ended: its phase; of a stuck one because of which steps."""
+    def _emit_end(self, saga: SagaInstance) -> None:
+        """Emit how a saga ended: its phase, and the blocking steps of a stuck one."""
         chain = (saga.answer or {}).get("chain", ()) if saga.phase == "stuck" else ()
         names = " and ".join(saga.kind.names[step] for step in chain)
         detail = f"because of {names}" if names else None
@@ -210,19 +219,19 @@ class EffectHandler:
             detail = saga_phase(saga.phase, recovered, None).value
         self._teller.tell(f"saga_{saga.phase}", key=saga.key, saga=saga.kind.name, detail=detail)
 
-    def _tell_unused(self, saga: SagaInstance, steps: Sequence[int]) -> None:
-        """A saga ended without reports that were accepted: what steps did elsewhere is there."""
+    def _emit_unused(self, saga: SagaInstance, steps: Sequence[int]) -> None:
+        """Emit that a saga ended without using successes that were reported early."""
         names = " and ".join(saga.kind.names[step] for step in steps)
         detail = f"{names}: a success was reported before the step began, and was not used"
         self._teller.tell("saga_unused_report", key=saga.key, saga=saga.kind.name, detail=detail)
-        self._sagas.unused()
+        self._sagas.on_unused_report()
 
-    def _tell_undo_failed(self, saga: SagaInstance, steps: Sequence[int]) -> None:
-        """A saga ended, and what steps of it did stands against its plan."""
+    def _emit_undo_failed(self, saga: SagaInstance, steps: Sequence[int]) -> None:
+        """Emit that a saga ended, but effects of these steps remain against its plan."""
         stands = [saga.kind.names[step] for step in steps]
-        told = (
+        remedy = (
             "the compensation failed permanently. Repair the effect, then mark the saga "
             "as resolved"
         )
-        detail = f"{' and '.join(stands)}: {told}"
+        detail = f"{' and '.join(stands)}: {remedy}"
         self._teller.tell("saga_undo_failed", key=saga.key, saga=saga.kind.name, detail=detail)

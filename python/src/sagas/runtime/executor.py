@@ -28,66 +28,70 @@ from sagas.runtime import remote_steps
 from sagas.runtime.calls import Calls
 from sagas.runtime.children import Children
 from sagas.runtime.early_reports import EarlyReports
-from sagas.runtime.executor_host import External, Host, Runner
+from sagas.runtime.executor_host import ExternalTasks, CoordinatorForExecutor, RunnerForExecutor
 from sagas.runtime.fleet_limits import Fleet
 from sagas.runtime.stored_values import ValueReader
 from sagas.runtime.waiters import Waiters
 
 UNDECIDED = (Do.READ, Do.ASK)
-"""What has to be known first."""
+"""Decisions that need more data first."""
 DONE = ("commit", "undone")
-MISSED = {"missed": "step_retrying", "undo_missed": "step_retrying"}
+RETRYING = {"missed": "step_retrying", "undo_missed": "step_retrying"}
 
 
 class Executor:
-    """Begins what the shards gave, within the slots, and hands back how it ended.
+    """Starts attempts within the slots, and reports their outcomes to the shards.
 
     Attributes:
-        machine: What decides.
+        machine: Decides the next action of each attempt.
         slots: How many functions may run.
         fleet: The limits over all nodes.
-        values: What reads values that are not held.
+        values: Reads values that are not in memory.
         calls: The functions that run.
         children: The attempts that wait for child sagas.
-        changes: Who waits until an attempt is suspended, or finished.
-        kept: Who waits until an attempt's report is in the store.
-        early: The reports of steps that have not begun, on their way to the store.
-        closing: Whether nothing begins any more.
+        changes: Callers that wait until an attempt is suspended or finished.
+        kept: Callers that wait until the report of an attempt is stored.
+        early: The reports of steps that have not started, while they are being stored.
+        closing: Whether nothing starts any more.
     """
 
     def __init__(
         self,
-        host: Host,
-        external: External,
+        coordinator: CoordinatorForExecutor,
+        external: ExternalTasks,
         concurrency: int,
         threads: Threads,
         tracer: Tracer | None = None,
     ) -> None:
-        self._host, self._external = host, external
-        self._loop, self._clock, self._teller = host.loop, host.clock, host.teller
-        self.machine = AttemptMachine()
-        self.slots = Slots(concurrency, self._start, host.feed)
-        self.fleet = Fleet(host, self.slots.enter)
-        remote = functools.partial(remote_steps.call, external)
-        self.values = ValueReader(host, self._unread)
-        self.calls = Calls(
-            self, host, self.slots, self.fleet, threads, remote, tracer, self.values.fill
+        self._coordinator, self._external = coordinator, external
+        self._loop, self._clock, self._teller = (
+            coordinator.loop,
+            coordinator.clock,
+            coordinator.teller,
         )
-        self.changes: Waiters[Attempt] = Waiters(host.loop)
-        self.kept: Waiters[Attempt] = Waiters(host.loop)
-        self.children = Children(host, self, self.values)
-        self.early = EarlyReports(host, host.clock)
+        self.machine = AttemptMachine()
+        self.slots = Slots(concurrency, self._start, coordinator.feed)
+        self.fleet = Fleet(coordinator, self.slots.enter)
+        remote = functools.partial(remote_steps.call, external)
+        self.values = ValueReader(coordinator, self._unread)
+        self.calls = Calls(
+            self, coordinator, self.slots, self.fleet, threads, remote, tracer, self.values.fill
+        )
+        self.changes: Waiters[Attempt] = Waiters(coordinator.loop)
+        self.kept: Waiters[Attempt] = Waiters(coordinator.loop)
+        self.children = Children(coordinator, self, self.values)
+        self.early = EarlyReports(coordinator, coordinator.clock)
         self._timers: dict[Attempt, asyncio.TimerHandle] = {}
-        self._doubted: set[Attempt] = set()  # it is looked for what their workers reported
+        self._doubted: set[Attempt] = set()  # reports of their workers are being looked up
         self.closing = False
 
     # -- begin
 
     def begin_all(self, attempts: Sequence[Attempt]) -> None:
-        """Begin attempts that are in the store. Most are called at once.
+        """Start attempts that are stored. Most are called at once.
 
-        Measured on 2026-11-28 against `begin` of each, in instructions a saga of three steps over
-        SQLite: 8 % less for 16 sagas at a time, and 4 % more for one.
+        Measured on 2026-11-28 against `begin` of each, in instructions for a saga of three steps
+        over SQLite: 8 % less for 16 sagas at a time, and 4 % more for one.
         """
         simple = [
             attempt
@@ -107,11 +111,11 @@ class Executor:
             self.calls.start_simple(simple[:count])
 
     def begin(self, attempt: Attempt) -> None:
-        """Begin one that is in the store."""
+        """Start an attempt that is stored."""
         self._do(attempt, self.machine.begin(attempt, self._clock()))
 
     def resume(self, attempt: Attempt) -> None:
-        """Go on with one of a shard that was recovered."""
+        """Resume an attempt of a recovered shard."""
         if attempt.state is CLAIMED and not attempt.fresh and not attempt.has_row:
             spans.called_before(attempt)
         decision = self.machine.resume(attempt, self._clock())
@@ -121,9 +125,7 @@ class Executor:
             self._do(attempt, decision)
 
     def drain(self, instance: SagaInstance) -> None:
-        """Let a saga drain, as the store has it: it is about to be planned. Its functions that run
-        hear of it.
-        """
+        """Drain a saga that is about to be planned, and inform its running functions."""
         if not instance.busy:
             return
         self.calls.cancel(instance)
@@ -133,62 +135,65 @@ class Executor:
                 self.slots.cancel(attempt)
             self._do(attempt, decision)
 
-    # -- do what was decided
+    # -- carry out decisions
 
     def _do(self, attempt: Attempt, decision: Decision, at_once: bool = False) -> None:
         if decision.event:
-            self.tell(attempt, *decision.event)
+            self.emit(attempt, *decision.event)
         if decision.do is Do.CALL:
             self.enter(attempt)
         elif decision.do is Do.READ:
-            self._host.spawn(self.values.then(attempt, self._go_on))
+            self._coordinator.spawn(self.values.then(attempt, self._go_on))
         elif decision.do is Do.ASK:
             self._ask(attempt, decision, self._go_on)
         elif decision.do is Do.REPORT:
             self._finished(attempt, at_once)
         elif decision.do is Do.OFFER:
-            self.changes.tell(attempt)
+            self.changes.notify(attempt)
             self._external.offer(attempt)
         elif decision.do is Do.WITHDRAW:
             self._external.withdraw(attempt)
         elif decision.do is Do.FOLLOW:
-            self.changes.tell(attempt)
+            self.changes.notify(attempt)
             self.children.follow(attempt)
         elif decision.do is Do.SUSPEND:
             if decision.timer:
                 self._set_timer(attempt)
-            self.changes.tell(attempt)
+            self.changes.notify(attempt)
         if attempt.state is SUSPENDED and decision.do not in UNDECIDED:
             if decision.do is not Do.WITHDRAW:
-                self._note(attempt, decision.row)
+                self._add_to_history(attempt, decision.row)
             attempt.instance.release()
         if decision.row:
             self._put(attempt, decision.row)
 
     def _go_on(self, attempt: Attempt) -> None:
-        """Its values are held by now, and its questions are answered."""
+        """Continue an attempt: its values are read, and its questions are answered."""
         if not self.closing:
             self._do(attempt, self.machine.go_on(attempt, self._clock()))
 
     def _ask(self, attempt: Attempt, decision: Decision, go_on: Callable[[Attempt], None]) -> None:
-        """Call functions of its definition, and go on with it."""
+        """Call functions of the definition in the background, then continue the attempt."""
         assert decision.question
-        self._host.spawn(self._asked(attempt, decision.question, go_on))
+        self._coordinator.spawn(self._answer_question(attempt, decision.question, go_on))
 
-    async def _asked(
+    async def _answer_question(
         self, attempt: Attempt, question: Question, go_on: Callable[[Attempt], None]
     ) -> None:
-        if await self._host.declared.answer(attempt, question):
+        if await self._coordinator.declared.answer(attempt, question):
             go_on(attempt)
         attempt.instance.release()
 
     def _unread(self, attempt: Attempt, error: BlobUnavailable) -> None:
-        """Its values cannot be read now."""
+        """Handle that the values of an attempt cannot be read now."""
         if not self.closing:
             self._do(attempt, self.machine.unread(attempt, error, self._clock()))
 
-    def _note(self, attempt: Attempt, row: SuspensionRow | None = None) -> None:
-        """For its history. Of what others do the table of external attempts tells."""
+    def _add_to_history(self, attempt: Attempt, row: SuspensionRow | None = None) -> None:
+        """Add the suspension to the history of the attempt.
+
+        External attempts have their own table, so their first suspension is left out.
+        """
         is_first = not (attempt.extras and attempt.extras.noted)
         if not (is_first and attempt.reason is Suspension.EXTERNAL):
             spans.note(attempt, self._clock(), row.error if row else None)
@@ -197,19 +202,19 @@ class Executor:
         self._drop_timer(attempt)
         delay = self.machine.delay(attempt, self._clock())
         if delay is not None:
-            self._timers[attempt] = self._loop.call_later(delay, self._rang, attempt)
+            self._timers[attempt] = self._loop.call_later(delay, self._timer_fired, attempt)
 
     def _drop_timer(self, attempt: Attempt) -> None:
         if self._timers and (timer := self._timers.pop(attempt, None)):
             timer.cancel()
 
-    def _rang(self, attempt: Attempt) -> None:
+    def _timer_fired(self, attempt: Attempt) -> None:
         self._timers.pop(attempt, None)
         if not self.closing:
             self._do(attempt, self.machine.timer(attempt, self._clock()))
 
     def _put(self, attempt: Attempt, row: SuspensionRow) -> None:
-        """Put into the store what keeps it from going on, so that another program knows it."""
+        """Store why the attempt waits, so that other programs know it."""
         attempt.has_row, attempt.pending = True, row
         if runner := self._runner(attempt):
             if row.reason is Suspension.CANNOT_DECODE:
@@ -217,27 +222,25 @@ class Executor:
             runner.suspend(attempt, row)
 
     def stored(self, attempt: Attempt, row: SuspensionRow) -> None:
-        """Go on with one whose row is in the store. Where a later one is on its way, that is
-        waited for.
-        """
+        """Continue an attempt whose row is stored, unless a later row is being stored."""
         if attempt.pending is not row:
             return
         self._do(attempt, self.machine.stored(attempt))
         if attempt.state is not FINISHED:
-            self.kept.tell(attempt)
-        self.changes.tell(attempt)
+            self.kept.notify(attempt)
+        self.changes.notify(attempt)
         if attempt.is_external and attempt.state is SUSPENDED:
-            if attempt.reason is Suspension.EXTERNAL:  # it was to be offered meanwhile
+            if attempt.reason is Suspension.EXTERNAL:  # it became external in the meantime
                 self._external.offer(attempt)
             self._external.look()
 
     def enter(self, attempt: Attempt) -> None:
-        """Call it when it has what its limits ask for."""
+        """Call an attempt once its limits allow it."""
         if self.closing:
             return
         decision = self.machine.limit(attempt, self._clock())
         if decision.do is Do.READ:
-            self._host.spawn(self.values.then(attempt, self.enter))
+            self._coordinator.spawn(self.values.then(attempt, self.enter))
             return
         if decision.do is Do.ASK:
             self._ask(attempt, decision, self.enter)
@@ -251,7 +254,7 @@ class Executor:
         else:
             self.slots.enter(attempt)
         if attempt.state in (SUSPENDED, QUEUED):
-            self._note(attempt)
+            self._add_to_history(attempt)
             attempt.instance.release()
 
     def _start(self, attempt: Attempt) -> None:
@@ -260,45 +263,46 @@ class Executor:
     # -- end
 
     def ended(self, attempt: Attempt, outcome: Outcome, at_once: bool = False) -> None:
-        """Go on with one whose function is over, here or with a worker. `at_once`: nothing else of
-        its shard is in the middle of something.
+        """Handle the outcome of a function that ran here or at a worker.
+
+        With `at_once`, no other operation of its shard is half done.
         """
         at_once = at_once and outcome.kind is OutcomeKind.SUCCEEDED
         self._do(attempt, self.machine.ended(attempt, outcome, self._clock()), at_once)
 
     def succeeded(self, attempts: Sequence[Attempt]) -> None:
-        """Report many that are finished, at once."""
+        """Report many finished attempts at once."""
         shards: dict[ShardDriver, None] = {}
         is_awaited = self.changes.futures
         for attempt in attempts:
             if is_awaited:
-                self.changes.tell(attempt)
+                self.changes.notify(attempt)
             shard = attempt.instance.shard
             assert shard
             shard.reports[attempt] = shards[shard] = None
         for shard in shards:
-            if runner := self._host.runner(shard):
+            if runner := self._coordinator.runner(shard):
                 runner.poke(at_once=True)
 
     def keep_progress(self) -> None:
-        """Write what functions told of their progress since the last look."""
+        """Store the progress that functions have reported since the last call."""
         shards: dict[ShardDriver, Effects] = {}
         now = self._clock()
-        for attempt in self.calls.news():
+        for attempt in self.calls.with_new_progress():
             shard, control = attempt.instance.shard, attempt.control
             if shard and shard.is_known and control.progress:
                 effects = shards.setdefault(shard, shard.effects(now))
                 effects.batch.more.progress.append((*attempt.row, *control.progress, now))
         for shard, effects in shards.items():
-            if runner := self._host.runner(shard):
+            if runner := self._coordinator.runner(shard):
                 runner.keep(effects)
 
     def finish(self, attempt: Attempt, outcome: Outcome) -> None:
-        """Finish one that somebody reported."""
+        """Finish an attempt with a reported outcome."""
         self._do(attempt, self.machine.finish(attempt, outcome, self._clock()))
 
     async def retry(self, attempt: Attempt, request: Wanted) -> None:
-        """Call one again that waits, as somebody asks, and wait until that is in the store."""
+        """Retry an attempt that waits, by a command, and wait until that is stored."""
         if request is not None:
             attempt.rare.request = request
         kept = self.kept.wait(attempt)
@@ -306,37 +310,36 @@ class Executor:
         await kept
 
     async def until_kept(self, attempt: Attempt) -> bool:
-        """Wait until the report of a finished attempt is in the store, or cannot come there from
-        here. Only the store shows which. Return False if the attempt has no report.
+        """Wait until the report of a finished attempt is stored, or cannot be stored here.
+
+        Only the store shows which is true. Return False if the attempt has no report.
         """
         if attempt.state is not FINISHED or attempt.outcome is None:
             return False
         if self._runner(attempt) and attempt.is_unkept:
-            with contextlib.suppress(SagasError):  # the store shows it
+            with contextlib.suppress(SagasError):  # the caller checks the store
                 await self.kept.wait(attempt)
         return True
 
     def withdrawn(self, attempt: Attempt) -> None:
-        """No worker has it, and none gets it."""
+        """Handle that no worker has the task, and that none will get it."""
         self._do(attempt, self.machine.withdrawn(attempt, self._clock()))
 
     def lost(self, attempt: Attempt, fault: Lost) -> None:
-        """Nobody knows whether its transaction was committed: its shard is recovered, which
-        tells.
-        """
-        self.tell(attempt, "commit_failed", str(fault))
+        """Recover the shard, because it is unknown whether a transaction was committed."""
+        self.emit(attempt, "commit_failed", str(fault))
         attempt.claim()
         if runner := self._runner(attempt):
             runner.fail(fault)
 
     def _finished(self, attempt: Attempt, at_once: bool) -> None:
         self._drop_timer(attempt)
-        self._gone(attempt)
-        self.changes.tell(attempt)
+        self._stop_following(attempt)
+        self.changes.notify(attempt)
         self._report(attempt, at_once)
 
-    def _gone(self, attempt: Attempt) -> None:
-        """Whoever does it elsewhere need not be followed any more."""
+    def _stop_following(self, attempt: Attempt) -> None:
+        """Stop following the worker or the child of an attempt."""
         if attempt.is_external:
             self._external.gone(attempt)
         elif attempt.reason is Suspension.CHILD:
@@ -346,15 +349,17 @@ class Executor:
         if runner := self._runner(attempt):
             runner.report(attempt, at_once)
 
-    def _runner(self, attempt: Attempt) -> Runner | None:
+    def _runner(self, attempt: Attempt) -> RunnerForExecutor | None:
         shard = attempt.instance.shard
-        return self._host.runner(shard) if shard else None
+        return self._coordinator.runner(shard) if shard else None
 
-    # -- reports that were not kept
+    # -- reports that were not stored
 
     def _report_again(self, attempt: Attempt) -> None:
-        """Report one whose report was not kept. Where it did not succeed, its worker may have
-        reported that it did, which is why it was not kept: that is looked for first.
+        """Report an attempt whose report was not stored.
+
+        If it did not succeed, its worker may have reported a success in the meantime. That would
+        explain why the report was not stored, so the store is checked first.
         """
         outcome = attempt.outcome
         if not attempt.is_external or (outcome and outcome.kind is OutcomeKind.SUCCEEDED):
@@ -362,67 +367,71 @@ class Executor:
             self._report(attempt)
         elif attempt not in self._doubted:
             self._doubted.add(attempt)
-            self._host.spawn(self._report_what_was_done(attempt))
+            self._coordinator.spawn(self._report_what_was_done(attempt))
 
     async def _report_what_was_done(self, attempt: Attempt) -> None:
-        """The success that its worker reported counts, and whoever said otherwise hears so."""
+        """Report an attempt; a success that its worker has reported counts.
+
+        Callers that reported another outcome receive an error.
+        """
         try:
             done = await self._external.find_done(attempt.token())
         except asyncio.CancelledError:  # the store is closed
-            host = self._host
-            self._refuse(attempt, host.closed or Closed(str(host.store.path)))
+            coordinator = self._coordinator
+            self._refuse(attempt, coordinator.closed or Closed(str(coordinator.store.path)))
             raise
         finally:
             self._doubted.discard(attempt)
         shard = attempt.instance.shard
-        is_gone = shard is None or not shard.is_known  # it comes again
+        is_gone = shard is None or not shard.is_known  # the recovery reports it
         if is_gone or attempt.instance.busy.get(attempt.word) is not attempt:
             return
         if done:
-            where = f"saga {attempt.key!r}, step {attempt.name!r}"
-            told = f"{where}: its worker has reported success"
-            self._refuse(attempt, StepNotWaiting(told))
+            subject = f"saga {attempt.key!r}, step {attempt.name!r}"
+            message = f"{subject}: its worker has reported success, and that counts"
+            self._refuse(attempt, StepNotWaiting(message))
             attempt.outcome = done
         self.machine.report(attempt)
         self._report(attempt)
 
     def _refuse(self, attempt: Attempt, error: SagasError) -> None:
-        """Whoever said how it ended hears that this does not count."""
+        """Raise an error in callers whose report of this attempt does not count."""
         attempt.rare.request = None
-        self.kept.tell(attempt, error)
+        self.kept.notify(attempt, error)
 
     # -- reports in the store
 
     def reported(self, attempts: Sequence[Attempt]) -> None:
-        """Their reports are in the store, each with its event."""
-        tells = self._teller.wants("step_succeeded")
+        """Handle that reports are stored, each with its event."""
+        is_wanted = self._teller.wants("step_succeeded")
         is_awaited = self.kept.futures
         for attempt in attempts:
             if is_awaited:
-                self.kept.tell(attempt)
+                self.kept.notify(attempt)
             if attempt.event not in DONE:
-                self._tell_failure(attempt)
-            elif tells:
-                self.tell(attempt, "step_succeeded")
+                self._emit_failure(attempt)
+            elif is_wanted:
+                self.emit(attempt, "step_succeeded")
 
-    def _tell_failure(self, attempt: Attempt) -> None:
-        """What was raised; with its traceback where no further attempt is made. Of attempts that
-        are given up behind a permanent failure nothing is told.
+    def _emit_failure(self, attempt: Attempt) -> None:
+        """Emit what was raised, with its traceback if there is no further attempt.
+
+        Nothing is emitted for attempts that were given up after a permanent failure.
         """
         outcome = attempt.outcome
         assert outcome
         final = outcome.kind is OutcomeKind.FAILED_PERMANENTLY
         if final and not outcome.called:
             return
-        name = "step_failed" if final else MISSED.get(attempt.event, "step_failed")
+        name = "step_failed" if final else RETRYING.get(attempt.event, "step_failed")
         level = None if outcome.called else logging.INFO
         if not self._teller.wants(name):
             return
         doubt = outcomes.doubt(outcome.error, attempt.manner)
         detail = f"{outcomes.fault(outcome)}{doubt}"
-        self.tell(attempt, name, detail, level, outcome.error if name == "step_failed" else None)
+        self.emit(attempt, name, detail, level, outcome.error if name == "step_failed" else None)
 
-    def tell(
+    def emit(
         self,
         attempt: Attempt,
         name: str,
@@ -430,7 +439,7 @@ class Executor:
         level: int | None = None,
         error: BaseException | None = None,
     ) -> None:
-        """Tell an event of an attempt."""
+        """Emit an event of an attempt."""
         took = None if attempt.took is None else round(attempt.took, 6)
         self._teller.tell(
             name,
@@ -447,7 +456,7 @@ class Executor:
         )
 
     def planned(self, instance: SagaInstance) -> None:
-        """Tell of a plan that was adopted."""
+        """Emit that a plan was adopted."""
         answer = instance.answer or {}
         detail = f"cost {answer['cost']}" if "cost" in answer else "blocked"
         self._teller.tell("plan_adopted", key=instance.key, saga=instance.kind.name, detail=detail)
@@ -455,12 +464,14 @@ class Executor:
     # -- forget
 
     def forget(self, attempt: Attempt) -> None:
-        """The store does not have it: it had not begun, or its report is there; or another node
-        has its shard. Callers that wait for its report look into the store.
+        """Forget an attempt that the store does not have as open.
+
+        It had not started, or its report is stored, or another node has its shard. Callers that
+        wait for its report check the store.
         """
         self._drop_timer(attempt)
-        self._gone(attempt)
-        self.kept.tell(attempt, Moved(f"saga {attempt.key!r}"))
-        self.changes.tell(attempt)
+        self._stop_following(attempt)
+        self.kept.notify(attempt, Moved(f"saga {attempt.key!r}"))
+        self.changes.notify(attempt)
         attempt.forget()
         self.calls.forget(attempt)

@@ -1,4 +1,4 @@
-"""What the executor needs of the store around it."""
+"""Interfaces of the open store that the executor uses."""
 
 from __future__ import annotations
 
@@ -15,77 +15,78 @@ from sagas.core.outcomes import Outcome
 from sagas.core.shard import ShardDriver
 from sagas.core.suspensions import SuspensionRow
 from sagas.definition.shelf import Shelf
-from sagas.runtime.declared_calls import DeclaredCalls
-from sagas.runtime.dispatcher import Turns
+from sagas.runtime.declared_calls import DefinitionCaller
+from sagas.runtime.dispatcher import TurnPolicy
 from sagas.storage.interface import Database
 
 
-class Host(Turns, Protocol):
-    """What attempts need of the open store around them."""
+class CoordinatorForExecutor(TurnPolicy, Protocol):
+    """The coordinator, as attempts use it."""
 
     loop: asyncio.AbstractEventLoop
     store: Database
-    shelf: Shelf
+    registry: Shelf
     teller: Teller
     clock: Callable[[], float]
     closed: SagasError | None
-    declared: DeclaredCalls
+    declared: DefinitionCaller
 
     def feed(self) -> None:
-        """There are slots again."""
+        """Resume shards that wait for slots."""
 
-    def runner(self, shard: ShardDriver) -> Runner | None:
-        """What drives a shard here; None if it is not this program's any more."""
+    def runner(self, shard: ShardDriver) -> RunnerForExecutor | None:
+        """Return the runner of a shard; None if this program no longer has the shard."""
 
     def spawn(self, work: Coroutine[None, None, None]) -> asyncio.Task[None]:
-        """Do it in the background."""
+        """Run a coroutine in the background."""
 
 
-class Runner(Protocol):
-    """What drives a shard."""
+class RunnerForExecutor(Protocol):
+    """The runner of a shard, as attempts use it."""
 
     has_unread: bool
 
     def poke(self, at_once: bool = False) -> None:
-        """Something of it is to be reported."""
+        """Send pending reports and requests to the engine."""
 
     def report(self, attempt: Attempt, at_once: bool = False) -> None:
-        """An attempt is finished."""
+        """Report a finished attempt."""
 
     def suspend(self, attempt: Attempt, row: SuspensionRow) -> None:
-        """Keep why an attempt waits; then `Executor.stored` is called."""
+        """Store why an attempt waits; then `Executor.stored` is called."""
 
     def keep(self, effects: Effects) -> None:
-        """Make effects durable that no answer came to."""
+        """Store effects that no reply of the engine led to."""
 
     def fail(self, fault: BaseException | None) -> None:
-        """Recover it: nobody knows what is in the store."""
+        """Recover the shard, because it is unknown what is stored."""
 
 
-class External(Protocol):
+class ExternalTasks(Protocol):
     """The tasks of external workers."""
 
     def offer(self, attempt: Attempt) -> None:
-        """It waits for a worker."""
+        """Offer an attempt to workers."""
 
     def withdraw(self, attempt: Attempt) -> None:
-        """It is taken back by a commit of its shard, unless a worker has it; then
-        `Executor.withdrawn` is called.
+        """Withdraw an attempt by a commit of its shard, unless a worker has it.
+
+        After a withdrawal, `Executor.withdrawn` is called.
         """
 
     def gone(self, attempt: Attempt) -> None:
-        """Its outcome is known, or it is not this program's any more."""
+        """Forget an attempt that is finished, or that another program has."""
 
     def look(self) -> None:
-        """What was reported may be taken now."""
+        """Read reports, which may be accepted now."""
 
     async def dispatch(self, attempt: Attempt) -> int:
-        """Its row is in the store, under the lease for a message."""
+        """Store the row of an attempt; return the lease for its message."""
 
     def reports(
         self, attempt: Attempt
     ) -> contextlib.AbstractContextManager[asyncio.Future[Outcome]]:
-        """What is reported of one that runs."""
+        """Provide the future of the report of an attempt that runs."""
 
     async def find_done(self, token: str) -> Outcome | None:
-        """The success that a worker has reported."""
+        """Return the success that a worker has reported, or None."""

@@ -1,7 +1,7 @@
 """Attempts for external workers: offers, claims and leases.
 
-All of it is in the table `external_attempts` (storage/external.py). A task is claimed with a lease
-that nobody else can guess (lease_signature.py), by any node of the database.
+Everything is stored in the table `external_attempts` (storage/external.py). Any node of the
+database claims a task, with a signed lease that cannot be guessed (lease_signature.py).
 """
 
 from __future__ import annotations
@@ -35,15 +35,13 @@ if TYPE_CHECKING:
     from sagas.runtime.coordinator import Coordinator
 
 BUDGET = 16 << 20
-"""Characters of the values that a claim hands out, unless the first task alone has more."""
-AGAIN = 2.0
-"""Seconds after which what the store did not answer is asked again."""
+"""Maximum characters of the values of a claim, unless its first task alone has more."""
+RETRY_DELAY = 2.0
+"""Seconds after which a failed read of the store is repeated."""
 LOOK = 0.5
-"""Seconds between two looks for what waits for a worker, or was reported: a word of another
-program may be lost."""
+"""Seconds between checks for tasks and reports: a notification of another program may be lost."""
 LOOK_AT_FILE = 0.02
-"""Seconds between two looks at a file: a worker of a queue writes there, and its commit makes no
-event here."""
+"""Seconds between checks of a file: a commit of a queue's worker sends no notification."""
 OF_SAGA = (
     "SELECT s.key, s.input, s.deadline, s.traceparent, text, "
     "(SELECT p.shape FROM shapes p WHERE p.id = s.id) "
@@ -58,53 +56,59 @@ def _set(future: asyncio.Future[None]) -> None:
 
 
 class ExternalQueue(ExternalReports):
-    """`leased`: whether this program serves workers; else the tasks that it offers are another
-    node's to serve, or are told by `Store.finish`.
+    """Offers attempts to workers, and hands them out under leases.
+
+    Attributes:
+        leased: Whether this program serves workers. If not, other nodes serve its tasks, or
+            `Store.complete` and `Store.fail` report them.
+        takeovers: How many tasks were claimed after a lease had expired.
     """
 
-    def __init__(self, owner: Coordinator) -> None:
-        super().__init__(owner)
+    def __init__(self, coordinator: Coordinator) -> None:
+        super().__init__(coordinator)
         self.leased = False
         self.takeovers = 0
         self._limited: set[str] = set()
         self._waiting: dict[str, dict[asyncio.Future[None], None]] = {}
         self._offering: set[Attempt] = set()
         self._withdrawing: set[Attempt] = set()
-        self._check = OfferCheck(self.owner, self._is_moving, self._offer)
+        self._check = OfferCheck(self.coordinator, self._is_moving, self._offer)
         self._dispatched: dict[Attempt, asyncio.Future[None]] = {}
         self._timer: asyncio.TimerHandle | None = None
-        self._pause, self._wakes = LOOK, 0.0
+        self._pause, self._next_wake = LOOK, 0.0
 
     async def open(self) -> None:
-        """Reads the secret by which leases are signed. Raises `StoreUnavailable`."""
-        for saga in self.owner.shelf.sagas.values():
-            for one in shape_validation.patterns(saga):
-                step = one.step
+        """Read the secret that signs leases. Raises `StoreUnavailable`."""
+        for saga in self.coordinator.registry.sagas.values():
+            for pattern in shape_validation.patterns(saga):
+                step = pattern.step
                 if step.concurrency is not None:
-                    self._limited.add(task_name(saga.name, one.path, "run"))
+                    self._limited.add(task_name(saga.name, pattern.path, "run"))
                 for manner in (step.run, step.undo):
                     self._has_any |= manner.external or manner.queue is not None
-                    if manner.queue is not None and not self.owner.store.shared:
+                    if manner.queue is not None and not self.coordinator.store.shared:
                         self._pause = LOOK_AT_FILE
-        self._table.begin(self.owner.commits.kept, self.owner.clock, self._unwanted)
+        self._table.begin(
+            self.coordinator.commits.kept, self.coordinator.clock, self._give_back_all
+        )
         if self.leased:
-            self._signer = Signer(await self.owner.store.secret())
+            self._signer = Signer(await self.coordinator.store.secret())
         self._look_later()
 
     def close(self) -> None:
-        """Nobody takes anything any more."""
+        """Wake all waiting claims, so that they end."""
         if self._timer:
             self._timer.cancel()
         for waiting in list(self._waiting.values()):
             for future in list(waiting):
                 _set(future)
 
-    # -- what is offered
+    # -- offers
 
     def offer(self, attempt: Attempt) -> None:
-        """It waits for a worker, or for the one that has it."""
-        self._withdrawing.discard(attempt)  # its commit was not made, or nobody knows
-        if self.owner.closed or attempt.pending:
+        """Offer an attempt to workers, or wait for the worker that has it."""
+        self._withdrawing.discard(attempt)  # its commit failed, or its outcome is unknown
+        if self.coordinator.closed or attempt.pending:
             return
         if attempt.offered is not None:
             attempt.rare.offered = None
@@ -112,71 +116,75 @@ class ExternalQueue(ExternalReports):
             return
         self._offer(attempt)
 
-    def _put(self, attempt: Attempt) -> None:
+    def _store_offer(self, attempt: Attempt) -> None:
         shard = attempt.instance.shard
-        if shard and (runner := self.owner.runner(shard)):
-            runner.keep(shard.offered(attempt, self.owner.clock()))
+        if shard and (runner := self.coordinator.runner(shard)):
+            runner.keep(shard.offered(attempt, self.coordinator.clock()))
 
     def offered(self, attempt: Attempt) -> None:
-        """Its row is in the store."""
+        """Handle that the row of an attempt is stored."""
         self._offering.discard(attempt)
         self._check.offered(attempt)
         if committed := self._dispatched.get(attempt):
             _set(committed)
             return
         if attempt.instance.draining:
-            self.owner.executor.drain(attempt.instance)
+            self.coordinator.executor.drain(attempt.instance)
         self.wake(task_of(attempt))
 
     def withdraw(self, attempt: Attempt) -> None:
-        """Its saga is being undone: it is taken back, unless a worker has it. That is a commit of
-        its shard, behind the one that offered it, so that no other node's offer is taken back.
+        """Withdraw an attempt of a saga that is being undone, unless a worker has it.
+
+        That is a commit of its shard after the offer, so that no offer of another node is
+        withdrawn.
         """
         if self._is_moving(attempt):
-            return  # once it is offered, its saga is drained again
+            return  # the saga is drained again when the offer is stored
         shard = attempt.instance.shard
-        if shard and (runner := self.owner.runner(shard)):
+        if shard and (runner := self.coordinator.runner(shard)):
             self._withdrawing.add(attempt)
-            runner.keep(shard.withdrawn(attempt, self.owner.clock()))
+            runner.keep(shard.withdrawn(attempt, self.coordinator.clock()))
 
     def withdrawn(self, attempt: Attempt, is_done: bool) -> None:
-        """The store has answered its withdrawal."""
+        """Handle the reply of the store to a withdrawal."""
         self._withdrawing.discard(attempt)
         if is_done:
-            self.owner.executor.withdrawn(attempt)
+            self.coordinator.executor.withdrawn(attempt)
 
     def gone(self, attempt: Attempt) -> None:
-        """Its outcome is known, or it is not this program's any more."""
+        """Forget an attempt that is finished, or that another program has."""
         self._offering.discard(attempt)
         self._withdrawing.discard(attempt)
         self._check.gone(attempt)
 
     def _is_moving(self, attempt: Attempt) -> bool:
-        """Whether a commit that offers or withdraws it is not answered."""
+        """Return whether an offer or a withdrawal of the attempt is being stored."""
         return attempt in self._offering or attempt in self._withdrawing
 
     def _offer(self, attempt: Attempt) -> None:
         self._offering.add(attempt)
-        self._put(attempt)
+        self._store_offer(attempt)
 
     async def dispatch(self, attempt: Attempt) -> int:
-        """Its row is in the store, with the lease for a message; where it has been reported
-        already, that is told."""
+        """Store the row of an attempt; return the lease for its message.
+
+        If the attempt has been reported already, the report is delivered.
+        """
         number, attempt.rare.offered = attempt.offered, None
-        while attempt.pending:  # a commit has one word for its row
-            await self.owner.executor.changes.wait(attempt)
-        committed = self._dispatched[attempt] = self.owner.loop.create_future()
+        while attempt.pending:  # a commit writes its row once
+            await self.coordinator.executor.changes.wait(attempt)
+        committed = self._dispatched[attempt] = self.coordinator.loop.create_future()
         try:
             while number is None:
-                self._put(attempt)
-                await asyncio.wait([committed], timeout=AGAIN)
+                self._store_offer(attempt)
+                await asyncio.wait([committed], timeout=RETRY_DELAY)
                 number = await self._dispatched_under(attempt, committed.done())
         finally:
             del self._dispatched[attempt]
         return number
 
     async def _dispatched_under(self, attempt: Attempt, is_committed: bool) -> int | None:
-        """The lease of its row; None where that is not known to be in the store."""
+        """Return the lease of a stored row; None if the row may not be stored."""
         with contextlib.suppress(StoreUnavailable):
             row = await self._table.find(attempt.token())
             if row is not None and row.outcome is not None:
@@ -189,7 +197,7 @@ class ExternalQueue(ExternalReports):
     # -- claims
 
     def wake(self, task: str, count: int = 1) -> None:
-        """There may be so many tasks of a step for who waits here."""
+        """Wake up to `count` claims that wait for tasks of a step."""
         for future in self._waiting.get(task, ()):
             if count <= 0:
                 break
@@ -198,99 +206,101 @@ class ExternalQueue(ExternalReports):
                 count -= 1
 
     def offered_elsewhere(self) -> None:
-        """Another node has offered something."""
+        """Wake waiting claims, because another node has offered a task."""
         for task in self._waiting:
             self.wake(task)
 
     async def claim(
         self,
-        words: Sequence[Word],
-        most: int,
+        steps: Sequence[Word],
+        limit: int,
         wait: float,
         seconds: float,
         worker: str,
         holder: str,
     ) -> list[LeasedTask]:
-        """As `Store.take`."""
-        deadline, tasks = self.owner.loop.time() + wait, [
-            *dict.fromkeys((task_name(*word) for word in words))
+        """Claim tasks. See `Workers.claim`."""
+        deadline, tasks = self.coordinator.loop.time() + wait, [
+            *dict.fromkeys((task_name(*step) for step in steps))
         ]
         while True:
             self._raise_if_closed()
-            claims = await self._claimed(tasks, most, seconds, worker)
+            claims = await self._claimed(tasks, limit, seconds, worker)
             for task in tasks if claims else ():  # there may be more than were taken
                 self.wake(task)
-            found = await self._all_leased(claims, worker, holder)
-            left = deadline - self.owner.loop.time()
-            if found or left <= 0:
-                return found
-            if claims:  # none of them could be handed out
+            leased = await self._all_leased(claims, worker, holder)
+            left = deadline - self.coordinator.loop.time()
+            if leased or left <= 0:
+                return leased
+            if claims:  # no claimed task could be leased
                 await asyncio.sleep(min(left, 1.0))
             else:
-                await self._come(tasks, left)
+                await self._wait_for_tasks(tasks, left)
 
     async def _claimed(
-        self, tasks: Sequence[str], most: int, seconds: float, worker: str
+        self, tasks: Sequence[str], limit: int, seconds: float, worker: str
     ) -> list[Claim]:
         limited = [task for task in tasks if task in self._limited]
-        found = await self._table.claim(tasks, limited, most, seconds, worker)
-        self.takeovers += sum(claim.is_takeover for claim in found)
-        return found
+        claims = await self._table.claim(tasks, limited, limit, seconds, worker)
+        self.takeovers += sum(claim.is_takeover for claim in claims)
+        return claims
 
     async def _all_leased(
         self, claims: Sequence[Claim], worker: str, holder: str
     ) -> list[LeasedTask]:
-        """What a worker gets, of `BUDGET` as far as sizes are known; the other claims are given
-        back. If the store does not answer, all are. A claim whose values cannot be decoded is set
-        aside, so that it does not block the others.
+        """Return tasks with their leases, within `BUDGET`, and release the other claims.
+
+        If the store does not answer, all claims are released. A claim with undecodable values is
+        set aside, so that it does not block others.
         """
-        found: list[LeasedTask | None] = []
-        size = most = 0
+        leased: list[LeasedTask | None] = []
+        size = largest = 0
         for number, claim in enumerate(claims):
-            if size + most > BUDGET:
-                self._unwanted(claims[number:])
+            if size + largest > BUDGET:
+                self._give_back_all(claims[number:])
                 break
             try:
-                found.append(task := await self._leased(claim, worker, holder))
-                most = max(most, task.size if task else 0)
+                leased.append(task := await self._leased(claim, worker, holder))
+                largest = max(largest, task.size if task else 0)
                 size += task.size if task else 0
             except (CannotDecode, BlobUnavailable) as error:
                 await self.park(claim.attempt, claim.lease, error)
             except BaseException as error:
                 is_passing = isinstance(error, (StoreUnavailable, asyncio.CancelledError))
-                self._unwanted([one for one in claims if is_passing or one is not claim])
+                self._give_back_all([other for other in claims if is_passing or other is not claim])
                 raise
-        return [one for one in found if one]
+        return [claim for claim in leased if claim]
 
-    def _unwanted(self, claims: Sequence[Claim]) -> None:
-        """Give back claims whose caller was cancelled."""
-        if not self.owner.closed:
+    def _give_back_all(self, claims: Sequence[Claim]) -> None:
+        """Release claims in the background."""
+        if not self.coordinator.closed:
             for claim in claims:
-                self.owner.spawn(self._give_back(claim.attempt, claim.lease))
+                self.coordinator.spawn(self._give_back(claim.attempt, claim.lease))
 
     async def give_back(self, tasks: Iterable[LeasedTask], holder: str) -> None:
-        """As `Store.workers.give_back`."""
+        """Release claimed tasks. See `Workers.give_back`."""
         self._raise_if_closed()
         numbers = {
-            one.attempt_id: self._signer.number(one.attempt_id, one.lease, holder) for one in tasks
+            task.attempt_id: self._signer.number(task.attempt_id, task.lease, holder)
+            for task in tasks
         }
-        await asyncio.gather(*(self._give_back(*one) for one in numbers.items()))
+        await asyncio.gather(*(self._give_back(*task) for task in numbers.items()))
 
     async def set_aside(self, task: LeasedTask, holder: str, why: str) -> None:
-        """As `Store.workers.set_aside`."""
+        """Set a task aside. See `Workers.set_aside`."""
         self._raise_if_closed()
         number = self._signer.number(task.attempt_id, task.lease, holder)
         await self.park(task.attempt_id, number, CannotDecode(why))
 
     async def _give_back(self, attempt: str, lease: int) -> None:
-        with contextlib.suppress(StoreUnavailable):  # then it runs out
+        with contextlib.suppress(StoreUnavailable):  # then the lease expires
             await self._table.heartbeat(attempt, lease, 0.0)
             self.offered_elsewhere()
 
-    async def _come(self, tasks: Sequence[str], seconds: float) -> None:
-        """Waits until there may be something."""
-        future: asyncio.Future[None] = self.owner.loop.create_future()
-        timer = self.owner.loop.call_later(seconds, _set, future)
+    async def _wait_for_tasks(self, tasks: Sequence[str], seconds: float) -> None:
+        """Wait until there may be tasks of these steps."""
+        future: asyncio.Future[None] = self.coordinator.loop.create_future()
+        timer = self.coordinator.loop.call_later(seconds, _set, future)
         for task in tasks:
             self._waiting.setdefault(task, {})[future] = None
         try:
@@ -304,20 +314,20 @@ class ExternalQueue(ExternalReports):
                     self._waiting.pop(task, None)
 
     async def _leased(self, claim: Claim, worker: str, holder: str) -> LeasedTask | None:
-        """What a worker is handed; None where that cannot be computed."""
-        now, attempt = self.owner.clock(), self.find(claim.attempt)
+        """Return the task of a claim; None if its values cannot be computed here."""
+        now, attempt = self.coordinator.clock(), self.find(claim.attempt)
         if attempt is None:
             kind, task = await self._task(claim)
         else:
             kind = attempt.instance.kind
             attempt.rare.lease = Lease(claim.lease, worker, now, now + claim.seconds)
             attempt.fresh = False
-            await self.owner.executor.values.fill(attempt)
+            await self.coordinator.executor.values.fill(attempt)
             task = attempt.task()
             attempt.instance.release()
         if claim.cancelled is not None:
             task.cancelled.set(claim.cancelled)
-        self.owner.teller.tell(
+        self.coordinator.teller.tell(
             "step_started",
             key=task.key,
             saga=task.saga,
@@ -333,23 +343,23 @@ class ExternalQueue(ExternalReports):
             task = compensation_task.of(task, kind.undoes, sees)
         lease = self._signer.issue(claim.attempt, claim.lease, holder)
         try:
-            given = given_values.text_of(task)
+            given_text = given_values.text_of(task)
         except given_values.DeclarationMissing as error:
             logger.warning("%s: %s", claim.attempt, error)
             await self._give_back(claim.attempt, claim.lease)
             return None
-        except Exception as error:  # of the user's function
-            with contextlib.suppress(SagasError):  # the lease ends, and it is handed out again
+        except Exception as error:  # raised by the user's function
+            with contextlib.suppress(SagasError):  # the lease expires, and the task is free again
                 await self.report(claim.attempt, lease, holder, given_values.failure(error))
             return None
-        return LeasedTask(claim.attempt, lease, now + claim.seconds, task, given)
+        return LeasedTask(claim.attempt, lease, now + claim.seconds, task, given_text)
 
     async def _task(self, claim: Claim) -> tuple[Kind, Task[Any]]:
-        """The definition, and what a worker is handed, of an attempt that another node drives."""
-        read, undo = self.owner.store.read, claim.action == "undo"
+        """Return definition and task of an attempt that another node executes."""
+        read, undo = self.coordinator.store.read, claim.action == "undo"
         rows = await read(OF_SAGA, claim.id)
         ((key, text, deadline, traceparent, definition, shape),) = rows
-        kind: Kind = self.owner.shelf.kind(definition)
+        kind: Kind = self.coordinator.registry.kind(definition)
         decode, text = kind.payloads.decode, kind.payloads.decode(text)
         results: dict[int, str] = {
             step: decode(value or "null") for step, value in await read(RESULTS, claim.id)
@@ -357,16 +367,16 @@ class ExternalQueue(ExternalReports):
         token, _, number = claim.attempt.rpartition("-")
         name = kind.names[claim.step]
         values = ShapeValues() if shape is None else ShapeValues.read(decode(shape))
-        place = kind.place(name, values, text)
+        location = kind.place(name, values, text)
         hint = kind.actions[claim.action][claim.step].hint
-        told = Told(
+        data = Told(
             kind.name,
             key,
             name,
             undo,
             int(number),
             token.removesuffix(f"-{name}-{claim.action}"),
-            place.input if place else text,
+            location.input if location else text,
             {kind.names[step]: results.get(step) or "null" for step in kind.below[claim.step]},
             results.get(claim.step) if undo else None,
             hint,
@@ -374,52 +384,55 @@ class ExternalQueue(ExternalReports):
             deadline,
             kind.actions[claim.action][claim.step].context,
             traceparent=traceparent,
-            place=place,
+            place=location,
         )
-        return kind, Task(told)
+        return kind, Task(data)
 
     async def heartbeat(
-        self, token: str, lease: str, holder: str, seconds: float, told: Progress | None
+        self, token: str, lease: str, holder: str, seconds: float, progress: Progress | None
     ) -> Heartbeat:
-        """Keep a worker's lease, and how far it is."""
+        """Extend the lease of a worker, and store its progress."""
         number = self._signer.number(token, lease, holder)
         self._raise_if_closed()
-        holds = await self._table.heartbeat(token, number, seconds)
-        if holds is None:
+        extension = await self._table.heartbeat(token, number, seconds)
+        if extension is None:
             if await self._table.find(token) is None:
                 await self.outcome_of(token)
-            raise LeaseLost(f"lease {number} of {token} is not the newest, or has ended")
-        until = self.owner.clock() + holds.seconds
-        if told is not None:
-            await self._table.advance(token, *told, self.owner.clock())
+            raise LeaseLost(
+                f"lease {number} of {token} is not the newest, or has ended. Stop the task, "
+                "because another worker may perform it"
+            )
+        until = self.coordinator.clock() + extension.seconds
+        if progress is not None:
+            await self._table.advance(token, *progress, self.coordinator.clock())
         attempt = self.find(token)
         if attempt is not None and attempt.lease and attempt.lease.number == number:
             attempt.lease.until = until
-        return Heartbeat(until, holds.cancelled)
+        return Heartbeat(until, extension.cancelled)
 
     async def queues(self) -> list[Queue]:
-        """The tasks that wait or are leased, at any node, by step."""
-        found = []
+        """Return how many tasks wait or are leased at any node, by step."""
+        counts = []
         for task, ready, oldest, claimed in await self._table.waiting():
             saga, _, named = task.partition("/")
             step, _, action = named.rpartition("/")
-            found.append(Queue(saga, step, action == "undo", ready, oldest, claimed))
-        return found
+            counts.append(Queue(saga, step, action == "undo", ready, oldest, claimed))
+        return counts
 
-    # -- looks
+    # -- periodic checks
 
     def _look_later(self) -> None:
-        loop = self.owner.loop
+        loop = self.coordinator.loop
         self._timer = loop.call_later(min(LOOK, self._pause), self._look_later)
         self.look()
         if self._has_any:
             self._check.look()
-        if self._waiting and not self.owner.closed and loop.time() >= self._wakes:
-            self._wakes = loop.time() + LOOK
-            self.owner.spawn(self._wake_all())
+        if self._waiting and not self.coordinator.closed and loop.time() >= self._next_wake:
+            self._next_wake = loop.time() + LOOK
+            self.coordinator.spawn(self._wake_all())
 
     async def _wake_all(self) -> None:
-        """Leases may have run out, or others' words been lost."""
+        """Wake claims for tasks whose leases expired, or whose notification was lost."""
         with contextlib.suppress(StoreUnavailable):
             for task, ready, _, _ in await self._table.waiting():
                 self.wake(task, ready)

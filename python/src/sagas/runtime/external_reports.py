@@ -1,8 +1,8 @@
 """Reports of external workers, taken into their shards.
 
-*Done* counts under any lease of the attempt, since it is the same effect; *failed* and *unknown*
-only under the newest. A report is kept in the table `external_attempts`; then the node that drives
-the shard of the attempt reports it there, and settles the row in the same commit.
+*Done* counts under any lease of the attempt, because it is the same effect. *Failed* and *unknown*
+count only under the newest lease. A report is stored in the table `external_attempts`. Then the
+node that owns the shard reports it there, and settles the row in the same commit.
 """
 
 from __future__ import annotations
@@ -32,7 +32,7 @@ from sagas.core.states import OutcomeKind, Suspension
 from sagas.definition import tokens
 from sagas.definition.blobs import BlobUnavailable
 from sagas.definition.capacity import SHARD_CAPACITY
-from sagas.runtime.offer_check import is_out
+from sagas.runtime.offer_check import awaits_worker
 from sagas.runtime.retries import until_answered
 from sagas.storage import queries
 from sagas.storage.external import Report, Row
@@ -52,24 +52,24 @@ EVENT = "SELECT event, value FROM attempts WHERE id = ? AND step = ? AND action 
 
 
 class ExternalReports:
-    """Takes reports, also those that other nodes or workers have left in the table."""
+    """Accepts reports, also those that other nodes wrote into the table."""
 
-    def __init__(self, owner: Coordinator) -> None:
-        self.owner = owner
-        self._table = owner.store.external
+    def __init__(self, coordinator: Coordinator) -> None:
+        self.coordinator = coordinator
+        self._table = coordinator.store.external
         self._signer = Signer(secrets.token_bytes(32))
         self._has_any = self._is_looking = self._looks_again = False
         self._reports: dict[str, asyncio.Future[Outcome]] = {}
 
     def _raise_if_closed(self) -> None:
-        if self.owner.closed:
-            raise self.owner.closed
+        if self.coordinator.closed:
+            raise self.coordinator.closed
 
     @contextlib.contextmanager
     def reports(self, attempt: Attempt) -> Iterator[asyncio.Future[Outcome]]:
-        """What is reported of one whose message is out."""
+        """Provide the future of the report of an attempt whose message is sent."""
         token = attempt.token()
-        future = self._reports[token] = self.owner.loop.create_future()
+        future = self._reports[token] = self.coordinator.loop.create_future()
         try:
             yield future
         finally:
@@ -77,22 +77,28 @@ class ExternalReports:
                 del self._reports[token]
 
     def find(self, token: str) -> Attempt | None:
-        """The attempt with this id, if it is under way here."""
-        told = tokens.parse(token)
-        if not told:
-            raise NoSuchTask(f"{token!r} is not the attempt id of a task")
-        name, number, step, kind, count = told
-        shard = self.owner.shards.named(name)
+        """Return the attempt with this id, if it is in progress here."""
+        parts = tokens.parse(token)
+        if not parts:
+            raise NoSuchTask(
+                f"{token!r} is not the attempt id of a task. Pass the attempt_id of a claimed task"
+            )
+        name, number, step, kind, count = parts
+        shard = self.coordinator.shards.named(name)
         saga = shard.sagas.get(number) if shard else None
         if shard is None or saga is None or step not in saga.kind.names:
             return None
-        word = (saga.kind.names.index(step), kind)
-        busy = saga.busy.get(word)
+        action_key = (saga.kind.names.index(step), kind)
+        busy = saga.busy.get(action_key)
         if busy is not None and busy.attempt == count:
             return busy
-        for one in shard.unkept():  # finished
-            if one.instance is saga and one.word == word and one.attempt == count:
-                return one
+        for candidate in shard.unkept():  # finished
+            if (
+                candidate.instance is saga
+                and candidate.word == action_key
+                and candidate.attempt == count
+            ):
+                return candidate
         return None
 
     async def report(
@@ -103,17 +109,17 @@ class ExternalReports:
         outcome: Outcome,
         stored: Callable[[], object] | None = None,
     ) -> bool:
-        """As `Store.workers.report`.
+        """Report a task. See `Workers.report`.
 
-        The lease is judged before anything is looked up, so that who has none learns nothing about
-        the task."""
+        The lease is verified first, so that a caller without one learns nothing about the task.
+        """
         number = self._signer.number(token, lease, holder)
         self._raise_if_closed()
         value = self._encoded(outcome)
         shard = await self._table.report(token, number, str(outcome.kind), value)
         if shard is None:
             return await self._repeated(token, number, outcome)
-        if shard in self.owner.shards.runners:
+        if shard in self.coordinator.shards.runners:
             if stored is not None:
                 stored()
             await self._apply(Report(token, str(outcome.kind), value))
@@ -122,40 +128,41 @@ class ExternalReports:
         return True
 
     def _encoded(self, outcome: Outcome) -> str:
-        """The value of an outcome, as the table has it: a result is encoded."""
-        payloads = self.owner.shelf.payloads
+        """Return the value of an outcome as the table stores it: a result is encoded."""
+        payloads = self.coordinator.registry.payloads
         is_result = payloads.codec is not None and outcome.kind is SUCCEEDED
         return outcomes.stored(payloads, outcome.value) if is_result else outcome.value
 
     def _delivered(self, outcome: OutcomeKind, value: str) -> Outcome:
-        """What was reported, by what the table has."""
-        found = outcomes.delivered(outcome, value)
-        return found._replace(encoded=self.owner.shelf.payloads.is_encoded(value))
+        """Return the outcome of a stored report."""
+        reported = outcomes.delivered(outcome, value)
+        return reported._replace(encoded=self.coordinator.registry.payloads.is_encoded(value))
 
     async def park(self, token: str, number: int, why: CannotDecode | BlobUnavailable) -> None:
-        """Set a claimed task aside that cannot be handed out: it waits for a program that can read
-        what is stored for it, or for an operator; or until its values can be got."""
-        logger.warning("%s cannot be handed out: %s", token, why)
+        """Set a claimed task aside whose values cannot be read.
+
+        It waits for a program that can read them, for an operator, or for the blob store.
+        """
+        logger.warning("task %s cannot be given to a worker: %s", token, why)
         outcome = outcomes.unreadable(str(why), passes=isinstance(why, BlobUnavailable))
-        with contextlib.suppress(StoreUnavailable):  # the lease ends, and it is claimed again
+        with contextlib.suppress(StoreUnavailable):  # the lease expires, and is claimed again
             shard = await self._table.report(token, number, str(outcome.kind), outcome.value)
-            if shard in self.owner.shards.runners:
+            if shard in self.coordinator.shards.runners:
                 await self._apply(Report(token, str(outcome.kind), outcome.value))
             elif shard is not None:
                 await self._table.tell()
 
     async def _apply(self, report: Report) -> None:
-        """Reports it into its shard here, where it can be now, and waits until it is there."""
+        """Report an outcome into its shard if possible now, and wait until it is stored."""
         attempt = self.find(report.attempt)
         if attempt is None or not self._deliver(report, attempt):
             return
         if attempt.state is FINISHED:
-            with contextlib.suppress(SagasError):  # it is kept, and is looked at again
-                await self.owner.executor.kept.wait(attempt)
+            with contextlib.suppress(SagasError):  # it is stored, and is checked again
+                await self.coordinator.executor.kept.wait(attempt)
 
     def _deliver(self, report: Report, attempt: Attempt) -> bool:
-        """Whether what was reported of an attempt that is under way here could be said of it
-        now."""
+        """Deliver a report to an attempt in progress here; return whether that worked."""
         outcome = self._delivered(OutcomeKind(report.outcome), report.value)
         if attempt.pending:
             return False
@@ -164,60 +171,60 @@ class ExternalReports:
                 waiting.set_result(outcome)
             return True
         is_known = attempt.reason in RETRIED
-        if attempt.state is not SUSPENDED or not (is_known or is_out(attempt)):
+        if attempt.state is not SUSPENDED or not (is_known or awaits_worker(attempt)):
             return False
         if outcome.kind in (UNKNOWN, CANNOT_DECODE) and attempt.lease:
-            attempt.rare.lease = None  # it ended with that: whoever claims it next has another
+            attempt.rare.lease = None  # the lease has ended: the next claim gets another
         if outcome.kind is SUCCEEDED or not is_known:
-            self.owner.executor.ended(attempt, outcome)
+            self.coordinator.executor.ended(attempt, outcome)
         elif outcome.kind is not UNKNOWN and attempt.reason is Suspension.UNKNOWN:
-            self.owner.executor.ended(attempt, outcome)
+            self.coordinator.executor.ended(attempt, outcome)
         return True
 
     def look(self) -> None:
-        """Something may have been reported."""
+        """Read reports, because there may be some."""
         self._looks_again = True
-        if not self._is_looking and not self.owner.closed and self._has_any:
+        if not self._is_looking and not self.coordinator.closed and self._has_any:
             self._is_looking = True
-            self.owner.spawn(self._look())
+            self.coordinator.spawn(self._look())
 
     async def _look(self) -> None:
         try:
-            while self._looks_again and not self.owner.closed:
+            while self._looks_again and not self.coordinator.closed:
                 self._looks_again = False
-                for report in await self._table.reported([*self.owner.shards.runners]):
+                for report in await self._table.reported([*self.coordinator.shards.runners]):
                     if attempt := self.find(report.attempt):
                         self._deliver(report, attempt)
         except StoreUnavailable:
-            pass  # the next look finds it
+            pass  # the next check finds it
         finally:
             self._is_looking = False
 
     async def find_done(self, token: str) -> Outcome | None:
-        """A worker's *done* of an attempt; asks until the store answers."""
+        """Return a worker's success of an attempt, or None; retry until the store answers."""
         row = await until_answered(lambda: self._table.find(token))
         is_done = row is not None and row.outcome == SUCCEEDED
         return self._delivered(SUCCEEDED, row.value or "null") if row and is_done else None
 
     async def _repeated(self, token: str, number: int, outcome: Outcome) -> bool:
-        """False where it was reported so before; else raises why it does not count."""
+        """Return False if the same outcome was reported before; otherwise raise an error."""
         row = await self._table.find(token)
         if row is None or row.outcome == "settled":
             return await self._settled(token, outcome)
-        said = f"lease {number} of {token}"
+        subject = f"lease {number} of {token}"
         if row.reported == number and row.value == outcome.value and row.outcome not in KNOWN:
             return False
         if row.outcome in KNOWN:
-            there = row.value or "null"
-            is_same = there == outcome.value or (
+            stored_value = row.value or "null"
+            is_same = stored_value == outcome.value or (
                 outcome.kind is SUCCEEDED
-                and self.owner.shelf.payloads.is_same(self._encoded(outcome), there)
+                and self.coordinator.registry.payloads.is_same(self._encoded(outcome), stored_value)
             )
             if row.outcome != outcome.kind or not is_same:
                 raise ConflictingReport(f"{token} was reported before, with another outcome")
-            await self._apply(Report(token, str(outcome.kind), there))
+            await self._apply(Report(token, str(outcome.kind), stored_value))
             return False
-        _raise_lost(row, token, number, said, outcome)
+        _raise_lost(row, token, number, subject, outcome)
         return False
 
     async def _settled(self, token: str, outcome: Outcome) -> bool:
@@ -228,28 +235,30 @@ class ExternalReports:
         raise ConflictingReport(f"{token} was reported before, with another outcome ({event})")
 
     async def outcome_of(self, token: str) -> tuple[str, str | None]:
-        """The event that a reported task came to, and its value. Raises `NoSuchTask`,
-        `OwnerUnavailable`."""
-        told, read = tokens.parse(token), self.owner.store.read
-        rows = await read(OF_TOKEN, told.number, told.shard) if told else []
+        """Return the event of a reported task, and its value.
+
+        Raises `NoSuchTask` and `OwnerUnavailable`.
+        """
+        parts, read = tokens.parse(token), self.coordinator.store.read
+        rows = await read(OF_TOKEN, parts.number, parts.shard) if parts else []
         for _, id, phase, text in rows:
-            assert told
-            names = self.owner.shelf.kind(text).names
-            step = names.index(told.step) if told.step in names else -1
-            for event, value in await read(EVENT, id, step, told.kind, told.attempt):
-                return event, value and self.owner.shelf.payloads.decode(value)
+            assert parts
+            names = self.coordinator.registry.kind(text).names
+            step = names.index(parts.step) if parts.step in names else -1
+            for event, value in await read(EVENT, id, step, parts.kind, parts.attempt):
+                return event, value and self.coordinator.registry.payloads.decode(value)
             if phase is None and await self._table.find(token):
                 raise OwnerUnavailable(f"{token!r}: its outcome is being stored. Report it again")
         raise NoSuchTask(f"no task that has started has the attempt id {token!r}")
 
 
-def _raise_lost(row: Row, token: str, number: int, said: str, outcome: Outcome) -> None:
-    """Why a report of an attempt that is not over does not count."""
+def _raise_lost(row: Row, token: str, number: int, subject: str, outcome: Outcome) -> None:
+    """Raise why a report of an unfinished attempt does not count."""
     if row.outcome == "person" and outcome.kind is SUCCEEDED:
         raise LeaseLost(
-            f"{token}: its outcome is unknown, and a person must report it. Tell an "
-            "operator what you know"
+            f"{token}: its outcome is unknown, and an operator must report it. Ask an operator to "
+            "complete the step"
         )
     if row.reported == row.lease == number:
-        raise ConflictingReport(f"{said} was reported as unknown before")
-    raise LeaseLost(f"{said} is not the newest, so its report {outcome.kind} is rejected")
+        raise ConflictingReport(f"{subject} was reported as unknown before")
+    raise LeaseLost(f"{subject} is not the newest, so its report {outcome.kind} is rejected")

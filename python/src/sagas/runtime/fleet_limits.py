@@ -1,11 +1,11 @@
 """Concurrency and rate limits over all nodes.
 
-Steps that are limited over all nodes. An attempt that may be called has a place in the database;
-one that got none is suspended, takes no slot, and keeps nobody back.
+A running attempt of a limited step holds a slot in the database. An attempt that gets no slot is
+suspended, uses no slot of this program, and delays no other attempt.
 
-A place of `fleet_concurrency` is its node's as long as that node's lease holds, and no longer than
-the call; one of `rate_limit` is taken until a time. Each statement says which places this node
-has, takes more and gives back the others: if an answer was lost, the next one makes it good.
+A slot of `fleet_concurrency` belongs to its node until the call ends or the lease of the node
+expires. A slot of `rate_limit` is taken until a point in time. Each statement lists the slots of
+this node, takes more, and releases the others. So the next statement repairs a lost reply.
 """
 
 from __future__ import annotations
@@ -26,71 +26,77 @@ from sagas.definition.step import Bounds
 if TYPE_CHECKING:
     from sagas.storage.interface import Database
 
-LOOK = 1.0  # seconds: a node that has places may be gone, which nobody tells
-MOST_LOOK = 30.0  # seconds: the database's clock may jump
-MOST_GATES = 1000
-"""So many gates are kept before those are dropped that nobody uses."""
-DOUBT = 25.0  # seconds in which a statement whose answer was lost is over
+LOOK = 1.0  # seconds between checks: a node that holds slots may stop without notice
+MAX_LOOK = 30.0  # seconds between checks at most: the database's clock may jump
+MAX_GATES = 1000
+"""Number of gates at which unused ones are dropped."""
+DOUBT = 25.0  # seconds after which a statement with a lost reply has ended
 
 
 def digest_of(name: str, key: str) -> str:
-    """Name the key of a step's limit, as JSON, in the database. Each step has names of its own."""
+    """Return the name of a limit's key in the database. Each step has its own names."""
     return hashlib.sha256(f"{name} {key}".encode("utf-8", "surrogatepass")).hexdigest()[:40]
 
 
-class Host(Protocol):
-    """What the limits need of the open store around them."""
+class CoordinatorForLimits(Protocol):
+    """The coordinator, as the limits use it."""
 
     loop: asyncio.AbstractEventLoop
     store: Database
     closed: SagasError | None
 
     def spawn(self, work: Coroutine[None, None, None]) -> asyncio.Task[None]:
-        """Do it in the background."""
+        """Run a coroutine in the background."""
 
 
 class Gate:
-    """The limit of one step, or of a key of it: who asks for a place, who waits, and the places of
-    this node.
+    """The limit of a step, or of one key of it.
+
+    It has the attempts that ask for a slot, those that wait, and the slots of this node.
     """
 
     def __init__(
-        self, host: Host, name: str, key: str, bounds: Bounds, enter: Callable[[Attempt], None]
+        self,
+        coordinator: CoordinatorForLimits,
+        name: str,
+        key: str,
+        bounds: Bounds,
+        enter: Callable[[Attempt], None],
     ) -> None:
         self.name, self.bounds = name, bounds
-        # the key is of the input: of any length, and in no log or table
-        self._place = f"{name}/{digest_of(name, key)}" if key else name
-        self._host, self._enter = host, enter
+        # the key comes from the input: it may be long, and must not be in a log or table
+        self._limit_name = f"{name}/{digest_of(name, key)}" if key else name
+        self._coordinator, self._enter = coordinator, enter
         self._asking: list[tuple[Attempt, asyncio.Future[bool]]] = []
         self._waiting: deque[Attempt] = deque()
-        self._places: dict[Attempt, int] = {}
-        self._works = self._given_back = self._heard = False
-        self._doubts = 0  # times that it is still to tell once more what this node has
-        self._fault = ""  # the last that was told
+        self._held_slots: dict[Attempt, int] = {}
+        self._is_asking = self._has_released = self._was_notified = False
+        self._resends = 0  # how often this node still has to send its slots again
+        self._last_error = ""  # the last logged error
         self._timer: asyncio.TimerHandle | None = None
 
     def is_waited_for(self) -> bool:
-        """Whether others wait: an attempt that comes now waits behind them."""
-        while self._waiting and not self._still(self._waiting[0]):
+        """Return whether attempts wait, so that a later one must wait after them."""
+        while self._waiting and not self._still_waits(self._waiting[0]):
             self._waiting.popleft()
         return bool(self._waiting)
 
     def is_used(self) -> bool:
-        """Whether somebody asks, waits or has a place, or it is in doubt what this node has."""
-        is_busy = self._asking or self._places or self._works or self._doubts
+        """Return whether attempts ask, wait or hold a slot, or whether a reply was lost."""
+        is_busy = self._asking or self._held_slots or self._is_asking or self._resends
         return bool(is_busy or self.is_waited_for())
 
-    def _still(self, attempt: Attempt) -> bool:
+    def _still_waits(self, attempt: Attempt) -> bool:
         return attempt.state is SUSPENDED and attempt.reason is Suspension.FLEET_LIMIT
 
     def hold(self, attempt: Attempt, first: bool = False) -> None:
-        """Let it wait without a slot. `first`: it was its turn, and there was no place."""
+        """Let an attempt wait without a slot. With `first`, it waits before all others."""
         attempt.suspend(Suspension.FLEET_LIMIT)
         (self._waiting.appendleft if first else self._waiting.append)(attempt)
 
     async def ask(self, attempt: Attempt) -> bool:
-        """Ask for a place, and return whether it has one. One that is cancelled has none."""
-        future: asyncio.Future[bool] = self._host.loop.create_future()
+        """Ask for a slot; return whether it was granted. A cancelled attempt gets none."""
+        future: asyncio.Future[bool] = self._coordinator.loop.create_future()
         self._asking.append((attempt, future))
         self._work()
         try:
@@ -100,129 +106,131 @@ class Gate:
             return False
 
     def leave(self, attempt: Attempt) -> None:
-        """Give back its place: its call is over, or will not be."""
-        if self._places.pop(attempt, None) is not None:
-            self._given_back = True
+        """Release the slot of an attempt, whose call is over or will not start."""
+        if self._held_slots.pop(attempt, None) is not None:
+            self._has_released = True
             self._work()
 
     def look(self) -> None:
-        """There may be places."""
-        self._heard = True
-        if not self._works:
+        """Ask again, because slots may be free."""
+        self._was_notified = True
+        if not self._is_asking:
             self._wake(1)
 
     # -- the database
 
     def _work(self) -> None:
-        if not self._works:
-            self._works = True
-            self._host.spawn(self._ask())
+        if not self._is_asking:
+            self._is_asking = True
+            self._coordinator.spawn(self._ask())
 
     async def _ask(self) -> None:
         try:
-            while self._asking or self._given_back:
+            while self._asking or self._has_released:
                 asking = [
                     (attempt, future) for attempt, future in self._asking if not future.done()
                 ]
-                gives_back, self._asking, self._given_back, self._heard = (
-                    self._given_back,
+                has_released, self._asking, self._has_released, self._was_notified = (
+                    self._has_released,
                     [],
                     False,
                     False,
                 )
                 try:
-                    grant = await self._host.store.admit(
-                        self._place, self.bounds, len(asking), list(self._places.values())
+                    grant = await self._coordinator.store.admit(
+                        self._limit_name, self.bounds, len(asking), list(self._held_slots.values())
                     )
-                except StoreUnavailable as fault:
-                    if str(fault) != self._fault:
-                        self._fault = str(fault)
+                except StoreUnavailable as error:
+                    if str(error) != self._last_error:
+                        self._last_error = str(error)
                         logger.warning(
                             "step %s waits, because its limits cannot be read: %s",
                             self.name,
-                            fault,
+                            error,
                         )
                     grant = Grant(0, [], LOOK)
                     for pause in (LOOK, DOUBT):
-                        self._doubts += 1
-                        self._host.loop.call_later(pause, self._again)
+                        self._resends += 1
+                        self._coordinator.loop.call_later(pause, self._resend)
                 if (
-                    gives_back and not self._host.store.shared
-                ):  # where there are other nodes, the database tells all of them
-                    self._heard = True
-                self._hand_out(asking, grant)
+                    has_released and not self._coordinator.store.shared
+                ):  # if there are other nodes, the database notifies all of them
+                    self._was_notified = True
+                self._distribute(asking, grant)
         finally:
-            self._works = False
+            self._is_asking = False
 
-    def _again(self) -> None:
-        """What this node has is told once more."""
-        self._doubts -= 1
-        if not self._host.closed:
-            self._given_back = True
+    def _resend(self) -> None:
+        """Send the slots of this node again, because a reply was lost."""
+        self._resends -= 1
+        if not self._coordinator.closed:
+            self._has_released = True
             self._work()
             self.look()
 
-    def _hand_out(self, asking: list[tuple[Attempt, asyncio.Future[bool]]], grant: Grant) -> None:
+    def _distribute(self, asking: list[tuple[Attempt, asyncio.Future[bool]]], grant: Grant) -> None:
         asking = [(attempt, future) for attempt, future in asking if not future.done()]
-        places = deque(grant.places)
+        slots = deque(grant.places)
         for number, (attempt, future) in enumerate(asking):
-            if number < grant.calls and places:
-                self._places[attempt] = places.popleft()
+            if number < grant.calls and slots:
+                self._held_slots[attempt] = slots.popleft()
             future.set_result(number < grant.calls)
-        if places:  # of those that were cancelled meanwhile
-            self._given_back = True
+        if slots:  # of attempts that were cancelled in the meantime
+            self._has_released = True
         if grant.calls and grant.calls >= len(asking):
-            self._host.loop.call_soon(self._wake, 2 * grant.calls)
+            self._coordinator.loop.call_soon(self._wake, 2 * grant.calls)
         elif asking or self._waiting:
-            self._look_later(0.0 if self._heard else grant.pause)
+            self._look_later(0.0 if self._was_notified else grant.pause)
 
     def _look_later(self, seconds: float) -> None:
         if self._timer:
             self._timer.cancel()
-        self._timer = self._host.loop.call_later(max(0.01, min(MOST_LOOK, seconds)), self.look)
+        self._timer = self._coordinator.loop.call_later(
+            max(0.01, min(MAX_LOOK, seconds)), self.look
+        )
 
     def _wake(self, count: int) -> None:
-        """Let those that have waited longest ask, once they have a slot."""
-        while count and self.is_waited_for() and not self._host.closed:
+        """Let the attempts that have waited longest ask for slots."""
+        while count and self.is_waited_for() and not self._coordinator.closed:
             attempt = self._waiting.popleft()
             count -= 1
             self._enter(attempt)
-        if self._waiting:  # those who were woken may never come to ask
+        if self._waiting:  # a woken attempt may never ask
             self._look_later(LOOK)
 
 
 class Fleet:
     """The gates of a store's steps."""
 
-    def __init__(self, host: Host, enter: Callable[[Attempt], None]) -> None:
-        self._host, self._enter = host, enter
+    def __init__(self, coordinator: CoordinatorForLimits, enter: Callable[[Attempt], None]) -> None:
+        self._coordinator, self._enter = coordinator, enter
         self._gates: dict[tuple[str, str, str], Gate] = {}
-        self._most = MOST_GATES
+        self._max_gates = MAX_GATES
 
     def gate(self, attempt: Attempt) -> Gate | None:
-        """Return the gate of a step's function, if it has one. Its compensation has none."""
+        """Return the limit of a step's function, or None. A compensation has none."""
         if not attempt.instance.kind.has_bounds:
             return None
         step = attempt.instance.kind.steps[attempt.step]
         if step is None or step.bounds is None or attempt.kind == Action.COMPENSATE:
             return None
         key = attempt.extras.limit_key if attempt.extras and step.bounds.is_keyed else None
-        at = *attempt.limit_name, key or ""
-        gate = self._gates.get(at)
+        gate_key = *attempt.limit_name, key or ""
+        gate = self._gates.get(gate_key)
         if gate is None:
-            if len(self._gates) >= self._most:
+            if len(self._gates) >= self._max_gates:
                 self._drop()
-            gate = self._gates[at] = Gate(
-                self._host, "/".join(at[:2]), at[2], step.bounds, self._enter
+            gate = self._gates[gate_key] = Gate(
+                self._coordinator, "/".join(gate_key[:2]), gate_key[2], step.bounds, self._enter
             )
         return gate
 
     def _drop(self) -> None:
-        """Forget gates at which nobody is: keys come and go."""
-        self._gates = {at: gate for at, gate in self._gates.items() if gate.is_used()}
-        self._most = max(MOST_GATES, 2 * len(self._gates))
+        """Drop unused gates, because keys come and go."""
+        self._gates = {gate_key: gate for gate_key, gate in self._gates.items() if gate.is_used()}
+        self._max_gates = max(MAX_GATES, 2 * len(self._gates))
 
     def look(self) -> None:
-        """Another node gave places back."""
+        """Let gates ask again, because another node released slots."""
         for gate in self._gates.values():
             gate.look()

@@ -1,4 +1,4 @@
-"""`FunctionThreads`: many short functions in one thread, and other threads for slow ones."""
+"""`FunctionThreads`: one thread for many short functions, others for slow ones."""
 
 from __future__ import annotations
 
@@ -13,15 +13,15 @@ from concurrent.futures import ThreadPoolExecutor
 from typing import Any, NamedTuple
 
 FORKED = 70
-"""The exit status of a child that a function forked, and that came back here."""
-LOOK = 0.01
-"""Seconds after which a function counts as slow: those that follow get another thread."""
-TELL = 0.001
-"""Seconds after which a thread tells the loop of what is over, and goes on."""
+"""The exit status of a forked child process that returned from a function."""
+SLOW_AFTER = 0.01
+"""Seconds after which a function counts as slow, and another thread calls the next ones."""
+DELIVERY_INTERVAL = 0.001
+"""Seconds after which a thread delivers its results to the loop, and continues."""
 
 
 class Call(NamedTuple):
-    """A function that is to be called."""
+    """A queued call of a function."""
 
     name: str
     context: contextvars.Context
@@ -32,44 +32,44 @@ class Call(NamedTuple):
 class FunctionThreads:
     """Calls functions in threads, for one event loop.
 
-    To wake a thread takes longer than most functions. So one thread calls all that wait, in turn.
-    If it stands still, because a function is slow, another thread goes on with the others. Names
-    are served in turn, and the functions of a name have half of the threads.
+    To wake a thread takes longer than most functions. So one thread calls all queued functions in
+    turn. If a slow function blocks it, another thread continues with the others. Names are served
+    in turn, and the functions of one name use at most half of the threads.
     """
 
-    def __init__(self, most: int, title: str) -> None:
-        """Make them. No thread is started before there is a function.
+    def __init__(self, max_threads: int, title: str) -> None:
+        """Make the object. A thread starts when a function is queued.
 
         Args:
-            most: Maximum number of threads, at least 2.
-            title: What the names of the threads begin with.
+            max_threads: Maximum number of threads, at least 2.
+            title: The prefix of the names of the threads.
         """
-        self._most, self._title = most, title
+        self._max_threads, self._title = max_threads, title
         self._pool: ThreadPoolExecutor | None = None
         self._lock = threading.Lock()
-        # what the lock guards: who waits, and how many threads and functions run
+        # guarded by the lock: queued calls, and the numbers of threads and functions that run
         self._waiting: dict[str, deque[Call]] = {}
         self._running: Counter[str] = Counter()
         self._active = 0
-        self._moves = 0  # how many calls were taken
+        self._moves = 0  # number of calls that were taken
         self._over: deque[tuple[Call, Any, Exception | None]] = deque()
-        self._is_telling = self._is_sending = self._is_watching = False
+        self._is_delivering = self._is_sending = self._is_watching = False
         self._seen = 0
         self._idle = asyncio.Event()
         self._loop: asyncio.AbstractEventLoop | None = None
 
     async def call(self, name: str, function: Callable[[], Any]) -> Any:
-        """Call a function in the context of the caller; return what it returns, or raise that.
+        """Call a function in the context of the caller; return or raise its outcome.
 
         Args:
-            name: Whose it is.
+            name: The name under which the function is served.
             function: The function.
         """
         loop = self._loop = asyncio.get_running_loop()
         call = Call(name, contextvars.copy_context(), function, loop.create_future())
         with self._lock:
             self._waiting.setdefault(name, deque()).append(call)
-        if not self._is_sending:  # others of this turn of the loop may follow
+        if not self._is_sending:  # further calls may follow in this turn of the loop
             self._is_sending = True
             loop.call_soon(self._send)
         value, error = await call.future
@@ -91,21 +91,21 @@ class FunctionThreads:
 
     def _add(self) -> None:
         if self._pool is None:
-            self._pool = ThreadPoolExecutor(self._most, self._title)
+            self._pool = ThreadPoolExecutor(self._max_threads, self._title)
         self._pool.submit(self._work)
 
     def _watch(self) -> None:
         assert self._loop
         self._is_watching, self._seen = True, self._moves
-        self._loop.call_later(LOOK, self._look)
+        self._loop.call_later(SLOW_AFTER, self._look)
 
     def _look(self) -> None:
-        """If nothing moved, another thread goes on."""
+        """Start another thread if no call has moved since the last check."""
         self._is_watching = False
         self._deliver()
         with self._lock:
-            is_open = any(self._running[name] < self._most // 2 for name in self._waiting)
-            is_stuck = is_open and self._moves == self._seen and self._active < self._most
+            is_open = any(self._running[name] < self._max_threads // 2 for name in self._waiting)
+            is_stuck = is_open and self._moves == self._seen and self._active < self._max_threads
             self._active += is_stuck
             is_over = not (self._active or self._waiting)
         if is_stuck:
@@ -114,8 +114,8 @@ class FunctionThreads:
             self._watch()
 
     def _deliver(self) -> None:
-        """Tell callers what is over."""
-        self._is_telling = False
+        """Deliver results to the callers."""
+        self._is_delivering = False
         while self._over:
             call, value, error = self._over.popleft()
             if not call.future.done():
@@ -124,7 +124,7 @@ class FunctionThreads:
             self._idle.set()
 
     async def end(self, timeout: float | None) -> None:
-        """Wait until no function runs, or for so many seconds."""
+        """Wait until no function runs, for at most `timeout` seconds."""
         if self._active or self._waiting:
             self._idle.clear()
             try:
@@ -134,7 +134,7 @@ class FunctionThreads:
                 pass
 
     def close(self) -> None:
-        """Call nothing any more. A function that runs still is left to itself."""
+        """Call nothing any more. A function that still runs continues unobserved."""
         pool, self._pool = self._pool, None
         with self._lock:
             self._waiting.clear()
@@ -144,12 +144,12 @@ class FunctionThreads:
     # -- in a thread
 
     def _take(self, done: str | None) -> Call | None:
-        """Take what is next, after one that is over. None: this thread has no more to do."""
+        """Take the next call, after one that has ended. Return None if the thread is done."""
         with self._lock:
             if done is not None:
                 self._running[done] -= 1
             for name, calls in self._waiting.items():
-                if self._running[name] >= self._most // 2:
+                if self._running[name] >= self._max_threads // 2:
                     continue
                 call = calls.popleft()
                 del self._waiting[name]
@@ -162,23 +162,23 @@ class FunctionThreads:
             return None
 
     def _work(self) -> None:
-        done, told = None, time.monotonic()
+        done, delivered_at = None, time.monotonic()
         while call := self._take(done):
             done = call.name
             if not call.future.cancelled():
                 self._over.append((call, *_called(call)))
-            if (now := time.monotonic()) - told > TELL:
-                told = now
-                self._tell()
-        self._tell()
+            if (now := time.monotonic()) - delivered_at > DELIVERY_INTERVAL:
+                delivered_at = now
+                self._request_delivery()
+        self._request_delivery()
 
-    def _tell(self) -> None:
-        if not self._is_telling:
-            self._is_telling = True
+    def _request_delivery(self) -> None:
+        if not self._is_delivering:
+            self._is_delivering = True
             assert self._loop
             try:
                 self._loop.call_soon_threadsafe(self._deliver)
-            except RuntimeError:  # the loop is closed: nobody waits for it
+            except RuntimeError:  # the loop is closed, so no caller waits
                 pass
 
 
@@ -188,8 +188,8 @@ def _called(call: Call) -> tuple[Any, Exception | None]:
         return call.context.run(call.function), None
     except Exception as error:
         return None, error
-    except BaseException as error:  # nothing of a thread may end the program
+    except BaseException as error:  # an exception in a thread must not end the program
         return None, RuntimeError(f"{type(error).__name__}: {error}")
     finally:
-        if os.getpid() != pid:  # it forked, and its child came back here: that has no loop
+        if os.getpid() != pid:  # a forked child process returned here, and has no loop
             os._exit(FORKED)

@@ -1,4 +1,4 @@
-"""What an included saga is given by the one that includes it, for workers elsewhere."""
+"""The value `task.given` of included sagas, for workers."""
 
 from __future__ import annotations
 
@@ -20,18 +20,18 @@ def text_of(task: Task[Any]) -> str:
 
     Raises:
         DeclarationMissing: The program does not have this version of the saga.
-        Exception: Whatever the function raises.
+        Exception: What the function raises.
     """
     if task.lacks_given:
         raise DeclarationMissing(
-            f"step {task.step!r} of saga {task.saga!r} cannot be handed out here, because this "
+            f"step {task.step!r} of saga {task.saga!r} cannot be claimed here, because this "
             "program does not have the version that the saga was started with. Claim it at a node "
-            "that has it"
+            "that has the version"
         )
     return serialization.write_value(task.given, "what given= returned")
 
 
 def failure(error: Exception) -> Outcome:
-    """Return what the attempt comes to: the worker was not asked."""
-    said = f"given= raised {outcomes.described(error)}"
-    return outcomes.failure(said, final=isinstance(error, Fail))
+    """Return the outcome of an attempt whose `given=` function raised."""
+    message = f"given= raised {outcomes.described(error)}"
+    return outcomes.failure(message, final=isinstance(error, Fail))

@@ -1,4 +1,4 @@
-"""The open sagas of this program, by key, and who waits for them."""
+"""The open sagas of this program, by key, and the callers that wait for them."""
 
 from __future__ import annotations
 
@@ -14,43 +14,46 @@ from sagas.runtime.waiters import Waiters
 
 
 class Instances:
-    """The sagas that this program drives, or is about to.
+    """The sagas that this program executes, or is about to.
 
     Attributes:
         by_key: The sagas.
-        starts: Who waits until a saga is in the store.
-        ends: Who waits until a saga's end is in the store.
-        driven: Is told each saga that is in the store, and driven here.
-        unused: Is called where a saga has ended without a report that was accepted.
-        answered: If set, is called before a caller is notified of the outcome of an abort.
+        starts: Callers that wait until a saga is stored.
+        ends: Callers that wait until the end of a saga is stored.
+        on_executed: Called with each saga that is stored and executed here.
+        on_unused_report: Called when a saga has ended without using an accepted report.
+        before_abort_answer: If set, called before a caller is notified of the outcome of an abort.
     """
 
     def __init__(self, loop: asyncio.AbstractEventLoop) -> None:
         self.by_key: dict[str, SagaInstance] = {}
         self.starts: Waiters[SagaInstance] = Waiters(loop)
         self.ends: Waiters[SagaInstance] = Waiters(loop)
-        self.driven: Callable[[SagaInstance], None] = lambda saga: None
-        self.unused: Callable[[], None] = lambda: None
-        self.answered: Callable[[Abort], object] | None = None
+        self.on_executed: Callable[[SagaInstance], None] = lambda saga: None
+        self.on_unused_report: Callable[[], None] = lambda: None
+        self.before_abort_answer: Callable[[Abort], object] | None = None
         self._loop = loop
         self._aborts: dict[Abort, asyncio.Future[bool]] = {}
-        self._has_told = False
+        self._has_notified = False
         self._empty = asyncio.Event()
-        self._left: SagasError | None = None  # why sagas are left that nobody drives any more
+        self._left: SagasError | None = None  # why open sagas are not executed any more
 
     def add(self, key: str, text: str, kind: Kind, options: StartOptions) -> SagaInstance:
-        """Make one that has a key from now on. Its definition has a place once it has a shard."""
+        """Add a saga, which has its key from now on.
+
+        Its index in the definitions is set when it is assigned to a shard.
+        """
         saga = self.by_key[key] = SagaInstance(key, text, kind, -1, options)
         return saga
 
     def replace(self, before: SagaInstance, saga: SagaInstance) -> None:
-        """A shard has another saga of the same key: who waits for the one waits for the other."""
+        """Replace a saga by the stored one of its key, for all callers that wait."""
         self.by_key[saga.key] = saga
         self.starts.move(before, saga)
         self.ends.move(before, saga)
 
     def remove(self, saga: SagaInstance) -> None:
-        """It is not driven here any more."""
+        """Remove a saga that this program no longer executes."""
         if self.by_key.get(saga.key) is saga:
             del self.by_key[saga.key]
         if not self.by_key:
@@ -59,67 +62,66 @@ class Instances:
     def leave(
         self, saga: SagaInstance, at_start: SagasError | None, at_end: SagasError | None
     ) -> None:
-        """It is not driven here: who waits for its start, or its end, hears why, or that it is
-        there.
-        """
+        """Remove a saga, and notify the callers that wait for its start or its end."""
         self.remove(saga)
-        self.starts.tell(saga, at_start)
-        self.ends.tell(saga, at_end)
+        self.starts.notify(saga, at_start)
+        self.ends.notify(saga, at_end)
 
     def started(self, saga: SagaInstance) -> asyncio.Future[None]:
-        """Return a future that is done once a saga is in the store."""
+        """Return a future that is done once a saga is stored."""
         future = self.starts.wait(saga)
         if saga.committed:
-            self.starts.tell(saga)
+            self.starts.notify(saga)
         return future
 
-    def tell_started(self, saga: SagaInstance) -> None:
-        """It is in the store."""
-        self.driven(saga)
-        self._has_told = self.starts.tell(saga) or self._has_told
+    def notify_started(self, saga: SagaInstance) -> None:
+        """Notify callers that a saga is stored."""
+        self.on_executed(saga)
+        self._has_notified = self.starts.notify(saga) or self._has_notified
 
-    def tell_ended(self, saga: SagaInstance) -> None:
-        """Its end is in the store."""
+    def notify_ended(self, saga: SagaInstance) -> None:
+        """Notify callers that the end of a saga is stored."""
         self.remove(saga)
-        self._has_told = self.ends.tell(saga) or self._has_told
+        self._has_notified = self.ends.notify(saga) or self._has_notified
 
     # -- aborts
 
     def aborted(self, abort: Abort) -> asyncio.Future[bool]:
-        """Return a future of whether a saga is aborted by this."""
+        """Return a future of whether this command aborts the saga."""
         future = self._aborts[abort] = self._loop.create_future()
         return future
 
     def answer_abort(self, abort: Abort) -> None:
-        """Whoever wanted it hears whether the saga is aborted by it."""
+        """Notify the caller whether the saga is aborted by its command."""
         future = self._aborts.pop(abort, None)
         if future and not future.done():
-            if self.answered:
-                self.answered(abort)
+            if self.before_abort_answer:
+                self.before_abort_answer(abort)
             future.set_result(bool(abort.done))
 
     def fail_abort(self, abort: Abort, error: SagasError) -> None:
-        """Whoever wanted it hears why nobody knows."""
+        """Raise an error in the caller of an abort, because its outcome is unknown."""
         future = self._aborts.pop(abort, None)
         if future and not future.done():
             future.set_exception(error)
 
     def fail_aborts(self, error: SagasError) -> None:
-        """As `fail_abort`, of all."""
+        """Raise an error in the callers of all aborts."""
         for abort in list(self._aborts):
             self.fail_abort(abort, error)
 
     # -- turns
 
-    def lets(self) -> bool:
-        """Whether somebody was told something, since this was asked: they have their turn before
-        further functions are called.
+    def must_yield(self) -> bool:
+        """Return whether callers were notified since the last call.
+
+        They get their turn before further functions are called.
         """
-        told, self._has_told = self._has_told, False
-        return told
+        has_notified, self._has_notified = self._has_notified, False
+        return has_notified
 
     async def emptied(self) -> None:
-        """Wait until the last one is gone; at once if there is none. Raises what `close` says."""
+        """Wait until the last saga is gone. Raises the error of `close`."""
         if self.by_key:
             self._empty.clear()
             await self._empty.wait()
@@ -127,7 +129,7 @@ class Instances:
                 raise self._left
 
     def close(self, error: SagasError) -> None:
-        """None is driven any more. If there are any, those who wait in `emptied` hear why."""
+        """Raise an error in callers that wait in `emptied`, if sagas are still open."""
         if self.by_key:
             self._left = error
             self._empty.set()

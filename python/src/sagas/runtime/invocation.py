@@ -21,12 +21,12 @@ from sagas.definition.step import Manner
 from sagas.definition.task import Task
 from sagas.runtime import current_step
 
-MOST_FRAMES = 12
-"""Calls of a thread that are named: the innermost and the outermost."""
+MAX_FRAMES = 12
+"""Maximum number of frames that are named: the innermost and the outermost ones."""
 
 
 async def ended(work: Awaitable[Any], task: Task[Any]) -> Outcome:
-    """Return the outcome of what a function gave to be awaited, and of what comes of that."""
+    """Return the outcome of an awaitable that a function returned, and of nested ones."""
     while True:
         try:
             return outcomes.succeeded(await work, task)
@@ -41,20 +41,20 @@ async def call(
     late: Callable[[str], object] | None = None,
     function: Callable[[Task[Any]], Any] | None = None,
 ) -> Outcome | None:
-    """Call a function: an async one here, a plain one in a thread.
+    """Call a function: an async one in the loop, a plain one in a thread.
 
-    What it returns is awaited here, if it can be: a coroutine, say.
+    If it returns an awaitable, for example a coroutine, that is awaited in the loop.
 
     Args:
         manner: How it is called.
-        task: What it is handed.
-        executor: The threads; None for the loop's own.
-        late: Called when a thread takes longer than its time, with where it is. It is waited for
-            all the same, since it cannot be stopped.
-        function: One in place of the manner's.
+        task: Its argument.
+        executor: The threads; None for those of the loop.
+        late: Called with the stack of a thread whose function exceeds its timeout. The function is
+            awaited nevertheless, because a thread cannot be stopped.
+        function: A function in place of the one of `manner`.
 
     Returns:
-        What it came to. None: it was cancelled from outside, and nobody knows what it did.
+        The outcome. None if the call was cancelled from outside, and the outcome is unknown.
     """
     function = function or manner.function
     assert function
@@ -71,7 +71,7 @@ async def call(
 
 
 def interrupted(error: BaseException, manner: Manner) -> Outcome | None:
-    """As `outcomes.raised`; None if it was cancelled from outside, and nobody knows what it did."""
+    """Return the outcome of an exception; None if the call was cancelled from outside."""
     if isinstance(error, asyncio.CancelledError):
         current = asyncio.current_task()
         if current and current.cancelling():
@@ -86,12 +86,12 @@ async def call_alone(
     executor: Executor | None,
     late: Callable[[str], object] | None,
 ) -> Outcome | None:
-    """As `call`, of a function that is in no transaction of the store."""
+    """Call a function outside of any transaction of the store. See `call`."""
     return await call(manner, task, executor, late)
 
 
 async def _in_time(work: Awaitable[Any], left: float, task: Task[Any], manner: Manner) -> Outcome:
-    """Await what a function gave in what is left of its time."""
+    """Await what a function returned, within the rest of its timeout."""
     scope = asyncio.timeout(left)
     try:
         async with scope:
@@ -104,16 +104,16 @@ async def _in_time(work: Awaitable[Any], left: float, task: Task[Any], manner: M
         )
 
 
-def place_of(thread: int | None) -> str:
-    """Where a thread is, the innermost call first, out to the step's function."""
-    frame, found = sys._current_frames().get(thread or 0), list[str]()
+def stack_of(thread: int | None) -> str:
+    """Return the stack of a thread, innermost call first, out to the step's function."""
+    frame, frames = sys._current_frames().get(thread or 0), list[str]()
     while frame is not None and frame.f_code.co_filename != __file__:
         code = frame.f_code
-        found.append(f"{code.co_filename}:{frame.f_lineno} in {code.co_qualname}")
+        frames.append(f"{code.co_filename}:{frame.f_lineno} in {code.co_qualname}")
         frame = frame.f_back
-    if len(found) > MOST_FRAMES:
-        found[MOST_FRAMES // 2 : -MOST_FRAMES // 2] = [".."]
-    return " < ".join(found) or "it waits for a thread"
+    if len(frames) > MAX_FRAMES:
+        frames[MAX_FRAMES // 2 : -MAX_FRAMES // 2] = ["..."]
+    return " < ".join(frames) or "it waits for a thread"
 
 
 def _guarded(
@@ -124,12 +124,10 @@ def _guarded(
     try:
         with current_step.in_thread():
             return function(task), None
-    except BaseException as error:  # a future would not take each of them
+    except BaseException as error:  # a future does not accept every exception
         return None, error
     finally:
-        if (
-            os.getpid() != pid
-        ):  # it forked, and its child came back here: that has no store and no loop
+        if os.getpid() != pid:  # a forked child process returned here, without a store
             os._exit(70)
 
 
@@ -147,7 +145,7 @@ async def _in_thread(
         nonlocal overdue
         overdue = True
         if late:
-            late(place_of(threads[0] if threads else None))
+            late(stack_of(threads[0] if threads else None))
 
     timer = loop.call_later(manner.timeout, over) if manner.timeout is not None else None
     try:

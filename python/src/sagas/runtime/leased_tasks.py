@@ -1,4 +1,4 @@
-"""What workers get of external steps, and how many tasks wait for them."""
+"""Tasks of external steps as workers get them, and the queues of these tasks."""
 
 from __future__ import annotations
 
@@ -8,7 +8,7 @@ from typing import Any
 from sagas.definition.task import Task
 
 Word = tuple[str, str, str]
-"""A saga's name, a step's, and `run` or `undo`."""
+"""The name of a saga, the name of a step, and `run` or `undo`."""
 
 
 @dataclasses.dataclass(frozen=True, slots=True)
@@ -31,10 +31,10 @@ class LeasedTask:
 
     @property
     def size(self) -> int:
-        """Characters of its values, as JSON."""
+        """Number of characters of its values, as JSON."""
         texts = self.task.texts
-        own = (self.given, texts["input"], texts["result"] or "")
-        return sum(map(len, own)) + sum(map(len, texts["results"].values()))
+        own_texts = (self.given, texts["input"], texts["result"] or "")
+        return sum(map(len, own_texts)) + sum(map(len, texts["results"].values()))
 
 
 @dataclasses.dataclass(frozen=True, slots=True)

@@ -14,27 +14,27 @@ from sagas.definition.context import Context, Manager
 
 
 class Lifespan:
-    """What a context is from the opening of a store to its end.
+    """The context of a store from its opening to its end.
 
-    One task enters and leaves the context manager, since task groups and time limits inside it
-    ask for that; a store may be closed by another task than it was opened by.
+    One task enters and leaves the context manager, because task groups and timeouts require that. A
+    store may be closed by another task than the one that opened it.
 
     Attributes:
-        hurry: Done where a further call asks to close the store sooner.
+        hurry: Done when a further call asks to close the store sooner.
     """
 
-    def __init__(self, given: Any, shared: Context) -> None:
-        self._given, self._shared = given, shared
+    def __init__(self, source: Any, shared: Context) -> None:
+        self._source, self._shared = source, shared
         self._job: asyncio.Task[None] | None = None
         self._is_over = asyncio.Event()
         self._closing: asyncio.Task[None] | None = None
         self.hurry: asyncio.Future[None] = asyncio.get_running_loop().create_future()
 
     async def enter(self) -> None:
-        """Enter it. Raises what the factory, or its context manager, raises."""
-        if not context.is_factory(self._given):
-            if self._given is not None:
-                self._shared.put(self._given)
+        """Enter the context. Raises what the factory or the context manager raises."""
+        if not context.is_factory(self._source):
+            if self._source is not None:
+                self._shared.put(self._source)
             return
         ready = asyncio.get_running_loop().create_future()
         job = asyncio.create_task(self._hold(ready))
@@ -54,12 +54,14 @@ class Lifespan:
         return self._closing is not None and self._closing.done()
 
     async def end(self, close: Callable[[], Coroutine[Any, Any, None]], left: float | None) -> None:
-        """Close the store, and leave the context. Where a caller is cancelled, that goes on; each
-        further call waits for it, and after so many seconds it is to hurry.
+        """Close the store, and leave the context.
+
+        If a caller is cancelled, the closing continues. Each further call waits for it, and asks it
+        to hurry after `left` seconds.
         """
         if self._closing is None:
             self._closing = asyncio.create_task(self._end(close))
-        elif self._closing.done():  # whoever waited for it heard how it went
+        elif self._closing.done():  # its caller got the outcome
             return
         elif left is not None:
             await asyncio.wait([self._closing], timeout=left)
@@ -74,14 +76,14 @@ class Lifespan:
             await self.leave()
 
     async def leave(self) -> None:
-        """Leave it. Raises what its context manager raises."""
+        """Leave the context. Raises what its context manager raises."""
         job, self._job = self._job, None
         if job:
             self._is_over.set()
             await job
 
     async def _hold(self, ready: asyncio.Future[None]) -> None:
-        async with _entered(context.made(self._given)) as value:
+        async with _entered(context.made(self._source)) as value:
             self._shared.put(value)
             ready.set_result(None)
             try:
@@ -99,7 +101,7 @@ def _entered(manager: Manager) -> contextlib.AbstractAsyncContextManager[Any]:
 
 @contextlib.asynccontextmanager
 async def _in_threads(manager: contextlib.AbstractContextManager[Any]) -> Any:
-    """A plain one may block, as plain functions do."""
+    """Enter and leave a plain context manager in a thread, because it may block."""
     value = await asyncio.to_thread(manager.__enter__)
     try:
         yield value

@@ -1,7 +1,7 @@
-"""Compares attempts that wait for external workers with their rows, and offers them again.
+"""Compares external attempts with their rows, and offers them again.
 
-The row of an attempt is open from the commit that offers it until somebody reports it. Where that
-is not so, after a fault or a change of the table by hand, no worker would ever get the attempt.
+The row of an attempt is open from the commit that offers it until the attempt is reported. If it is
+not, after a failure or a manual change of the table, no worker would ever get the attempt.
 """
 
 from __future__ import annotations
@@ -28,44 +28,44 @@ REASONS = {
     "suspended": "its row was closed as if its outcome was unknown",
     "person": "its row was closed as if an operator had to decide",
 }
-"""Why no worker could get an attempt, by the outcome of its row; None where there is no row."""
+"""Why no worker could get an attempt, by the outcome of its row; None if there is no row."""
 
 
-def is_out(attempt: Attempt) -> bool:
-    """Whether it waits for a worker, or for the one that has it."""
+def awaits_worker(attempt: Attempt) -> bool:
+    """Return whether an attempt waits for a worker, or for the one that has it."""
     return attempt.state is SUSPENDED and attempt.reason is Suspension.EXTERNAL
 
 
 class OfferCheck:
-    """Checks the attempts of this program's shards, now and then.
+    """Checks the attempts of this program's shards from time to time.
 
     Args:
-        owner: The coordinator.
-        is_moving: Whether a row of an attempt is on its way to the store.
+        coordinator: The coordinator.
+        is_moving: Returns whether a row of an attempt is being stored.
         offer: Offers an attempt again.
     """
 
     def __init__(
         self,
-        owner: Coordinator,
+        coordinator: Coordinator,
         is_moving: Callable[[Attempt], bool],
         offer: Callable[[Attempt], None],
     ) -> None:
-        self._owner, self._is_moving, self._offer = owner, is_moving, offer
-        self._due = owner.loop.time() + PAUSE
+        self._coordinator, self._is_moving, self._offer = coordinator, is_moving, offer
+        self._due = coordinator.loop.time() + PAUSE
         self._reasons: dict[Attempt, str] = {}
 
     def look(self) -> None:
-        """Check if it is time for that."""
-        now = self._owner.loop.time()
-        if now >= self._due and not self._owner.closed:
+        """Start a check if it is due."""
+        now = self._coordinator.loop.time()
+        if now >= self._due and not self._coordinator.closed:
             self._due = now + PAUSE
-            self._owner.spawn(self.check())
+            self._coordinator.spawn(self.check())
 
     async def check(self) -> None:
-        """Offer again what waits here for a worker and has no open row."""
-        for runner in list(self._owner.shards.runners.values()):
-            with contextlib.suppress(StoreUnavailable):  # the next check tells
+        """Offer attempts again that wait for a worker and have no open row."""
+        for runner in list(self._coordinator.shards.runners.values()):
+            with contextlib.suppress(StoreUnavailable):  # the next check repeats it
                 await self._check(runner.driver)
             await asyncio.sleep(0)
 
@@ -74,7 +74,7 @@ class OfferCheck:
         attempts = {attempt.token(): attempt for attempt in self._waiting(shard)}
         if not attempts:
             return
-        outcomes = await self._owner.store.external.outcomes([*attempts])
+        outcomes = await self._coordinator.store.external.outcomes([*attempts])
         if shard.epoch != epoch:
             return  # its attempts were offered again, and may be claimed
         waiting = set(self._waiting(shard))
@@ -86,20 +86,24 @@ class OfferCheck:
                 self._offer(attempt)
 
     def _waiting(self, shard: ShardDriver) -> Iterator[Attempt]:
-        """The attempts of a shard whose rows are open, as far as this program knows."""
+        """Yield the attempts of a shard whose rows are open, as far as this program knows."""
         if not shard.is_known:
             return
         for saga in shard.sagas.values():
             if saga.kind.has_external:
                 for attempt in saga.busy.values():
-                    if is_out(attempt) and not attempt.pending and not self._is_moving(attempt):
+                    if (
+                        awaits_worker(attempt)
+                        and not attempt.pending
+                        and not self._is_moving(attempt)
+                    ):
                         yield attempt
 
     def offered(self, attempt: Attempt) -> None:
-        """The row of an attempt is in the store: tell if that was missing."""
+        """Emit an event if the row of an attempt was missing, and is stored now."""
         if reason := self._reasons.pop(attempt, None):
-            self._owner.executor.tell(attempt, EVENT, f"no worker could get it: {reason}")
+            self._coordinator.executor.emit(attempt, EVENT, f"no worker could get it: {reason}")
 
     def gone(self, attempt: Attempt) -> None:
-        """An attempt is over, or is not this program's any more."""
+        """Forget an attempt that is over, or that another program has."""
         self._reasons.pop(attempt, None)

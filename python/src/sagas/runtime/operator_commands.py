@@ -18,18 +18,21 @@ if TYPE_CHECKING:
     from sagas.runtime.coordinator import Coordinator
 
 
-MOST, PAUSE = 1000, 0.5
-"""Requests that are read at once, and seconds until further ones are read if so many are under
-way."""
+MAX_REQUESTS, PAUSE = 1000, 0.5
+"""Maximum number of requests of one read, and seconds until the next read if that many are in
+progress.
+"""
 
 
-class Carrier(Protocol):
-    """What carries out a command, of a saga by its key. `request`: the command's number; `of`: the
-    id of the saga that is meant.
+class CommandExecutor(Protocol):
+    """Executes commands on sagas, by key.
+
+    In its methods, `request` is the number of the command, and `of` the id of the saga that is
+    meant.
     """
 
     async def abort(self, key: str, request: Wanted, of: int | None = None) -> bool:
-        """As `Store.abort`."""
+        """See `Store.abort`."""
 
     async def report(
         self,
@@ -41,54 +44,59 @@ class Carrier(Protocol):
         of: int | None = None,
         early: bool = True,
     ) -> None:
-        """As `Store.complete` and `Store.fail`."""
+        """See `Store.complete` and `Store.fail`."""
 
     async def retry(
         self, key: str, step: str, undo: bool, request: Wanted, of: int | None = None
     ) -> None:
-        """As `Store.retry`."""
+        """See `Store.retry`."""
 
 
-class Compensations(Protocol):
-    """What has reports undone that were not used."""
+class ReportCompensator(Protocol):
+    """Has unused reports compensated."""
 
     async def compensate(self, key: str, step: str, request: Wanted, of: int | None = None) -> None:
-        """As `Store.compensate`."""
+        """See `Store.compensate`."""
 
 
-def report_of(
+def report_command(
     step: str, kind: str, outcome: Outcome, early: bool, payloads: Payloads
 ) -> tuple[str, dict[str, Any]]:
-    """The command that says how a step ended, and what is kept of it."""
-    told, value = words_of(step, kind, early), json.loads(outcome.value)
+    """Return the command that reports the outcome of a step, and its stored arguments."""
+    arguments, value = step_arguments(step, kind, early), json.loads(outcome.value)
     if outcome.kind is OutcomeKind.SUCCEEDED:
-        return "complete", told | {"result": payloads.encode_value(value)}
-    return "fail", told | {"error": value["error"]}
+        return "complete", arguments | {"result": payloads.encode_value(value)}
+    return "fail", arguments | {"error": value["error"]}
 
 
-def words_of(step: str, kind: str, early: bool) -> dict[str, Any]:
-    """What a command says of a step; whether it may come early, only where it may not."""
-    told: dict[str, Any] = {"step": step, "kind": kind}
-    return told if early else told | {"early": False}
+def step_arguments(step: str, kind: str, early: bool) -> dict[str, Any]:
+    """Return the arguments of a command about a step.
+
+    `early` is included only if it is false.
+    """
+    arguments: dict[str, Any] = {"step": step, "kind": kind}
+    return arguments if early else arguments | {"early": False}
 
 
-class Requests:
-    """Does what rows without an answer ask, and answers in the commit that holds its events."""
+class RequestExecutor:
+    """Executes requests of the store, and replies in the commit that has their events."""
 
-    def __init__(self, owner: Coordinator, carrier: Carrier, reports: Compensations) -> None:
-        self._owner, self._carrier, self._reports = owner, carrier, reports
+    def __init__(
+        self, coordinator: Coordinator, executor: CommandExecutor, compensator: ReportCompensator
+    ) -> None:
+        self._coordinator, self._executor, self._compensator = coordinator, executor, compensator
         self._loop = asyncio.get_running_loop()
         self._doing: dict[int, asyncio.Task[None]] = {}
         self._looking: asyncio.Task[None] | None = None
         self._again = False
 
     def stop(self) -> None:
-        """Nothing more is done; what has no answer yet is asked again of the next program."""
+        """Stop. The next program executes the requests without a reply."""
         for job in (*self._doing.values(), *([self._looking] if self._looking else [])):
             job.cancel()
 
     def look(self) -> None:
-        """There may be some."""
+        """Read requests, because there may be some."""
         if self._looking is None or self._looking.done():
             self._looking = self._loop.create_task(self._look())
         else:
@@ -100,13 +108,13 @@ class Requests:
             after: int | None = -1
             while after is not None:
                 try:
-                    rows = await self._owner.store.requests(after, MOST)
+                    rows = await self._coordinator.store.requests(after, MAX_REQUESTS)
                 except StoreUnavailable:
                     return
                 for row in rows:
                     self._begin(row)
-                after = rows[-1][0] if len(rows) == MOST else None
-                if len(self._doing) >= MOST:  # reports may wait for long, and hold up nobody
+                after = rows[-1][0] if len(rows) == MAX_REQUESTS else None
+                if len(self._doing) >= MAX_REQUESTS:  # reports may wait for a long time
                     await asyncio.wait(self._doing.values(), timeout=PAUSE)
             if not self._again:
                 return
@@ -121,33 +129,35 @@ class Requests:
         if not job.cancelled() and job.exception():
             logger.error("request %d: %r", id, job.exception())
 
-    async def _do(self, id: int, key: str, what: str, value: str | None, of: int | None) -> None:
+    async def _do(self, id: int, key: str, command: str, value: str | None, of: int | None) -> None:
         try:
-            answer = await self._ask(id, key, what, json.loads(value or "null"), of)
-        except (Closed, Moved):  # the next program, or the node that has the saga, answers
+            answer = await self._ask(id, key, command, json.loads(value or "null"), of)
+        except (Closed, Moved):  # the next program, or the node that has the saga, replies
             return
         except SagasError as error:
             answer = {"error": f"{type(error).__name__}: {error}"}
         except (TypeError, ValueError, KeyError, RecursionError) as error:
             answer = {"error": f"invalid request: {error}"}
-        batch = Batch(-1, self._owner.clock())
+        batch = Batch(-1, self._coordinator.clock())
         batch.more.answers.append((json.dumps(answer), id))
-        self._owner.commits.put_alone(batch)
+        self._coordinator.commits.put_alone(batch)
 
-    async def _ask(self, id: int, key: str, what: str, told: Any, of: int | None) -> Any:
-        if what == "abort":
-            return await self._carrier.abort(key, id, of)
-        if what in ("complete", "fail"):
-            error = str(told["error"]) if what == "fail" else None
-            result = self._owner.shelf.payloads.decode_value(told.get("result"))
+    async def _ask(self, id: int, key: str, command: str, arguments: Any, of: int | None) -> Any:
+        if command == "abort":
+            return await self._executor.abort(key, id, of)
+        if command in ("complete", "fail"):
+            error = str(arguments["error"]) if command == "fail" else None
+            result = self._coordinator.registry.payloads.decode_value(arguments.get("result"))
             outcome = reported(result, error)
-            undo, early = told.get("kind") == "undo", told.get("early") is not False
-            await self._carrier.report(key, told["step"], outcome, undo, id, of, early)
+            undo, early = arguments.get("kind") == "undo", arguments.get("early") is not False
+            await self._executor.report(key, arguments["step"], outcome, undo, id, of, early)
             return True
-        if what == "retry":
-            await self._carrier.retry(key, told["step"], told.get("kind") == "undo", id, of)
+        if command == "retry":
+            await self._executor.retry(
+                key, arguments["step"], arguments.get("kind") == "undo", id, of
+            )
             return True
-        if what == "compensate":
-            await self._reports.compensate(key, told["step"], id, of)
+        if command == "compensate":
+            await self._compensator.compensate(key, arguments["step"], id, of)
             return True
-        raise ValueError(what)
+        raise ValueError(command)

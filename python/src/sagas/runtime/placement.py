@@ -18,30 +18,30 @@ from sagas.runtime.shard_runner import ShardRunner
 from sagas.storage.interface import Database
 
 
-class Home(Protocol):
-    """The shards of the program."""
+class ShardsForPlacement(Protocol):
+    """The shards of the program, as the placement of sagas uses them."""
 
     closed: SagasError | None
 
     def run(self, driver: ShardDriver) -> ShardRunner:
-        """Drive a shard from now on."""
+        """Execute a shard from now on."""
 
     def refuse(self, saga: SagaInstance, error: SagasError) -> None:
-        """It is not begun."""
+        """Refuse the start of a saga."""
 
-    def found(self, saga: SagaInstance, row: SagaRow) -> None:
-        """Another shard has its key."""
+    def key_taken(self, saga: SagaInstance, row: SagaRow) -> None:
+        """Handle that another shard has a saga with the key."""
 
     def close_if_over(self, runner: ShardRunner) -> None:
-        """Nothing of a shard may be open any more."""
+        """Close a shard if it has no open saga any more."""
 
 
 class Placement:
-    """Puts sagas into shards.
+    """Assigns sagas to shards.
 
     Attributes:
-        current: The shards that take sagas, by the digest of their definitions.
-        waiting: Sagas that go into a shard in this turn of the loop.
+        current: The shards that accept sagas, by the digest of their definitions.
+        waiting: Sagas that are assigned in this turn of the loop.
     """
 
     def __init__(
@@ -50,17 +50,18 @@ class Placement:
         definitions: Shelf,
         sagas: Instances,
         loop: asyncio.AbstractEventLoop,
-        home: Home,
+        shards: ShardsForPlacement,
     ) -> None:
         self._store, self._definitions, self._sagas = store, definitions, sagas
-        self._loop, self._home = loop, home
+        self._loop, self._shards = loop, shards
         self.current: dict[str, ShardRunner] = {}
         self.waiting: list[SagaInstance] = []
 
-    def place(self, saga: SagaInstance) -> None:
-        """Put a saga into a shard, with what else is placed in this turn of the loop, unless its
-        key is there, where that is looked for. Its callers, who may wait in a moment, hear why it
-        is not.
+    def assign(self, saga: SagaInstance) -> None:
+        """Assign a saga to a shard, together with others of this turn of the loop.
+
+        If the store is a file, the key is looked up first. If the key is taken, callers receive the
+        reason in a later turn, so that they can wait for it.
         """
         self.waiting.append(saga)
         if len(self._sagas.by_key) == 1:
@@ -69,24 +70,26 @@ class Placement:
             self._loop.call_soon(self.fill)
 
     def fill(self, asker: ShardRunner | None = None) -> None:
-        """Put those into shards that wait. `asker` is about to ask its engine."""
+        """Assign all waiting sagas. `asker` is a shard that is about to ask its engine."""
         if not self.waiting:
             return
         waiting, self.waiting = self.waiting, []
-        there: dict[str, SagaRow] = {}
+        stored_rows: dict[str, SagaRow] = {}
         try:
-            if self._home.closed:
-                raise self._home.closed
+            if self._shards.closed:
+                raise self._shards.closed
             if not self._store.shared:
-                there = self._store.find_many([one.key for one in waiting if not one.guessed])
+                stored_rows = self._store.find_many(
+                    [saga.key for saga in waiting if not saga.guessed]
+                )
         except SagasError as error:
             for saga in waiting:
-                self._loop.call_soon(self._home.refuse, saga, error)
+                self._loop.call_soon(self._shards.refuse, saga, error)
             return
         filled: dict[ShardRunner, None] = {}
         for saga in waiting:
-            if saga.key in there:
-                self._loop.call_soon(self._home.found, saga, there[saga.key])
+            if saga.key in stored_rows:
+                self._loop.call_soon(self._shards.key_taken, saga, stored_rows[saga.key])
             elif runner := self._put(saga):
                 filled[runner] = None
         for runner in filled:
@@ -94,12 +97,12 @@ class Placement:
                 runner.poke(at_once=True)
 
     def forget(self, runner: ShardRunner) -> None:
-        """A shard takes no more sagas."""
+        """Have a shard accept no more sagas."""
         if self.is_current(runner):
             del self.current[runner.driver.identity.definitions.digest]
 
     def is_current(self, runner: ShardRunner) -> bool:
-        """Whether a shard takes sagas."""
+        """Return whether a shard accepts sagas."""
         return self.current.get(runner.driver.identity.definitions.digest) is runner
 
     def _put(self, saga: SagaInstance) -> ShardRunner | None:
@@ -109,25 +112,25 @@ class Placement:
             try:
                 runner = self._create(definitions, kind)
             except SagasError as error:
-                self._loop.call_soon(self._home.refuse, saga, error)
+                self._loop.call_soon(self._shards.refuse, saga, error)
                 return None
         saga.place = runner.driver.identity.definitions.place(kind)
         runner.driver.open(saga)
         return runner
 
     def _takes(self, runner: ShardRunner, kind: Kind) -> bool:
-        """Whether a shard takes one more saga, of this definition."""
+        """Return whether a shard has room for one more saga of this definition."""
         has_room = runner.driver.identity.definitions.has_room(kind)
         return has_room and runner.driver.has_room(self._definitions.room)
 
     def _create(self, definitions: DefinitionSet, kind: Kind) -> ShardRunner:
-        """Make a shard. None is without a definition: an audit of it would have none to read."""
+        """Create a shard. It has at least one definition, because an audit needs one."""
         before = self.current.get(definitions.digest)
         number, name = self._store.new_log(), secrets.token_hex(8)
         of = ShardDefinitions(definitions.kinds or [kind], definitions.digest)
         identity = ShardIdentity(number, name, of)
-        runner = self._home.run(ShardDriver.created(identity, self._store.line))
+        runner = self._shards.run(ShardDriver.created(identity, self._store.line))
         self.current[definitions.digest] = runner
         if before:
-            self._loop.call_soon(self._home.close_if_over, before)
+            self._loop.call_soon(self._shards.close_if_over, before)
         return runner

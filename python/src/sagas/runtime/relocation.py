@@ -27,70 +27,79 @@ INPUT = "SELECT input FROM sagas WHERE key = ?"
 
 
 def conflict(
-    key: str, kind: Kind | Saga, text: str, name: str, there: str, payloads: Payloads | None = None
+    key: str,
+    kind: Kind | Saga,
+    text: str,
+    stored_name: str,
+    stored_input: str,
+    payloads: Payloads | None = None,
 ) -> KeyConflict | None:
-    """Return what a start meets where its key has a saga; None if it is the same.
+    """Return the error of a start whose key is used; None if it is the same saga.
 
     Args:
         key: The key.
         kind: The saga of the start.
-        text: Its input.
-        name: The saga that the key has.
-        there: The input of that one.
-        payloads: How inputs are stored; as of the kind, if none is given.
+        text: The input of the start.
+        stored_name: The name of the saga that has the key.
+        stored_input: The input of the saga that has the key.
+        payloads: How inputs are stored (default: those of `kind`).
     """
     saga = kind.name
-    if name != saga:
-        return KeyConflict(f"key {key!r} belongs to a saga {name!r}, not {saga!r}. Use another key")
-    if there != text:
-        own: Payloads = getattr(kind, "payloads", PLAIN)
-        stored = payloads or own
+    if stored_name != saga:
+        return KeyConflict(
+            f"key {key!r} belongs to a saga {stored_name!r}, not {saga!r}. Use another key"
+        )
+    if stored_input != text:
+        kind_payloads: Payloads = getattr(kind, "payloads", PLAIN)
+        stored = payloads or kind_payloads
         text = stored.decode(text)
-        if reference := Reference.of(there):
+        if reference := Reference.of(stored_input):
             if reference.is_of(text):
                 return None
             return KeyConflict(f"key {key!r} belongs to a saga with another input. Use another key")
-        there = stored.decode(there)
-    if there != text and (differ := input_equality.differences(kind, there, text)):
-        told = mismatches.told(differ)
+        stored_input = stored.decode(stored_input)
+    if stored_input != text and (differ := input_equality.differences(kind, stored_input, text)):
+        paths = mismatches.told(differ)
         return KeyConflict(
-            f"key {key!r} belongs to a saga with another input, which differs at {told}. "
+            f"key {key!r} belongs to a saga with another input, which differs at {paths}. "
             "Use another key"
         )
     return None
 
 
-async def conflict_there(
+async def conflict_with_stored(
     store: Database,
     key: str,
     kind: Kind | Saga,
     text: str,
-    name: str,
-    there: str,
+    stored_name: str,
+    stored_input: str,
     payloads: Payloads | None = None,
 ) -> KeyConflict | None:
-    """As `conflict`. An input that is outside of the database is read if its digest is another one:
-    it may be the same under other types. Raises `StoreUnavailable`.
+    """Return the error of a start whose key is used, as `conflict`.
+
+    An input outside of the database is read if its digest differs: it may be equal with other
+    types. Raises `StoreUnavailable`.
     """
-    error = conflict(key, kind, text, name, there, payloads)
-    if error and name == kind.name and Reference.of(there):
+    error = conflict(key, kind, text, stored_name, stored_input, payloads)
+    if error and stored_name == kind.name and Reference.of(stored_input):
         for (whole,) in await store.read(INPUT, key):
-            error = conflict(key, kind, text, name, whole, payloads)
+            error = conflict(key, kind, text, stored_name, whole, payloads)
     return error
 
 
-class Home(Protocol):
-    """The shards of the program."""
+class ShardsForRelocation(Protocol):
+    """The shards of the program, as the relocation of sagas uses them."""
 
-    def place(self, saga: SagaInstance) -> None:
-        """Open it in a shard."""
+    def assign(self, saga: SagaInstance) -> None:
+        """Open a saga in a shard."""
 
     def doubt(self) -> None:
-        """Starts of clients that are this node's may not be under way."""
+        """Mark that starts of clients that this node has claimed may be lost."""
 
 
 class Relocation:
-    """Lets sagas go that this program does not drive, and opens others in another shard."""
+    """Releases sagas that other nodes execute, and opens sagas in another shard."""
 
     def __init__(
         self,
@@ -100,46 +109,47 @@ class Relocation:
         commits: CommitQueue,
         clock: Callable[[], float],
         spawn: Callable[[Coroutine[None, None, None]], object],
-        home: Home,
+        shards: ShardsForRelocation,
     ) -> None:
         self._store, self._sagas, self._executor, self._commits = store, sagas, executor, commits
-        self._clock, self._spawn, self._home = clock, spawn, home
+        self._clock, self._spawn, self._shards = clock, spawn, shards
 
     def leave(self, saga: SagaInstance, error: SagasError | None) -> None:
-        """It is not driven here: who waits looks into the store; who started it hears why it is
-        not that saga.
+        """Stop executing a saga here.
+
+        Callers that wait for its end check the store. Callers that started it receive `error`.
         """
         self._sagas.leave(saga, error, Moved("this node does not execute the saga"))
         for attempt in saga.busy.values():
-            self._executor.changes.tell(attempt)
+            self._executor.changes.notify(attempt)
 
-    def found(self, saga: SagaInstance, row: SagaRow, is_whole: bool = False) -> None:
-        """Another shard has the key: that is the saga, or a conflict. `is_whole`: a large input was
-        looked for in the blob store.
+    def key_taken(self, saga: SagaInstance, row: SagaRow, is_whole: bool = False) -> None:
+        """Handle that another shard has the key: with the same saga, or with a conflict.
+
+        With `is_whole`, a large input was read from the blob store.
         """
         error = conflict(saga.key, saga.kind, saga.text, row.saga, row.input)
-        if (
-            error and Reference.of(row.input) and not is_whole
-        ):  # it may be the same under other types
+        # a large input may be equal with other types
+        if error and Reference.of(row.input) and not is_whole:
             self._spawn(self._move(saga))
             return
         if saga.start is not None:
             self._spawn(self._begun(saga.start, None if error else row.id))
         self.leave(saga, error)
 
-    def meet(self, saga: SagaInstance) -> None:
-        """Another saga has its key, and is driven here: it is read, and compared with that."""
-        self._spawn(self._meet(saga))
+    def compare_with_stored(self, saga: SagaInstance) -> None:
+        """Read the stored saga of the same key, and compare it with this one."""
+        self._spawn(self._compare_with_stored(saga))
 
-    async def _meet(self, saga: SagaInstance) -> None:
+    async def _compare_with_stored(self, saga: SagaInstance) -> None:
         row = await until_answered(lambda: self._whole(saga.key))
         if row is not None and row.id >= 0:
-            self.found(saga, row, is_whole=True)
+            self.key_taken(saga, row, is_whole=True)
         else:
             self.leave(saga, None)
 
     async def _whole(self, key: str) -> SagaRow | None:
-        """The saga with this key, with its input."""
+        """Return the saga with this key, with its whole input."""
         row = await self._store.find(key)
         if row is not None and Reference.of(row.input):
             for (text,) in await self._store.read(INPUT, key):
@@ -147,35 +157,41 @@ class Relocation:
         return row
 
     async def _begun(self, start: int, saga: int | None) -> None:
-        """A client's start is a saga that was there, or none: it is to be begun by nobody."""
+        """Mark a client's start as done, with its saga or None, so that no node opens it."""
         batch = Batch(-1, self._clock())
         batch.more.begun.append((start, saga))
         try:
             await self._commits.kept(batch)
         except SagasError:
-            self._home.doubt()
+            self._shards.doubt()
 
     async def find_elsewhere(self, driver: ShardDriver, rows: Loaded) -> None:
-        """Of the sagas that were asked to be opened in a shard, take out those whose keys are
-        other sagas': of another shard, or over in this one.
+        """Withdraw unconfirmed starts in a shard whose keys other sagas have.
+
+        These sagas are in another shard, or have ended in this one.
         """
-        there = {key for _, key, *_ in rows.open}
-        asked = [one for one in driver.sent if not one.committed and one.key not in there]
-        others = await asyncio.gather(*(self._store.find(saga.key) for saga in asked))
-        for saga, other in zip(asked, others):
+        open_keys = {key for _, key, *_ in rows.open}
+        unconfirmed = [
+            saga for saga in driver.sent if not saga.committed and saga.key not in open_keys
+        ]
+        others = await asyncio.gather(*(self._store.find(saga.key) for saga in unconfirmed))
+        for saga, other in zip(unconfirmed, others):
             if other is not None and (other.id >= 0 or saga.guessed):
                 driver.sent.pop(saga, None)
                 saga.number, saga.shard = -1, None
-                self.found(saga, other)
+                self.key_taken(saga, other)
 
-    def let_go(self, driver: ShardDriver) -> None:
-        """A shard is another node's: what was begun here is stopped, and who waits looks there."""
+    def stop_shard(self, driver: ShardDriver) -> None:
+        """Stop what was started in a shard that another node has now.
+
+        Callers that wait check the store.
+        """
         moved = Moved("the saga moved to another node")
         sagas, opens = list(driver.sagas.values()), [*driver.sent, *driver.opens]
         attempts = dict.fromkeys(driver.unkept())
         attempts |= {attempt: None for saga in sagas for attempt in saga.busy.values()}
         for attempt in attempts:
-            self._executor.kept.tell(attempt, moved)
+            self._executor.kept.notify(attempt, moved)
             self._executor.forget(attempt)
         self._executor.early.look_again(driver.number, moved)
         for saga in sagas:
@@ -188,24 +204,22 @@ class Relocation:
                 saga.number, saga.shard = -1, None
                 self._spawn(self._move(saga))
 
-    def tell_closed(self, driver: ShardDriver, error: SagasError) -> None:
-        """The store is closed: who waits for a step of a shard hears so."""
+    def notify_closed(self, driver: ShardDriver, error: SagasError) -> None:
+        """Notify callers that wait for steps of a shard that the store is closed."""
         self._executor.early.look_again(driver.number, error)
         for attempt in driver.unkept():
-            self._executor.kept.tell(attempt, error)
+            self._executor.kept.notify(attempt, error)
         for saga in driver.sagas.values():
             for attempt in saga.busy.values():
-                self._executor.kept.tell(attempt, error)  # it was to be called again
-                self._executor.changes.tell(attempt)
+                self._executor.kept.notify(attempt, error)  # a retry was requested
+                self._executor.changes.notify(attempt)
 
     async def _move(self, saga: SagaInstance) -> None:
-        """It was to be opened in a shard that is lost: it is there already, or another one takes
-        it.
-        """
+        """Open a saga of a lost shard elsewhere, unless it is stored already."""
         row = await until_answered(lambda: self._whole(saga.key))
         if self._sagas.by_key.get(saga.key) is not saga:
             return
         if row is not None and (row.id >= 0 or saga.start is None):
-            self.found(saga, row, is_whole=True)
+            self.key_taken(saga, row, is_whole=True)
         else:
-            self._home.place(saga)
+            self._shards.assign(saga)

@@ -1,7 +1,7 @@
 """Steps on workers of a queue: the message out, the report back.
 
-Steps whose functions workers of a queue call: an attempt goes out as a message, and its report
-comes back through the store.
+Workers of a queue call the functions of these steps. An attempt is sent as a message, and its
+report returns through the store.
 """
 
 from __future__ import annotations
@@ -20,57 +20,55 @@ if TYPE_CHECKING:
     from sagas.core.model import Attempt
     from sagas.definition.saga import Saga
     from sagas.definition.step import Manner, RemoteQueue, Step
-    from sagas.runtime.executor_host import External
+    from sagas.runtime.executor_host import ExternalTasks
     from sagas.storage.interface import Database
 
-MOST_CARRIED = 64 << 10
-"""Bytes of input and results that an order carries; what is more is fetched from the store by
-who has the order.
-"""
-FIRST_PAUSE, MOST_PAUSE = 0.05, 2.0  # seconds between two tries to send
+MAX_CARRIED = 64 << 10
+"""Maximum bytes of input and results in an order. The worker reads larger values from the store."""
+FIRST_PAUSE, MAX_PAUSE = 0.05, 2.0  # seconds between two tries to send
 
 
 class Unsent(SagasError):
-    """The order could not be handed over, or nobody knows whether it was: it is sent again."""
+    """The order was not sent, or it is unknown whether it was. It is sent again."""
 
 
 def order_of(attempt: Attempt, lease: int) -> Order:
-    """The attempt's order, with no more than `MOST_CARRIED` bytes of texts."""
-    live, kind = attempt.instance, attempt.instance.kind
-    assert live.shard
-    left = MOST_CARRIED
+    """Return the order of an attempt, with at most `MAX_CARRIED` bytes of values."""
+    saga, kind = attempt.instance, attempt.instance.kind
+    assert saga.shard
+    left = MAX_CARRIED
 
-    def carried(text: str) -> bool:
+    def carry(text: str) -> bool:
         nonlocal left
         fits = len(text) <= left and text != ABSENT
         left -= len(text) if fits else 0
         return fits
 
     decode = kind.payloads.decode
-    input = decode(live.text) if carried(live.text) else None
-    own: str | Position | None = None
+    input = decode(saga.text) if carry(saga.text) else None
+    own_result: str | Position | None = None
     if attempt.kind == "undo":
-        text = live.results.get(attempt.step, "null")
-        own = decode(text) if carried(text) else Position(attempt.step)
+        text = saga.results.get(attempt.step, "null")
+        own_result = decode(text) if carry(text) else Position(attempt.step)
     results: dict[str, str | Position] = {}
     for step in kind.below[attempt.step]:
-        text = live.results.get(step, "null")
-        results[kind.names[step]] = decode(text) if carried(text) else Position(step)
+        text = saga.results.get(step, "null")
+        results[kind.names[step]] = decode(text) if carry(text) else Position(step)
     return Order(
         kind.name,
         kind.version,
-        live.key,
-        live.shard.name,
-        live.number,
+        saga.key,
+        saga.shard.name,
+        saga.number,
         attempt.name,
         attempt.kind,
         attempt.attempt,
         lease,
         input,
         results,
-        own,
-        live.options.deadline,
-        live.options.traceparent,
+        own_result,
+        saga.options.deadline,
+        saga.options.traceparent,
         _declared(attempt),
     )
 
@@ -83,8 +81,9 @@ def _declared(attempt: Attempt) -> Declared | None:
 
 
 async def check(database: Database, sagas: Iterable[Saga]) -> None:
-    """Looks whether reports can come, where a step is called by a queue's workers. Raises
-    `WrongStore`, `DefinitionError`.
+    """Check that reports of queue workers can reach this database.
+
+    Raises `WrongStore` and `DefinitionError`.
     """
     queues: dict[int, tuple[RemoteQueue, list[tuple[Step[Any], str]]]] = {}
     for saga in sagas:
@@ -97,33 +96,35 @@ async def check(database: Database, sagas: Iterable[Saga]) -> None:
         await queue.check(database, steps)
 
 
-async def call(external: External, manner: Manner, attempt: Attempt) -> Outcome | None:
-    """Sends it and waits for its report. None: it was cancelled here, and nobody knows what
-    became of it.
+async def call(external: ExternalTasks, manner: Manner, attempt: Attempt) -> Outcome | None:
+    """Send an attempt, and wait for its report.
+
+    Returns:
+        The outcome. None if the call was cancelled here, and the outcome is unknown.
     """
-    where = manner.queue
-    assert where
-    timeout = manner.timeout if manner.timeout is not None else where.timeout
+    remote_queue = manner.queue
+    assert remote_queue
+    timeout = manner.timeout if manner.timeout is not None else remote_queue.timeout
     try:
         with external.reports(attempt) as report:
             async with asyncio.timeout(timeout):
                 lease = await external.dispatch(attempt)
                 if not report.done():
-                    await _send(where, order_of(attempt, lease))
+                    await _send(remote_queue, order_of(attempt, lease))
                 return await report
     except asyncio.CancelledError:
         return None
     except TimeoutError:
-        return outcomes.unknown(f"no report within {timeout:g} s from {where!r}")
+        return outcomes.unknown(f"no report within {timeout:g} s from {remote_queue!r}")
 
 
-async def _send(where: RemoteQueue, order: Order) -> None:
-    """Sends it, again and again while that does not go: the caller has the time."""
+async def _send(queue: RemoteQueue, order: Order) -> None:
+    """Send an order, with retries until it is sent. The caller limits the time."""
     pause = FIRST_PAUSE
     while True:
         try:
-            await where.send(order)
+            await queue.send(order)
             return
         except Unsent:
             await asyncio.sleep(pause)
-            pause = min(MOST_PAUSE, 2 * pause)
+            pause = min(MAX_PAUSE, 2 * pause)

@@ -1,13 +1,13 @@
 """Deletes ended sagas after their retention.
 
-Ended sagas are let go after their time, with their log: a closed log whose sagas ended before is
-deleted as a whole, exported before where that is wished.
+A whole closed shard is deleted when the retention of all its sagas is over. If an archive directory
+is given, the shard is exported first.
 
-Only a log whose audit said yes goes; a saga that is stuck, or of which a compensation failed for
-good, counts as ended once a person has resolved it. A key is free when its saga is gone. Each
-log is a transaction of its own, on a connection of its own, and is followed by a pause as long
-as it took: who starts a saga waits for one log at most in a file, and for none in PostgreSQL,
-where other rows are touched.
+A shard is deleted only if its audit succeeded. A stuck saga, or one with a compensation that failed
+permanently, counts as ended once an operator has resolved it. The key of a deleted saga is free
+again. Each shard is deleted in its own transaction, on its own connection, and followed by an
+equally long pause. So a start waits for at most one shard in a file. In PostgreSQL it does not
+wait, because other rows are touched.
 """
 
 from __future__ import annotations
@@ -32,12 +32,10 @@ from sagas.storage.queries import RESOLVABLE
 if TYPE_CHECKING:
     from sagas.runtime.coordinator import Coordinator
 
-MOST = 100_000
-"""Sagas that one run lets go."""
-HOUR, SOON = (
-    3600.0,
-    60.0,
-)  # seconds between two runs: where nothing more was to do, and where there was
+MAX_SAGAS = 100_000
+"""Maximum number of sagas that one run deletes."""
+HOUR, SOON = 3600.0, 60.0
+"""Seconds until the next run: if nothing more is due, and if there is more."""
 
 WITHIN = f"s.id >= l.shard * {SHARD_CAPACITY} AND s.id < (l.shard + 1) * {SHARD_CAPACITY}"
 OVER = f"""
@@ -54,7 +52,7 @@ SELECT DISTINCT c.id / {SHARD_CAPACITY}, c.parent / {SHARD_CAPACITY}
 FROM children c JOIN sagas p ON p.id = c.parent
 WHERE c.id / {SHARD_CAPACITY} <> c.parent / {SHARD_CAPACITY}
 """
-"""The shards of children, each with a shard of their parents that is there."""
+"""The shards of children, each with an existing shard of their parents."""
 OF_SAGAS = (
     "DELETE FROM operator_commands WHERE key IN (SELECT key FROM sagas WHERE id >= ? AND id < ?)",
     "DELETE FROM labels WHERE id >= ? AND id < ?",
@@ -75,10 +73,16 @@ OF_LOG = (
 
 
 @dataclasses.dataclass
-class Gone:
-    """What a run let go: the names of the logs, and how many sagas they had. `more`: there is
-    more, for another run; `other`: that is at work now; `blobs`: to which no row refers any more;
-    `starts`: how many starts of clients that were refused.
+class Pruned:
+    """What a run has deleted.
+
+    Attributes:
+        logs: The names of the shards.
+        sagas: How many sagas they had.
+        more: Whether further sagas are due, for another run.
+        other: Whether another program is pruning now.
+        blobs: Blobs that no row refers to any more.
+        starts: How many refused starts of clients.
     """
 
     logs: list[str] = dataclasses.field(default_factory=list)
@@ -94,63 +98,67 @@ def prune(
     keep: float,
     export: str | os.PathLike[str] | None = None,
     *,
-    most: int = MOST,
+    max_sagas: int = MAX_SAGAS,
     has_blobs: bool = False,
     clock: Callable[[], float] = time.time,
     stop: threading.Event | None = None,
-) -> Gone:
-    """Lets the sagas of a store go that ended more than `keep` seconds ago, `most` of them, in
-    order of their logs. For a thread.
+) -> Pruned:
+    """Delete sagas that ended more than `keep` seconds ago, at most `max_sagas` of them.
 
-    The time is the earlier one of `clock` and of the store's own: a clock that is put forward
-    lets nothing go. With `export` each log is written there and synced, before it is deleted
-    (`archive.write`). `stop` ends it behind the log that it is at. Raises `Trouble`,
-    `StoreUnavailable`, `OSError` of the export; what went before is gone, and the log that it was
-    at is whole.
+    Shards are deleted in order. Call it in a thread. The time is the earlier one of `clock` and of
+    the store's clock, so that a clock that is set forward deletes nothing. With `export`, each
+    shard is written there and synced before it is deleted (`archive.write`). `stop` ends the run
+    after the current shard.
+
+    Raises `Trouble`, `StoreUnavailable`, and `OSError` of the export. Then earlier shards are
+    deleted, and the current one is complete.
     """
-    gone, at, stop = Gone(), -1, stop or threading.Event()
+    pruned, shard, stop = Pruned(), -1, stop or threading.Event()
     with admin.writing(name) as link:
         if not link.alone():
-            gone.other = True
-            return gone
+            pruned.other = True
+            return pruned
         before = min(clock(), link.now()) - keep
         kept = _kept_for_parents(link, before)
-        while not stop.is_set() and (found := link.ask(NEXT, at, before)):
-            ((at, log, sagas),) = found
-            if at in kept:
+        while not stop.is_set() and (rows := link.ask(NEXT, shard, before)):
+            ((shard, log, sagas),) = rows
+            if shard in kept:
                 continue
-            if gone.sagas + sagas > most:
-                gone.more = True
+            if pruned.sagas + sagas > max_sagas:
+                pruned.more = True
                 break
-            if export is not None and archive.write(link, at, pathlib.Path(export)) is None:
+            if export is not None and archive.write(link, shard, pathlib.Path(export)) is None:
                 continue  # another program has deleted it
             began = time.monotonic()
-            if _delete(link, at, gone.blobs if has_blobs else None):
-                gone.logs.append(log)
-                gone.sagas += sagas
+            if _delete(link, shard, pruned.blobs if has_blobs else None):
+                pruned.logs.append(log)
+                pruned.sagas += sagas
             stop.wait(time.monotonic() - began)
-        gone.starts = link.drop_refused(before)
-        if gone.logs:
+        pruned.starts = link.drop_refused(before)
+        if pruned.logs:
             link.drop_definitions()
-    return gone
+    return pruned
 
 
 def _kept_for_parents(link: Source, before: float) -> set[int]:
-    """The logs that stay, since a parent of a saga of theirs stays in another one."""
+    """Return due shards that are kept because the shard of a parent is kept."""
     pairs = link.ask(PARENTS)
     if not pairs:
         return set()
-    go = {log for (log,) in link.ask(f"SELECT l.shard FROM shards l WHERE {OVER}", -1, before)}
+    deleted = {log for (log,) in link.ask(f"SELECT l.shard FROM shards l WHERE {OVER}", -1, before)}
     kept = set[int]()
-    while more := {log for log, parent in pairs if log in go and parent not in go}:
-        kept |= more
-        go -= more
+    while added := {log for log, parent in pairs if log in deleted and parent not in deleted}:
+        kept |= added
+        deleted -= added
     return kept
 
 
 def _delete(link: Source, log: int, blobs: list[str] | None) -> bool:
-    """A log with all that is of it, but for the blobs to which it refers. False: another program
-    did."""
+    """Delete a shard and all its rows, except blobs.
+
+    Returns:
+        False if another program has deleted it.
+    """
     ids = log * SHARD_CAPACITY, (log + 1) * SHARD_CAPACITY
     with link.transaction():
         if not link.changed("DELETE FROM shards WHERE shard = ? AND closed = 1", log):
@@ -170,10 +178,10 @@ def _delete(link: Source, log: int, blobs: list[str] | None) -> bool:
 
 
 def delete_damaged(name: str, log: int, export: str | os.PathLike[str] | None) -> int:
-    """Delete the sagas of a shard that no program can open, or whose audit said no; return how many
-    these were.
+    """Delete the sagas of a damaged shard, and return how many there were.
 
-    Raises `Trouble` where the shard is not damaged, and as `prune`.
+    A shard is damaged if no program can open it, or if its audit failed. Raises `Trouble` if the
+    shard is not damaged, and the errors of `prune`.
     """
     ids = log * SHARD_CAPACITY, (log + 1) * SHARD_CAPACITY
     with admin.writing(name) as link:
@@ -196,32 +204,39 @@ def delete_damaged(name: str, log: int, export: str | os.PathLike[str] | None) -
 
 
 async def keep(
-    owner: Coordinator, name: str, seconds: float, export: str | os.PathLike[str] | None
+    coordinator: Coordinator, name: str, seconds: float, export: str | os.PathLike[str] | None
 ) -> None:
-    """Lets go what is over, at the opening and then each hour, or more often where less than a
-    day is kept; until it is cancelled.
+    """Delete due sagas at the opening and then each hour, until cancelled.
+
+    If the retention is shorter than a day, it runs more often.
     """
-    blobs = owner.store.blobs
+    blobs = coordinator.store.blobs
     while True:
         stop = threading.Event()
-        words: dict[str, Any] = {"clock": owner.clock, "stop": stop, "has_blobs": blobs is not None}
-        work = asyncio.ensure_future(asyncio.to_thread(prune, name, seconds, export, **words))
+        options: dict[str, Any] = {
+            "clock": coordinator.clock,
+            "stop": stop,
+            "has_blobs": blobs is not None,
+        }
+        work = asyncio.ensure_future(asyncio.to_thread(prune, name, seconds, export, **options))
         try:
-            gone = await asyncio.shield(work)
-            if blobs is not None:  # behind the rows that referred to them
-                await blobs.delete(gone.blobs)
-            if gone.logs:
-                owner.teller.tell(
+            pruned = await asyncio.shield(work)
+            if blobs is not None:  # after the rows that referred to them
+                await blobs.delete(pruned.blobs)
+            if pruned.logs:
+                coordinator.teller.tell(
                     "shards_pruned",
-                    detail=f"{number(len(gone.logs), 'shard')}, {number(gone.sagas, 'saga')}",
+                    detail=f"{number(len(pruned.logs), 'shard')}, {number(pruned.sagas, 'saga')}",
                 )
-            pause = SOON if gone.more else HOUR
-        except asyncio.CancelledError:  # the store is closed behind the log that this is at
+            pause = SOON if pruned.more else HOUR
+        except asyncio.CancelledError:  # the store is closed after the current shard
             stop.set()
             await asyncio.wait([work])
-            work.exception()  # a fault now is nobody's: the next opening goes on
+            work.exception()  # ignored: the next opening continues
             raise
         except (SagasError, admin.Trouble, OSError) as error:
-            logger.warning("%s: ended sagas could not be deleted: %s", owner.store.path, error)
+            logger.warning(
+                "%s: ended sagas could not be deleted: %s", coordinator.store.path, error
+            )
             pause = HOUR
         await asyncio.sleep(min(pause, max(1.0, seconds / 24)))

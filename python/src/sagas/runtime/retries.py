@@ -1,4 +1,4 @@
-"""Questions to a store that may be away."""
+"""Retries of reads while the store is unavailable."""
 
 from __future__ import annotations
 
@@ -10,17 +10,17 @@ from sagas.base.errors import StoreUnavailable
 from sagas.definition.blobs import BlobUnavailable
 
 T = TypeVar("T")
-FIRST_PAUSE, MOST_PAUSE = 0.02, 2.0
-"""Seconds until the store is asked again."""
+FIRST_PAUSE, MAX_PAUSE = 0.02, 2.0
+"""Seconds until the store is asked again: the first and the longest pause."""
 
 
 async def until_answered(ask: Callable[[], Awaitable[T]], with_blobs: bool = True) -> T:
-    """Ask until the store answers.
+    """Repeat a read until the store answers.
 
     Args:
-        ask: What is asked.
-        with_blobs: Whether this is also asked again if a large value cannot be got. If not, raises
-            `BlobUnavailable`.
+        ask: The read.
+        with_blobs: Whether to retry also if a large value cannot be read. If not, `BlobUnavailable`
+            is raised.
     """
     pause = FIRST_PAUSE
     while True:
@@ -30,4 +30,4 @@ async def until_answered(ask: Callable[[], Awaitable[T]], with_blobs: bool = Tru
             if isinstance(error, BlobUnavailable) and not with_blobs:
                 raise
             await asyncio.sleep(pause)
-            pause = min(MOST_PAUSE, 2 * pause)
+            pause = min(MAX_PAUSE, 2 * pause)

@@ -1,4 +1,4 @@
-"""What the shards of a program share."""
+"""Parts that the shards of a program share."""
 
 from __future__ import annotations
 
@@ -23,43 +23,42 @@ if TYPE_CHECKING:
     from sagas.runtime.shard_runner import ShardRunner
 
 
-class Shards(Protocol):
-    """The shards of the program, as one of them knows them."""
+class ShardsForRunner(Protocol):
+    """The shards of the program, as the runner of one uses them."""
 
     is_closing: bool
-    """Whether nothing begins any more."""
+    """Whether nothing starts any more."""
     abort_overdue: Callable[[], None]
-    """Aborts the sagas whose deadlines have passed, before an engine is asked for tasks."""
+    """Aborts sagas with expired deadlines, before an engine is asked for tasks."""
 
     def fill(self, asker: ShardRunner) -> None:
-        """Put sagas into shards that are to be put there, before an engine is asked. `asker` is
-        about to ask its own.
-        """
+        """Assign waiting sagas to shards, before `asker` asks its engine."""
 
     def ready(self, runner: ShardRunner) -> None:
-        """It was taken up."""
+        """Handle that a shard is loaded."""
 
     def lose(self, runner: ShardRunner) -> None:
-        """It is another node's."""
+        """Release a shard that another node has."""
 
     def trouble(self, runner: ShardRunner, error: SagasError) -> None:
-        """It could not be taken up."""
+        """Handle that a shard could not be loaded."""
 
     async def find_elsewhere(self, driver: ShardDriver, rows: Loaded) -> None:
-        """Of the sagas that were asked to be opened in a shard, take out those whose keys are
-        other sagas': of another shard, or over in this one.
+        """Withdraw unconfirmed starts in a shard whose keys other sagas have.
+
+        These sagas are in another shard, or have ended in this one.
         """
 
     def reopen(self, driver: ShardDriver, rows: Loaded | None, fault: BaseException | None) -> None:
-        """Open sagas again that were to be opened in a shard and are not there, or refuse them."""
+        """Open sagas again whose start in a shard was not stored, or refuse them."""
 
     def changed(self, runner: ShardRunner) -> None:
-        """Something of it was written, or could not be."""
+        """Handle that a write of a shard succeeded or failed."""
 
 
 @dataclasses.dataclass(frozen=True, slots=True)
 class Parts:
-    """What all shards of a program share."""
+    """The parts that all shards of a program share."""
 
     store: Database
     program: str
@@ -75,31 +74,31 @@ class Parts:
 
 
 class Opening:
-    """The shards that are taken up as the store is opened."""
+    """The shards that are loaded while the store opens."""
 
     def __init__(self) -> None:
         self._loading: set[ShardRunner] = set()
         self._over: asyncio.Future[None] | None = None
 
     def begin(self, runners: list[ShardRunner]) -> None:
-        """These are to be taken up."""
+        """Set the shards that are to be loaded."""
         self._loading = {*runners}
         if runners:
             self._over = asyncio.get_running_loop().create_future()
 
     async def over(self) -> None:
-        """Wait until all are taken up."""
+        """Wait until all are loaded."""
         if self._over:
             await self._over
 
     def ready(self, runner: ShardRunner) -> None:
-        """It was taken up, or is lost."""
+        """Handle that a shard is loaded or lost."""
         self._loading.discard(runner)
         if not self._loading and self._over and not self._over.done():
             self._over.set_result(None)
 
     def fail(self, error: SagasError) -> None:
-        """One could not be taken up."""
+        """Fail the opening, because a shard could not be loaded."""
         if self._over and not self._over.done():
             self._over.set_exception(error)
 
@@ -107,7 +106,7 @@ class Opening:
 def engine_on(
     parts: Parts, driver: ShardDriver, log_text: str, listener: Listener
 ) -> EngineProcess:
-    """Start an engine on a shard's event log. It knows all definitions of the shard."""
+    """Start an engine on a shard's event log, with all definitions of the shard."""
     definitions = driver.identity.definitions
     engine = EngineProcess(parts.program, definitions.texts, log_text, listener)
     definitions.started()
@@ -115,12 +114,18 @@ def engine_on(
 
 
 def named(error: Exception) -> SagasError:
-    """Return why a shard could not be taken up: what is no error of ours comes from its rows."""
+    """Return why a shard could not be loaded.
+
+    An error of another type is caused by the rows of the shard.
+    """
     return error if isinstance(error, SagasError) else not_understood(error)
 
 
 def not_understood(error: Exception) -> DamagedShard:
-    """Return that the rows of a shard raise this, whose text may have something of them."""
-    damaged = DamagedShard(f"its data was not understood ({type(error).__name__})")
+    """Return the error of a shard whose rows raised `error`, without its text.
+
+    The text of the error may contain values of the rows.
+    """
+    damaged = DamagedShard(f"its data could not be parsed ({type(error).__name__})")
     damaged.__cause__ = error
     return damaged

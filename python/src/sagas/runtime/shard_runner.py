@@ -16,31 +16,30 @@ from sagas.core.states import ShardState
 from sagas.core.suspensions import SuspensionRow
 from sagas.engine.process import EngineProcess
 from sagas.runtime import decode_check
-from sagas.runtime.shard_parts import Parts, Shards, engine_on, named, not_understood
+from sagas.runtime.shard_parts import Parts, ShardsForRunner, engine_on, named, not_understood
 
-FEW = 64  # requests whose answer comes soon
-TURN = 0.1  # seconds for which a shard keeps its engine while others wait for one
-FIRST_PAUSE, MOST_PAUSE = 0.02, 2.0  # seconds until a shard is loaded again
-PAUSE_ASIDE = 60.0  # seconds until that is tried of one that is set aside
+FEW = 64  # number of requests that are answered quickly
+TURN = 0.1  # seconds for which a shard keeps its engine while other shards wait for one
+FIRST_PAUSE, MAX_PAUSE = 0.02, 2.0  # seconds until a shard is loaded again
+PAUSE_ASIDE = 60.0  # seconds until a shard that is set aside is loaded again
 STALE, LOADING, IDLE = ShardState.STALE, ShardState.LOADING, ShardState.IDLE
 STARTING, ACTIVE, CLOSED = ShardState.STARTING, ShardState.ACTIVE, ShardState.CLOSED
 
 
 class ShardRunner:
-    """Drives one shard.
+    """Executes one shard.
 
     Attributes:
-        driver: What it knows, and decides.
+        driver: The state of the shard, and its decisions.
         engine: Its engine process, if it has one.
-        fault: Why it could not be taken up, or written.
-        is_set_aside: Whether its data is damaged: it is tried again seldom.
-        note: Why it is set aside, as the store has it.
-        has_unread: Whether something that is stored of its open sagas cannot be read by this
-            program.
-        used: When its engine was asked last, by the monotonic clock.
+        fault: Why it could not be loaded or written.
+        is_set_aside: Whether its data is damaged, so that it is rarely loaded again.
+        note: The stored reason why it is set aside.
+        has_unread: Whether this program cannot read some stored values of its open sagas.
+        used: When its engine was last asked, by the monotonic clock.
     """
 
-    def __init__(self, driver: ShardDriver, parts: Parts, shards: Shards) -> None:
+    def __init__(self, driver: ShardDriver, parts: Parts, shards: ShardsForRunner) -> None:
         self.driver = driver
         self.engine: EngineProcess | None = None
         self.fault: BaseException | None = None
@@ -53,18 +52,18 @@ class ShardRunner:
         self._effects, self._clock, self._loop = parts.effects, parts.clock, parts.loop
         self._woke = self._pause = 0.0
         self._is_scheduled = self._is_coming = False
-        self._rows: Loaded | None = None  # that it is recovered from
-        self._overdue: list[int] = []  # the sagas that are aborted as it is recovered
+        self._rows: Loaded | None = None  # the rows that it is recovered from
+        self._overdue: list[int] = []  # the sagas that are aborted during its recovery
 
-    # -- what it is told
+    # -- calls by the executor
 
     def report(self, attempt: Attempt, at_once: bool = False) -> None:
-        """Report a finished attempt. `at_once`: nothing else of its shard is half done."""
+        """Report a finished attempt. With `at_once`, no other operation is half done."""
         self.driver.report(attempt)
         self.poke(at_once)
 
     def suspend(self, attempt: Attempt, row: SuspensionRow) -> None:
-        """Keep why an attempt waits."""
+        """Store why an attempt waits."""
         self.keep(self.driver.suspended(attempt, row, self._clock()))
 
     def abort(self, abort: Abort) -> None:
@@ -75,11 +74,14 @@ class ShardRunner:
     # -- a turn
 
     def poke(self, at_once: bool = False) -> None:
-        """Send what is due, with what else comes meanwhile. `at_once`: now, if no function runs
-        that might bring more, or if there is a lot."""
+        """Send what is due, in the next turn of the loop.
+
+        With `at_once`, send it now if no running function may add more, or if there are many
+        reports.
+        """
         if self.driver.state is ACTIVE:
             assert self.engine
-            if self.engine.asked:  # when it has answered, it is asked what is due
+            if self.engine.asked:  # after its reply, it gets the next requests
                 return
             running = self._slots.running
             if at_once and (not running or len(self.driver.reports) >= MOST_REPORTS):
@@ -91,7 +93,7 @@ class ShardRunner:
             self._engines.want(self)
 
     def _turn(self, waits: bool = False) -> None:
-        """Ask what is due. `waits`: nothing else could be done here until the answer comes."""
+        """Send what is due. With `waits`, nothing else can be done until the reply."""
         self._is_scheduled = False
         engine = self.engine
         if self.driver.state is not ACTIVE or engine is None or engine.asked:
@@ -106,7 +108,7 @@ class ShardRunner:
             return
         lines = [] if self.driver.wants_engine else self._requests()
         if not lines:
-            if self.driver.wants_engine:  # also: a definition was too long for a request
+            if self.driver.wants_engine:  # also if a definition was too long for a request
                 self._renew()
             elif self._engines.wanted:
                 self._offer()
@@ -117,7 +119,10 @@ class ShardRunner:
             self.answered(*answer)
 
     def _renew(self) -> None:
-        """Its engine makes way for one that knows all definitions, once all it said is stored."""
+        """Replace the engine by one that knows all definitions.
+
+        The events of the old engine are stored first.
+        """
         if not self.driver.unwritten:
             self._stop_engine()
             self.engine = None
@@ -128,37 +133,41 @@ class ShardRunner:
     def _requests(self) -> list[str]:
         is_closing, driver = self._shards.is_closing, self.driver
         lines = driver.requests(0 if is_closing else self._slots.free(), self._clock())
-        if (asked := driver.asked) and asked.claims:
-            self._slots.reserve(asked.claims)
+        if (request := driver.asked) and request.claims:
+            self._slots.reserve(request.claims)
         elif driver.hungry and not is_closing:
             self._slots.starve(self)
         return lines
 
     def answered(self, replies: list[str], log_text: str) -> None:
-        """Its engine has answered."""
+        """Handle the reply of the engine."""
         if self._rows is not None:
             self._recover(self._rows, replies, log_text)
             return
         try:
-            found = self.driver.replies(replies, log_text, self._clock())
+            outcome = self.driver.replies(replies, log_text, self._clock())
         except Disagrees as error:
             logger.warning("shard %s: %s. Recovering", self.driver.name, error)
             self.fail(None)
         except Exception as error:
-            logger.exception("shard %s: a reply was not understood", self.driver.name)
+            logger.exception(
+                "shard %s: a reply of the engine could not be parsed", self.driver.name
+            )
             self.fail(error)
         else:
-            if isinstance(found, Effects):
-                self._read(found)
+            if isinstance(outcome, Effects):
+                self._read(outcome)
             else:
                 assert self.engine
-                self.engine.ask(found)
+                self.engine.ask(outcome)
 
     def _read(self, effects: Effects) -> None:
-        """What is due is asked before the commit of what was answered: a commit may be made here,
-        and meanwhile the engine decides.
+        """Carry out a reply.
+
+        The next requests are sent before the commit. A commit may block this thread, and the engine
+        works in the meantime.
         """
-        self.driver.writes(effects)  # so it keeps its engine until then
+        self.driver.writes(effects)  # so it keeps its engine until the commit
         try:
             self._effects.at_once(effects)
             if self._is_due():
@@ -168,10 +177,10 @@ class ShardRunner:
         if self._engines.wanted:
             self._offer()
 
-    # -- to the store, and from there
+    # -- commits
 
     def keep(self, effects: Effects) -> None:
-        """Make effects durable that no answer came to."""
+        """Store effects that no reply of the engine led to."""
         self.driver.writes(effects)
         self._commit(effects, at_once=False)
 
@@ -183,14 +192,14 @@ class ShardRunner:
             self._effects.committed(effects)
 
     def committed(self, effects: Effects) -> None:
-        """The batch is durable."""
+        """Handle that a batch is durable."""
         self.driver.committed(effects)
         self._pause = 0.0
         self._effects.committed(effects)
         self._settle()
 
     def failed(self, effects: Effects, fault: BaseException | None) -> None:
-        """The batch is not durable, as far as is known: the engine is thrown away."""
+        """Handle that a batch is not durable, as far as is known: discard the engine."""
         was_known = self.driver.is_known
         unanswered = self.driver.failed(effects)
         self._effects.lost(effects)
@@ -198,11 +207,11 @@ class ShardRunner:
         self._settle()
 
     def broken(self, error: Exception) -> None:
-        """What follows a commit raised this."""
+        """Recover the shard, because handling a commit raised an error."""
         self.fail(error)
 
     def _settle(self) -> None:
-        """Nothing of it may be on its way to the store any more."""
+        """Continue if nothing of the shard is being stored any more."""
         if not self.driver.unwritten:
             if self.driver.state is STALE:
                 self._load_soon()
@@ -218,50 +227,50 @@ class ShardRunner:
         may_claim = not (self in self._slots.starved or self._shards.is_closing)
         return self.driver.is_due(may_claim)
 
-    def asked(self) -> int:
-        """How much its engine is about to answer."""
+    def pending_answers(self) -> int:
+        """Return how much its engine is about to reply to."""
         if self.driver.state is not ACTIVE:
             return 0
         return len(self.driver.reports) + (self.engine.asked if self.engine else 0)
 
     def owes(self) -> bool:
-        """Whether something is on its way to the store, and the store takes it."""
+        """Return whether something is to be stored, and the store accepts it."""
         driver = self.driver
         has_more = driver.reports or driver.reporting or driver.opens or driver.sent
         return bool(driver.unwritten or (has_more and not self.fault and not self._pause))
 
     def rests(self) -> bool:
-        """Whether its engine may go: nothing is on its way, and all it knows is in the store."""
+        """Return whether its engine may end: nothing is in progress, and all is stored."""
         engine = self.engine
         if self.driver.state is not ACTIVE or self.driver.unwritten or not engine or engine.asked:
             return False
         return not self._is_due() or time.monotonic() - self._woke > TURN
 
     def is_idle(self, now: float, idle: float) -> bool:
-        """Whether its engine was not used for so many seconds, and is not needed."""
+        """Return whether its engine was not used for `idle` seconds, and is not needed."""
         is_unused = self.driver.state is ACTIVE and now - self.used > idle
         return is_unused and self.rests() and not self._is_due()
 
     def _offer(self) -> None:
-        """Others may have its engine, if they wait for one and it rests."""
+        """Give up the engine if it rests, because another shard waits for one."""
         if self.rests():
             self._loop.call_soon(self.give_up_engine)
 
     def give_up_engine(self) -> None:
-        """Another one may have its engine, if it rests."""
+        """Give up the engine if it rests, so that another shard may have it."""
         if self.rests():
             self.sleep()
             self._engines.gone(self)
 
     def sleep(self) -> None:
-        """Let its engine go."""
+        """Stop the engine."""
         self._stop_engine()
         self.driver.to(IDLE)
         if self._is_due():
             self._loop.call_soon(self.poke)
 
     def granted(self) -> None:
-        """It may have an engine."""
+        """Start an engine, which the pool has granted."""
         if self.driver.state is STALE:
             self.driver.to(LOADING)
             self._parts.spawn(self._load())
@@ -272,13 +281,13 @@ class ShardRunner:
             self._engines.gone(self)
 
     async def _start(self) -> None:
-        """Start an engine on the shard, as far as nobody else has written it meanwhile."""
+        """Start an engine on the shard, unless another node has written the shard."""
         driver = self.driver
         try:
             taken = await self._parts.store.take_up(driver.number, driver.epoch)
             if driver.state is not STARTING:
                 return
-            if taken is None:  # it may be another node's: that is looked at as after a failure
+            if taken is None:  # another node may own it: load it again, as after a failure
                 self.fail(None)
                 return
             text, driver.events = taken
@@ -295,24 +304,24 @@ class ShardRunner:
             self.engine.stop()
 
     def died(self, engine: EngineProcess, last: str) -> None:
-        """Its engine ended by itself."""
+        """Handle that its engine has ended by itself."""
         if engine is not self.engine:
             return
         if self.driver.state is ACTIVE:
             detail = f"shard {self.driver.name}: {last}"
             self._parts.teller.tell("engine_died", detail=detail)
             self.fail(None)
-        else:  # while the shard was taken up
+        else:  # while the shard was loaded
             self.engine = self._rows = None
-            said = f"sagas drive: {last.removeprefix('sagas: ')}"
+            message = f"sagas drive: {last.removeprefix('sagas: ')}"
             is_refused = engine.has_refused()
-            in_shard = SagasError(f"shard {self.driver.name}: {said}")
-            self._trouble(DamagedShard(said) if is_refused else in_shard)
+            in_shard = SagasError(f"shard {self.driver.name}: {message}")
+            self._trouble(DamagedShard(message) if is_refused else in_shard)
 
-    # -- what goes wrong, and the way back
+    # -- failure and recovery
 
     def fail(self, fault: BaseException | None) -> None:
-        """What is in the store is all that is known; it is loaded again, after longer pauses."""
+        """Discard all that is not stored, and load the shard again after a pause."""
         self._fail(fault, self.driver.is_known, self.driver.fail())
 
     def _fail(self, fault: BaseException | None, was_known: bool, unanswered: int) -> None:
@@ -325,7 +334,7 @@ class ShardRunner:
         self._recover_soon()
 
     def _recover_soon(self) -> None:
-        """What the engine knows beyond the store is thrown away with it."""
+        """Discard the engine and what it knows beyond the store."""
         self._stop_engine()
         self.engine = self._rows = None
         self._engines.gone(self)
@@ -333,11 +342,11 @@ class ShardRunner:
             self._load_soon()
 
     def _load_soon(self) -> None:
-        """Load it, once nothing of it is on its way to the store."""
+        """Load the shard once nothing of it is being stored."""
         if self._is_coming:
             return
         self._is_coming = True
-        pause, self._pause = self._pause, min(MOST_PAUSE, max(FIRST_PAUSE, 2 * self._pause))
+        pause, self._pause = self._pause, min(MAX_PAUSE, max(FIRST_PAUSE, 2 * self._pause))
         if self.is_set_aside:
             pause = PAUSE_ASIDE
         if pause:
@@ -380,26 +389,26 @@ class ShardRunner:
         self.engine.ask(recovery.requests(rows, self._overdue))
 
     def _recover(self, rows: Loaded, replies: list[str], log_text: str) -> None:
-        """Make its driver what the store has, and go on with what was begun."""
+        """Set the driver to the stored state, and continue what was started."""
         self._rows, driver, store = None, self.driver, self._parts.store
         known = self._parts.sagas.by_key
         try:
-            found = recovery.recover(
+            recovered = recovery.recover(
                 rows, replies, self._clock(), driver, known, store.shared, self._overdue, log_text
             )
-            self._effects.found(found)
+            self._effects.recovered(recovered)
         except Exception as error:
             self._trouble(not_understood(error))
             return
         self.fault = None
         self.used = self._woke = time.monotonic()
-        self.keep(found.effects)
-        self._effects.resume(found)
+        self.keep(recovered.effects)
+        self._effects.resume(recovered)
         self._shards.ready(self)
         self.poke()
 
     def stop(self) -> None:
-        """End its engine; it is not used again."""
+        """Stop the runner and its engine permanently."""
         self.driver.to(CLOSED)
         self._stop_engine()
         self._slots.release(self.driver.unask())
@@ -407,7 +416,7 @@ class ShardRunner:
         self._slots.sate(self)
 
     def _trouble(self, fault: SagasError) -> None:
-        """It could not be taken up: that is tried again."""
+        """Handle that the shard could not be loaded; it is tried again."""
         self.fault = fault
         self._shards.trouble(self, fault)
         self.driver.to(STALE)

@@ -23,9 +23,9 @@ from sagas.engine.pool import EnginePool
 from sagas.engine.process import EngineProcess
 from sagas.runtime import decode_check
 from sagas.runtime.audits import Auditor
-from sagas.runtime.client_starts import Doubt
+from sagas.runtime.client_starts import StartDoubt
 from sagas.runtime.commit_queue import CommitQueue
-from sagas.runtime.effects import EffectHandler, Offers
+from sagas.runtime.effects import EffectHandler, ExternalOffers
 from sagas.runtime.executor import Executor
 from sagas.runtime.instances import Instances
 from sagas.runtime.placement import Placement
@@ -39,15 +39,15 @@ REMEDY = "The other shards are served. See the guide on damaged shards"
 
 
 class Shards:
-    """The shards that this program drives.
+    """The shards that this program executes.
 
     Attributes:
         runners: The shards, by number.
         engines: Their engine processes.
-        auditor: What audits those that are settled.
-        closed: Why nothing begins any more.
-        is_closing: Whether nothing begins any more.
-        starts: Whether starts of clients that are this node's may not be under way.
+        auditor: Audits finished shards.
+        closed: Why nothing starts any more.
+        is_closing: Whether nothing starts any more.
+        start_doubt: Whether claimed starts of clients may be lost.
         abort_overdue: Aborts the sagas whose deadlines have passed.
     """
 
@@ -60,7 +60,7 @@ class Shards:
         sagas: Instances,
         executor: Executor,
         commits: CommitQueue,
-        offers: Offers,
+        offers: ExternalOffers,
         clock: Callable[[], float],
         teller: Teller,
         spawn: Callable[[Coroutine[None, None, None]], asyncio.Task[None]],
@@ -76,7 +76,7 @@ class Shards:
         self.closed: SagasError | None = None
         self.is_closing = False
         self.abort_overdue: Callable[[], None] = lambda: None
-        self.starts = Doubt(self._loop, look)
+        self.start_doubt = StartDoubt(self._loop, look)
         self._idle = idle
         self._placement = Placement(store, definitions, sagas, self._loop, self)
         self._relocation = Relocation(store, sagas, executor, commits, clock, spawn, self)
@@ -95,27 +95,28 @@ class Shards:
             spawn,
         )
         self._opening = Opening()
-        self._closing: dict[int, asyncio.Task[None]] = {}  # settled, and not marked closed yet
+        self._closing: dict[int, asyncio.Task[None]] = {}  # finished, and not marked as closed
         self._change: asyncio.Future[None] | None = None
 
-    # -- taken up
+    # -- load
 
     async def open(self, rows: list[LogRow]) -> None:
-        """Take up the shards that are not closed.
+        """Load the shards that are not closed.
 
         Raises:
-            EngineError: No engine can be started, or one cannot be understood.
+            EngineError: An engine process cannot be started, or its output is invalid.
             StoreUnavailable: The store cannot be read.
         """
-        adopted = [one for one in self.adopt(rows) if one.driver.state is STALE]
+        adopted = [runner for runner in self.adopt(rows) if runner.driver.state is STALE]
         self._opening.begin(adopted)
         for runner in adopted:
             self.engines.want(runner)
         await self._opening.over()
 
     def adopt(self, rows: list[LogRow]) -> list[ShardRunner]:
-        """Make runners of shards that are this program's. They take no more sagas: the store may
-        be an older copy, and a later saga's tokens in use.
+        """Return runners of shards that this program has taken. They accept no new sagas.
+
+        The store may be an older copy, so that tokens of new sagas might be in use already.
         """
         adopted = []
         for row in rows:
@@ -128,7 +129,10 @@ class Shards:
         return adopted
 
     def _kinds(self, texts: list[str]) -> list[Kind]:
-        """The definitions of a shard, up to one that is none: its sagas are found damaged then."""
+        """Return the definitions of a shard, up to the first invalid one.
+
+        Sagas of later ones are then found to be damaged.
+        """
         kinds = []
         for text in texts:
             try:
@@ -138,12 +142,12 @@ class Shards:
         return kinds
 
     def run(self, driver: ShardDriver) -> ShardRunner:
-        """Drive a shard from now on."""
+        """Execute a shard from now on."""
         runner = self.runners[driver.number] = ShardRunner(driver, self._parts, self)
         return runner
 
     def taken(self, rows: list[LogRow]) -> None:
-        """Go on with shards that another node had."""
+        """Continue shards that another node had."""
         if self.closed:
             return
         for runner in self.adopt([row for row in rows if row.log not in self.runners]):
@@ -154,7 +158,7 @@ class Shards:
                 self.close_if_over(runner)
 
     def ready(self, runner: ShardRunner) -> None:
-        """It was taken up, or is lost."""
+        """Handle that a shard is loaded or lost."""
         is_here = self.runners.get(runner.driver.number) is runner
         if runner.is_set_aside and is_here:
             logger.info("shard %s can be opened again", runner.driver.name)
@@ -164,7 +168,7 @@ class Shards:
         self._opening.ready(runner)
 
     def _set_aside(self, runner: ShardRunner, error: DamagedShard) -> None:
-        """Its data is damaged: the others are served, and no saga is opened in it."""
+        """Set a damaged shard aside: no saga is opened in it, and the others are served."""
         self._store.forget(runner.driver.number)
         if runner.is_set_aside:
             if runner.note != str(error):
@@ -179,20 +183,22 @@ class Shards:
             unsure = "It is unknown whether the saga was started"
             self.refuse(saga, StoreUnavailable(f"shard {driver.name}: {error}. {unsure}"))
         for saga in unsent:
-            self.place(saga)
+            self.assign(saga)
         self.changed(runner)
         self._opening.ready(runner)
 
     async def _report(self, runner: ShardRunner, error: DamagedShard) -> None:
-        """Report a damaged shard, once the store has the reason: figures are counted again after
-        an event."""
+        """Report a damaged shard, after its reason is stored.
+
+        The metrics are computed again after an event, and need the reason.
+        """
         await self._note(runner, str(error))
         driver = runner.driver
         detail = f"shard {driver.number} ({driver.name}): {error}. {REMEDY}"
         self._teller.tell("shard_damaged", detail=detail, error=error.__cause__)
 
     async def _note(self, runner: ShardRunner, why: str | None) -> None:
-        """Store why no program can open a shard. If that fails, the next try notes it."""
+        """Store why no program can open a shard. If that fails, the next try stores it."""
         driver = runner.driver
         batch = Batch(driver.number, self._parts.clock(), epoch=driver.epoch)
         batch.more.set_aside = (why,)
@@ -201,8 +207,9 @@ class Shards:
             runner.note = why
 
     def trouble(self, runner: ShardRunner, error: SagasError) -> None:
-        """It could not be taken up, which is tried again. At the opening that is an error, unless
-        it is set aside.
+        """Handle that a shard could not be loaded, which is tried again.
+
+        While the store opens, that is an error, unless the shard is set aside.
         """
         name = runner.driver.name
         if isinstance(error, DamagedShard):
@@ -217,7 +224,7 @@ class Shards:
         is_named = isinstance(error, (EngineError, StoreUnavailable))
         self._opening.fail(error if is_named else EngineError(str(error)))
 
-    # -- asked
+    # -- questions
 
     @property
     def pause(self) -> float:
@@ -225,33 +232,31 @@ class Shards:
         return max(0.05, min(1.0, self._idle))
 
     def runner(self, shard: ShardDriver) -> ShardRunner | None:
-        """Return what drives a shard; None if it is not this program's any more."""
+        """Return the runner of a shard; None if this program no longer has the shard."""
         runner = self.runners.get(shard.identity.number)
         return runner if runner is not None and runner.driver is shard else None
 
     def numbered(self, number: int) -> ShardDriver | None:
-        """Return the shard with this number, if it is here."""
+        """Return the shard with this number, if this program has it."""
         runner = self.runners.get(number)
         return runner.driver if runner else None
 
     def named(self, name: str) -> ShardDriver | None:
-        """Return the shard with this name, if it is here."""
+        """Return the shard with this name, if this program has it."""
         drivers = (runner.driver for runner in self.runners.values())
         return next((driver for driver in drivers if driver.name == name), None)
 
     def numbers(self) -> list[int]:
-        """The shards that this program drives, or is about to close."""
+        """Return the shards that this program executes, or is about to close."""
         return [*self.runners, *self._closing]
 
     def coming(self) -> int:
-        """How much their engines are about to answer, and is to be opened."""
-        asked = sum(runner.asked() for runner in self.engines.up())
-        return asked + len(self._placement.waiting)
+        """Return how many replies of engines, and how many new sagas, are expected."""
+        pending = sum(runner.pending_answers() for runner in self.engines.up())
+        return pending + len(self._placement.waiting)
 
     def abort(self, saga: SagaInstance, command: Wanted = None) -> asyncio.Future[bool]:
-        """Ask to abort a saga that has a shard; return a future of whether it is aborted by
-        this.
-        """
+        """Ask to abort a saga; return a future of whether this command aborts it."""
         abort, runner = Abort(saga, command), self.runner(saga.shard) if saga.shard else None
         future = self._sagas.aborted(abort)
         if runner:
@@ -260,14 +265,14 @@ class Shards:
             self._sagas.fail_abort(abort, Moved("this node does not execute the saga"))
         return future
 
-    # -- filled
+    # -- new sagas
 
-    def place(self, saga: SagaInstance) -> None:
+    def assign(self, saga: SagaInstance) -> None:
         """Open a saga in a shard."""
-        self._placement.place(saga)
+        self._placement.assign(saga)
 
     def fill(self, asker: ShardRunner) -> None:
-        """Put sagas into shards that are to be put there. `asker` is about to ask its engine."""
+        """Assign waiting sagas to shards. `asker` is about to ask its engine."""
         if self._placement.waiting:
             self._placement.fill(asker)
 
@@ -276,67 +281,70 @@ class Shards:
         for runner in self.runners.values():
             runner.driver.withdraw(saga)
 
-    def meet(self, saga: SagaInstance) -> None:
-        """Its key has a saga in the store: whoever started it hears whether it is the same."""
-        self._relocation.meet(saga)
+    def compare_with_stored(self, saga: SagaInstance) -> None:
+        """Compare a saga with the stored one of its key, and notify its callers."""
+        self._relocation.compare_with_stored(saga)
 
     def refuse(self, saga: SagaInstance, error: SagasError) -> None:
-        """It was not begun, and its callers hear why."""
+        """Refuse the start of a saga, and notify its callers."""
         self._sagas.leave(saga, error, error)
         if saga.start is not None:
             self.doubt()
 
     def doubt(self) -> None:
-        """Starts of clients that are this node's may not be under way: nobody else takes them,
-        so they are looked for in a while.
+        """Mark that claimed starts of clients may be lost, so that they are read again.
+
+        No other node takes them.
         """
-        self.starts.doubt(not self.closed)
+        self.start_doubt.doubt(not self.closed)
 
     def leave(self, saga: SagaInstance, error: SagasError | None) -> None:
-        """It is not driven here."""
+        """Stop executing a saga here."""
         self._relocation.leave(saga, error)
 
-    def found(self, saga: SagaInstance, row: SagaRow) -> None:
-        """Another shard has its key."""
-        self._relocation.found(saga, row)
+    def key_taken(self, saga: SagaInstance, row: SagaRow) -> None:
+        """Handle that another shard has the key of a saga."""
+        self._relocation.key_taken(saga, row)
 
-    # -- recovered
+    # -- recovery
 
     async def find_elsewhere(self, driver: ShardDriver, rows: Loaded) -> None:
-        """Take out sagas whose keys are other sagas'."""
+        """Withdraw unconfirmed starts whose keys other sagas have."""
         await self._relocation.find_elsewhere(driver, rows)
 
     def reopen(self, driver: ShardDriver, rows: Loaded | None, fault: BaseException | None) -> None:
-        """Open sagas again that were to be opened in a shard and are not there. Where that, or the
-        reading of the shard, has failed, refuse them: what was sent to a server may come late,
-        until the shard is taken up.
+        """Open sagas again whose start in a shard was not stored.
+
+        If that failed, or the shard could not be read, refuse them. A server may still receive a
+        late commit of them, until the shard is loaded.
         """
-        asked, new = recovery.unopened(driver, rows, self._sagas.by_key)
+        sent, new = recovery.unopened(driver, rows, self._sagas.by_key)
         if fault is None:
-            for saga in asked + new:
-                self.place(saga) if driver.is_full else driver.open(saga)
+            for saga in sent + new:
+                self.assign(saga) if driver.is_full else driver.open(saga)
             return
-        where, told = str(self._store.path), str(fault)
-        told = told if told.startswith(where) else f"{where}: {told}"
+        store_path, message = str(self._store.path), str(fault)
+        message = message if message.startswith(store_path) else f"{store_path}: {message}"
         nothing = StoreUnavailable(
-            f"{told}. Nothing was started. Make room if the disk is full, and start the "
+            f"{message}. Nothing was started. Make room if the disk is full, and start the "
             "saga again"
         )
         unsure = StoreUnavailable(
-            f"{told}. It is unknown whether the saga was started. Start it again, with "
+            f"{message}. It is unknown whether the saga was started. Start it again, with "
             "the same key"
         )
-        for saga in asked:
+        for saga in sent:
             self.refuse(saga, nothing if rows or not self._store.shared else unsure)
         for saga in new:
             self.refuse(saga, nothing)
 
-    # -- lost
+    # -- loss
 
     def lapsed(self, is_older: bool) -> None:
-        """Another node may have taken any shard: each is looked at in the store before anything
-        begins in it. Where the store is older than what was told, no shard takes further sagas:
-        their tokens would be those of the sagas that are lost.
+        """Load all shards again, because another node may have taken any of them.
+
+        If the store is older than what was acknowledged, no shard accepts further sagas. Otherwise,
+        they would get the tokens of lost sagas.
         """
         self._teller.tell("lease_expired")
         if is_older:
@@ -344,14 +352,16 @@ class Shards:
             self._forget_closing()
             for runner in self.runners.values():
                 runner.driver.is_full = True
-            self.doubt()  # a start may be this node's there that was begun, and is over
+            self.doubt()  # the older store may have claimed starts that were finished
         for runner in list(self.runners.values()):
             if runner.driver.is_known:
                 runner.fail(None)
 
     def _forget_closing(self) -> None:
-        """The store may lack the last commits of shards that are about to be closed. They are this
-        program's no more, so that they are taken over like all that nobody drives.
+        """Forget the shards that are about to be closed.
+
+        The store may not have their last commits. Other nodes can take them over, like all shards
+        without an owner.
         """
         closing, self._closing = self._closing, {}
         for job in closing.values():
@@ -359,15 +369,15 @@ class Shards:
         self._commits.drop([*closing])
 
     def lose(self, runner: ShardRunner) -> None:
-        """A shard is another node's."""
+        """Release a shard that another node has."""
         driver = runner.driver
         self._teller.tell("shard_lost", detail=driver.name)
         moved = Moved("the saga moved to another node")
         for abort in (*driver.aborts, *driver.aborting):
             self._sagas.fail_abort(abort, moved)
         self._stop(runner)
-        self._relocation.let_go(driver)
-        self._tell_change()
+        self._relocation.stop_shard(driver)
+        self._notify_change()
         self.ready(runner)
 
     def _stop(self, runner: ShardRunner) -> None:
@@ -376,17 +386,17 @@ class Shards:
         self.runners.pop(runner.driver.number, None)
         self._placement.forget(runner)
 
-    # -- over
+    # -- end
 
     def changed(self, runner: ShardRunner) -> None:
-        """Something of it was written, or could not be."""
+        """Handle that a write of a shard succeeded or failed."""
         if not runner.driver.sagas:
             self.close_if_over(runner)
         if self._change:
-            self._tell_change()
+            self._notify_change()
 
     def close_if_over(self, runner: ShardRunner) -> None:
-        """Audit and close a settled shard that takes no more sagas."""
+        """Audit and close a finished shard that accepts no more sagas."""
         driver = runner.driver
         if not driver.is_over or driver.state not in (ACTIVE, IDLE):
             return
@@ -394,14 +404,14 @@ class Shards:
         takes_more = is_current and not driver.is_full and driver.opened < self._definitions.room
         if self.closed or driver.born or takes_more:
             return
-        for abort in (*driver.aborts, *driver.aborting):  # all its sagas were over before
+        for abort in (*driver.aborts, *driver.aborting):  # all its sagas had ended before
             abort.done = False
             self._sagas.answer_abort(abort)
         self._stop(runner)
         self._closing[driver.number] = self._spawn(self._close(driver))
 
     def close_all_over(self) -> None:
-        """As `close_if_over`, of each shard."""
+        """Close all finished shards. See `close_if_over`."""
         for runner in list(self.runners.values()):
             self.close_if_over(runner)
 
@@ -415,18 +425,18 @@ class Shards:
     # -- from time to time
 
     def tick(self) -> None:
-        """Let engines go that hang, or are not used."""
+        """Stop engine processes that hang or are not used."""
         now = time.monotonic()
         for runner in list(self.runners.values()):
             if runner.engine and runner.engine.is_hung(now):
-                runner.engine.process.kill()  # what follows is as where it died by itself
+                runner.engine.process.kill()  # handled as if it had died by itself
             if runner.is_idle(now, self._idle):
                 runner.sleep()
                 self.engines.gone(runner)
         self.engines.turn()
 
     def offer_unread(self) -> None:
-        """Offer shards to other nodes, which may have come and can read what this one cannot."""
+        """Offer shards with unreadable values to other nodes."""
         for runner in self.runners.values():
             is_here = runner.driver.state in (ACTIVE, IDLE)
             if runner.has_unread and is_here and not decode_check.is_at_work(runner.driver):
@@ -439,14 +449,14 @@ class Shards:
         except StoreUnavailable:
             return
         if is_left and self.runners.get(number) is runner:
-            told = "which may be able to read its values"
-            logger.info("left shard %s to other nodes, %s", name, told)
+            remedy = "which may be able to read its values"
+            logger.info("left shard %s to other nodes, %s", name, remedy)
             self.lose(runner)
 
     # -- closing
 
     def begin_close(self, error: SagasError) -> None:
-        """Begin nothing any more."""
+        """Start nothing any more."""
         self.closed, self.is_closing = error, True
         for runner in self.runners.values():
             for saga in [*runner.driver.opens]:
@@ -454,22 +464,23 @@ class Shards:
                 self.refuse(saga, error)
 
     async def drained(self) -> None:
-        """Wait until all outcomes are in the store, as long as it can be written."""
+        """Wait until all outcomes are stored, as long as the store can be written."""
         while any(runner.owes() for runner in self.runners.values()):
             self._change = self._loop.create_future()
             await self._change
 
-    def _tell_change(self) -> None:
+    def _notify_change(self) -> None:
         if self._change and not self._change.done():
             self._change.set_result(None)
 
     def stop(self, error: SagasError) -> list[EngineProcess]:
-        """Stop all; return the engines that there were. Who waits for an abort, or for a step's
-        end to be kept, hears that it was not.
+        """Stop all shards, and return their engine processes.
+
+        Callers that wait for an abort or a report are notified that it was not stored.
         """
         engines = [runner.engine for runner in self.runners.values() if runner.engine]
         for runner in self.runners.values():
             runner.stop()
-            self._relocation.tell_closed(runner.driver, error)
+            self._relocation.notify_closed(runner.driver, error)
         self._sagas.fail_aborts(error)
         return engines

@@ -1,4 +1,4 @@
-"""Reads values of open sagas that are not held, when a function needs them."""
+"""Reads values of open sagas that are not in memory, when a function needs them."""
 
 from __future__ import annotations
 
@@ -8,12 +8,12 @@ from collections.abc import Callable, Sequence
 from sagas.core.held_values import StoredValues
 from sagas.core.model import Attempt
 from sagas.definition.blobs import BlobUnavailable, Reference
-from sagas.runtime.executor_host import Host
+from sagas.runtime.executor_host import CoordinatorForExecutor
 from sagas.runtime.retries import until_answered
 from sagas.storage.interface import Database
 
 AT_ONCE = 4
-"""Attempts for which values are read at the same time, so that few of them are in memory."""
+"""Maximum number of attempts whose values are read at once, to limit the memory."""
 INPUT = """
 SELECT s.input, (SELECT p.shape FROM shapes p WHERE p.id = s.id) FROM sagas s WHERE s.id = ?
 """
@@ -25,8 +25,10 @@ SELECT step, value FROM attempts WHERE id = ? AND action = 'run' AND event = 'co
 async def of(
     store: Database, id: int, steps: Sequence[int], with_blobs: bool = True
 ) -> StoredValues | None:
-    """What the store has of a saga, with the results of these steps; None where it is gone. Without
-    `with_blobs` it has references in place of what is in the blob store.
+    """Return the stored values of a saga with the results of these steps, or None.
+
+    None means that the saga does not exist any more. Without `with_blobs`, values in the blob store
+    are returned as references.
     """
     read = store.read if with_blobs else store.read_stored
     rows = await read(INPUT, id)
@@ -39,37 +41,45 @@ async def of(
 
 
 async def input_of(store: Database, id: int, text: str) -> str:
-    """Return the input of a saga, by that of its row, which may be a reference to a blob. Raises
-    `BlobUnavailable`.
+    """Return the input of a saga, given the text of its row.
+
+    The text may be a reference to a blob. Raises `BlobUnavailable`.
     """
     stored = await of(store, id, ()) if Reference.of(text) else None
     return text if stored is None else stored.text
 
 
 class ValueReader:
-    """Reads what attempts lack. It asks until the database answers, and a blob store some times.
+    """Reads missing values of attempts.
+
+    It retries until the database answers, and retries a blob store a limited number of times.
 
     Attributes:
-        count: How often something was read.
+        count: How often values were read.
     """
 
-    def __init__(self, host: Host, unread: Callable[[Attempt, BlobUnavailable], None]) -> None:
-        """`unread`: what is told of an attempt whose values the blob store does not give."""
-        self._host, self._places = host, asyncio.Semaphore(AT_ONCE)
+    def __init__(
+        self,
+        coordinator: CoordinatorForExecutor,
+        unread: Callable[[Attempt, BlobUnavailable], None],
+    ) -> None:
+        """Make a reader. `unread` is called if the blob store does not return a value."""
+        self._coordinator, self._slots = coordinator, asyncio.Semaphore(AT_ONCE)
         self._unread = unread
         self.count = 0
 
     async def fill(self, attempt: Attempt) -> None:
-        """Read what an attempt lacks. Raises `BlobUnavailable`."""
-        async with self._places:
+        """Read missing values of an attempt. Raises `BlobUnavailable`."""
+        async with self._slots:
             await self._fill(attempt)
 
     async def then(self, attempt: Attempt, go_on: Callable[[Attempt], None]) -> None:
-        """Read what an attempt lacks, and go on with it, unless something became of it meanwhile.
-        Its values are held no longer than that takes, if it waits then.
+        """Read missing values of an attempt, and continue it unless it has changed.
+
+        If the attempt waits after that, its values are released.
         """
         is_same, fault = attempt.pausing(), None
-        async with self._places:
+        async with self._slots:
             try:
                 await self._fill(attempt)
             except BlobUnavailable as error:
@@ -85,7 +95,7 @@ class ValueReader:
         instance = attempt.instance
         steps = [number for number, _ in attempt.action.given] + [attempt.step]
         stored = await until_answered(
-            lambda: of(self._host.store, instance.id, steps), with_blobs=False
+            lambda: of(self._coordinator.store, instance.id, steps), with_blobs=False
         )
-        if stored is not None:  # else the saga is gone, and so is the attempt
+        if stored is not None:  # otherwise the saga and the attempt are gone
             instance.fill(stored, attempt.results)

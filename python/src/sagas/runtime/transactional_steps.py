@@ -1,8 +1,8 @@
 """Steps with `transaction=True`: the function and its result in one transaction.
 
-It happens exactly once: the record names the attempt, and is written only where the attempt's
-log is still this node's. Where the answer to the commit is lost, the log is taken up again, and
-the record tells.
+The effect happens exactly once. The record names the attempt, and is written only if this node
+still owns the shard of the attempt. If the reply to the commit is lost, the shard is loaded again,
+and the record shows the outcome.
 """
 
 from __future__ import annotations
@@ -37,20 +37,22 @@ if TYPE_CHECKING:
     from sagas.core.step_transactions import Take
 
 PLAIN = frozenset((type(None), bool, int, float, str, dict, list))
-"""What is not to be awaited, most of the time."""
-LOOK = REST / 10
-"""Seconds between two looks for connections that rest too long."""
+"""Types of results that are never awaitable."""
+CLEANUP_INTERVAL = REST / 10
+"""Seconds between checks for connections that are idle for too long."""
 NO_TAIL = Tail(-1, 0.0)
-"""Of a shard of which nothing is known any more: no shard has this chunk."""
+"""The tail of a shard that this node no longer has: no shard has this chunk."""
 ROLLED_BACK = ("23", "25P02", "25P03", "40001", "40P01", "P0")
-"""A constraint, also one that is looked at in the commit; a statement that failed before,
-unnoticed; a transaction that rested for too long; others in the way; a trigger's own word.
+"""SQLSTATEs after which the transaction is rolled back: a constraint, also one that is deferred to
+the commit; an unnoticed failure of an earlier statement; an idle transaction; conflicts with
+others; an error that a trigger raised.
 """
 
 
 def as_raised(error: psycopg.Error) -> Exception:
-    """What is raised where the transaction raised that: a connection that is lost is an outcome
-    that nobody knows.
+    """Return the exception for an error of a transaction.
+
+    If the connection was lost, the outcome is unknown.
     """
     if not isinstance(error, psycopg.OperationalError):
         return error
@@ -65,115 +67,125 @@ async def _called(function: Function, task: Task[Any]) -> Any:
 
 
 def text_of(attempt: Attempt, value: Any) -> str:
-    """What a function returned, as it is stored."""
+    """Return the result of a function as it is stored."""
     return outcomes.stored(attempt.instance.kind.payloads, outcomes.succeeded(value).value)
 
 
 @dataclasses.dataclass(slots=True)
 class Record:
-    """Whether the result's record was written, or is about to be."""
+    """Whether the record of a result was written, or is about to be."""
 
     attempt: Attempt
-    where: str
+    location: str
     node: str
     prepares: Prepares
     tail: Tail
-    """The last chunk of its shard as it began: it has the attempt's own start, or is behind it."""
+    """The last chunk of its shard at the start: it has the attempt's start, or comes later."""
     line: str = ""
-    """The timeline of the server that it is written to, once that is about to be."""
-    begun: bool = False
+    """The timeline of the server that it is sent to, set before it is sent."""
+    was_sent: bool = False
     done: bool = False
     prepared: bool = False
-    """It is sent as a statement that is prepared."""
+    """Whether it is sent as a prepared statement."""
     again: bool = False
-    """The server did not know that statement, so all is rolled back: it is called again."""
+    """The server did not know that statement and rolled back, so the function is called again."""
 
     def lost(self) -> Lost | None:
-        """What to say where nobody knows whether it was committed."""
+        """Return the error of an unknown commit, or None if the outcome is known."""
         return (
-            Lost(f"{self.where}: it is unknown whether {self.attempt.token()} was committed")
-            if self.begun and not self.done
+            Lost(f"{self.location}: it is unknown whether {self.attempt.token()} was committed")
+            if self.was_sent and not self.done
             else None
         )
 
     def refused(self, error: psycopg.Error) -> None:
-        """The server's own answer may say that all is rolled back: then the function had no
-        effect. What it says of the record, or of the log's lines, means that the log, or the
-        attempt, is another run's.
+        """Handle an error of the server, which may prove a rollback.
+
+        After a rollback, the function had no effect. An error about the record, or about the lines
+        of the event log, means that the shard or the attempt belongs to another run.
         """
         if (error.sqlstate or "").startswith(ROLLED_BACK) and (
             error.diag.schema_name,
             error.diag.table_name,
         ) != TABLE:
-            self.begun = False
-        elif self.begun and self.prepared and error.sqlstate in UNPREPARED:
-            self.begun, self.again = False, True
+            self.was_sent = False
+        elif self.was_sent and self.prepared and error.sqlstate in UNPREPARED:
+            self.was_sent, self.again = False, True
             self.prepares.refused()
 
     def judged(self, error: psycopg.Error) -> Exception:
-        """As `as_raised`; what the server says of the transaction is looked at."""
+        """Return the exception for an error, after checking whether it proves a rollback."""
         self.refused(error)
         return as_raised(error)
 
     def sending(self) -> None:
-        """It is about to be sent: until then nothing can be committed."""
-        self.begun = True
+        """Note that the commit is about to be sent. Before that, nothing can be committed."""
+        self.was_sent = True
 
     def fence(self) -> Fence:
-        """Of whom the log has to be, and at which server: as of when its attempts were looked at.
-        A log that is about to be taken up from another server may lack the attempt there, though
-        it has the same epoch."""
+        """Return who must own the shard for the commit to be valid, and on which server.
+
+        The values are those of the time at which the attempts were loaded. A shard that is about to
+        be taken up from another server may not have the attempt there, although its epoch is the
+        same.
+        """
         shard = self.attempt.instance.shard
         assert shard
         epoch, self.line = shard.known
         return Fence(shard.number, self.node, epoch, self.line, self.tail)
 
     def check(self) -> None:
-        """Raises `Lost` where the attempt was let go, since its log was taken up without it. What
-        ended before that, and is sent later, has the epoch of before."""
+        """Raise `Lost` if the attempt was forgotten when its shard was loaded again.
+
+        A function that ended before that, and whose commit is sent later, has the earlier epoch.
+        """
         if self.attempt.state is not RUNNING:
-            raise Lost(f"{self.where}: {self.attempt.token()} does not exist any more")
+            raise Lost(f"{self.location}: {self.attempt.token()} does not exist any more")
 
     def text(self, link: AsyncStepLink | StepLink, value: str) -> str:
-        """What is written of a result, and the commit."""
+        """Return the statements that write the record and commit."""
         self.prepared = is_prepared(link)
         return step_commit.record_and_commit(link, self.attempt.row, self.fence(), value)
 
 
 class Transactions:
-    """The connections of steps: apart from the store's own, with the user's settings."""
+    """The connections of steps, separate from the store's own.
+
+    They have the settings of the user.
+    """
 
     def __init__(
         self,
         url: str,
-        where: str,
+        location: str,
         node: str,
         line: Callable[[], str],
         tail: Callable[[int], Tail | None],
-        most: int,
+        max_connections: int,
     ) -> None:
-        self._where, self._node, self._line, self._tail = where, node, line, tail
+        self._location, self._node, self._line, self._tail = location, node, line, tail
         self._prepares = Prepares(step_commit.prepares())
-        self._pool = Pool(url, most, self._prepares)
+        self._pool = Pool(url, max_connections, self._prepares)
         self._timer: asyncio.TimerHandle | None = None
         self._entered: Attempt | None = None
         self._take: Take = self._taken_at_once
 
     async def close(self) -> None:
-        """Ends their connections."""
+        """Close the connections."""
         if self._timer:
             self._timer.cancel()
         await self._pool.close()
 
     def let_go(self) -> None:
-        """Closes all that rest: the server may have none left for the store itself, or another
-        one has taken over.
+        """Close all idle connections.
+
+        The server may have none left for the store, or another server has taken over.
         """
         self._pool.look(0.0)
 
     def _look(self) -> None:
         self._pool.look()
-        self._timer = asyncio.get_running_loop().call_later(LOOK, self._look)
+        self._timer = asyncio.get_running_loop().call_later(CLEANUP_INTERVAL, self._look)
 
     async def call(
         self,
@@ -183,11 +195,11 @@ class Transactions:
         executor: Executor | None,
         late: Callable[[str], object] | None,
     ) -> Outcome | None:
-        """As `calling.call`; where the function did nothing over its connection, there is
-        nothing to commit, and no record.
+        """Call a function as `invocation.call` does, and commit its transaction.
 
-        Raises `Lost` where nobody knows whether it was committed, or where the log is another
-        node's: then it is looked up.
+        If the function did nothing over its connection, nothing is committed, and no record is
+        written. Raises `Lost` if it is unknown whether the transaction was committed, or if another
+        node owns the shard. Then the record is looked up.
         """
         function = manner.function
         assert function
@@ -210,7 +222,7 @@ class Transactions:
         executor: Executor | None,
         late: Callable[[str], object] | None,
     ) -> Outcome | None:
-        """In a thread, which has a connection from before it begins."""
+        """Call a plain function in a thread, with a connection that is lent before."""
         try:
             loan = await self._pool.lend()
         except BaseException as error:
@@ -223,8 +235,10 @@ class Transactions:
             loan.leave()
 
     def enter(self, attempt: Attempt) -> Take | None:
-        """As `callers.Inside`: one that asks for no connection before it first waits costs
-        little more than without a transaction.
+        """Provide a connection for an async function that is called now.
+
+        A function that asks for no connection before it first waits costs little more than one
+        without a transaction. See `StepTransactions`.
         """
         if not self._pool.has_idle():
             return None
@@ -232,12 +246,18 @@ class Transactions:
         return self._take
 
     def _taken_at_once(self) -> AsyncStepLink:
-        """By the one that was entered last, since no other one goes on before that waits."""
+        """Take a connection for the attempt that was entered last.
+
+        No other attempt has run since.
+        """
         assert self._entered
         return self._taken(self._entered, self._pool.acquire_now)
 
     async def end(self, attempt: Attempt, task: Task[Any], work: Awaitable[Any]) -> Any:
-        """As `callers.Inside`: it may ask for a connection still, so one is reserved."""
+        """Continue a function that waits, and reserve a connection for it.
+
+        See `StepTransactions`.
+        """
         reservation = None
         if task.leave() is None and self._pool.has_idle():
             reservation = self._pool.reserve_now()
@@ -246,11 +266,14 @@ class Transactions:
         return await self._ended(attempt, task, work, reservation)
 
     def raised(self, error: BaseException) -> BaseException:
-        """As `callers.Inside`."""
+        """Return the exception for an error of a function. See `StepTransactions`."""
         return as_raised(error) if isinstance(error, psycopg.Error) else error
 
     async def within(self, attempt: Attempt, function: Function, task: Task[Any]) -> Any:
-        """As `callers.Inside`."""
+        """Call an async function with a reserved connection.
+
+        See `StepTransactions`.
+        """
         if self._timer is None:
             self._look()
         try:
@@ -267,7 +290,7 @@ class Transactions:
         work: Awaitable[Any],
         reservation: Reservation | None,
     ) -> Any:
-        """What is left of a function that has a connection, or one reserved for it."""
+        """Return the result of a function, and commit or release its connection."""
         try:
             try:
                 value = await work
@@ -286,7 +309,7 @@ class Transactions:
         return value
 
     async def _end(self, attempt: Attempt, link: AsyncStepLink, value: Any) -> None:
-        """What the function did is committed with its record."""
+        """Commit what the function did, together with its record."""
         record = attempt.record
         assert isinstance(record, Record)
         try:
@@ -300,7 +323,7 @@ class Transactions:
             await self._left(link)
 
     def _answered(self, record: Record, link: AsyncStepLink | StepLink) -> None:
-        """It was committed, which counts unless that was the server that was there before."""
+        """Handle that the commit succeeded, unless another server has taken over since."""
         record.done = record.line == self._line()
         link.spent = not record.done
 
@@ -315,7 +338,7 @@ class Transactions:
             self._look()
         shard = attempt.instance.shard
         tail = (self._tail(shard.number) if shard else None) or NO_TAIL
-        record = Record(attempt, self._where, self._node, self._prepares, tail)
+        record = Record(attempt, self._location, self._node, self._prepares, tail)
         attempt.record = record
         return record
 
