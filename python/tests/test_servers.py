@@ -728,7 +728,7 @@ def test_a_primary_that_was_replaced_and_lives(by: str, monkeypatch: pytest.Monk
             async with asyncio.timeout(60):
                 if by != "client":
                     assert (await started_again(store, kind, "after")).ok
-                    assert store._inside.store.line == "00000002"
+                    assert store._inside.store.timeline == "00000002"
                 while True:
                     with contextlib.suppress(sagas.StoreUnavailable):
                         run = await client.start(kind, "client's")

@@ -41,7 +41,7 @@ from sagas.storage.factory import FORM
 from sagas.storage.postgresql import caller_connection, codec_note
 from sagas.storage.postgresql import connections as connections_module
 from sagas.storage.postgresql import key_finder, notifications, saga_requests, schema
-from sagas.storage.record_file import RecordFile, told_path
+from sagas.storage.record_file import RecordFile, record_path
 
 if TYPE_CHECKING:
     from sagas.storage.postgresql.connections import Row
@@ -106,8 +106,8 @@ class Client(Schedules):
         self._asker.late = self._look_at_hosts
         self._reader = AsyncStoreReader(self._read, self._read)
         self._opened = Opened("the client")
-        self._news: notifications.News | None = None
-        self._record = RecordFile.of(told_path(arguments.record(record)), secrets.token_hex(4))
+        self._news: notifications.Notifications | None = None
+        self._record = RecordFile.of(record_path(arguments.record(record)), secrets.token_hex(4))
         self._kinds: dict[str, Kind] = {}
         check_blobs(blobs, LEAST)
         self._payloads = payloads.checked(codec)
@@ -150,7 +150,7 @@ class Client(Schedules):
             ...
 
     async def _open(self) -> None:
-        await connections_module.knock(self._url, self.path)
+        await connections_module.check_access(self._url, self.path)
         await self._asker.open()
         try:
             version = (await self._asker.read("SELECT to_regclass('sagas.store') IS NOT NULL"))[0][
@@ -168,7 +168,7 @@ class Client(Schedules):
         except BaseException:
             await self._asker.close()
             raise
-        self._news = notifications.News(self._url, lambda what: None)
+        self._news = notifications.Notifications(self._url, lambda what: None)
         self._asker.attach(self._news.listener)
 
     def _look_at_hosts(self) -> None:
@@ -206,7 +206,7 @@ class Client(Schedules):
                 self._record.close()
 
     @property
-    def _heard(self) -> notifications.News:
+    def _heard(self) -> notifications.Notifications:
         self._opened.check(self.path)
         if self._news is None:
             raise Closed(
@@ -329,7 +329,7 @@ class Client(Schedules):
         """Ask the node that has the saga, and return its answer. Raises what the answer names."""
         asker, payloads = self._asker, self._payloads
         answer = await saga_requests.ask(asker, self._heard, row, what, value, payloads)
-        return operator_requests.told(answer)
+        return operator_requests.checked_answer(answer)
 
     async def _report(
         self, key: str, step: Step[Any] | str, outcome: Outcome, undo: bool, early: bool
@@ -372,7 +372,7 @@ class Client(Schedules):
         arguments.text("note", note, "what was done about it")
         note = serialization.clean(note)
         told = serialization.write({"by": by, "note": note})
-        if not await self._ask(RESOLVE, key=key, note=note, told=told):
+        if not await self._ask(RESOLVE, key=key, note=note, checked_answer=told):
             row = await self._row(key)
             unused = await self._ask(queries.named(attention.UNUSED, "id"), id=row.id)
             attention.is_to_resolve(row, note, bool(unused))
@@ -434,7 +434,7 @@ class Client(Schedules):
 
     async def _known(self, row: SagaRow) -> Known:
         """What the store has of a saga. Raises `NoSuchSaga` where it was let go meanwhile."""
-        words = queries.known_words(row.id, history=False)
+        words = queries.known_query(row.id, history=False)
         return queries.known(await self._read(*words), row.key)
 
     def _kind(self, row: SagaRow, text: str) -> Kind:

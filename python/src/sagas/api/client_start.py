@@ -151,7 +151,7 @@ class StartTeller:
             while self._has_more:
                 self._has_more = False
                 with contextlib.suppress(StoreUnavailable):
-                    await self._asker.ask(notifications.SAY, words=[notifications.STARTS])
+                    await self._asker.ask(notifications.NOTIFY, messages=[notifications.STARTS])
         finally:
             self._tells = False
 
@@ -215,7 +215,7 @@ class ClientStarter:
         if connection is None:
             return await self._alone(words)
         store = [] if connection in self._checked else await self.database()
-        with caller_connection.faults(connection, self._path):
+        with caller_connection.translate_errors(connection, self._path):
             if store:
                 found = await caller_connection.rows(connection, caller_connection.HERE, {})
                 caller_connection.check_database(connection, found, store, self._path)
@@ -231,7 +231,7 @@ class ClientStarter:
     ) -> bool:
         """As `start`, in the transaction of a plain connection, in this thread."""
         store = [] if connection in self._checked else ask(self.database())
-        with caller_connection.faults(connection, self._path):
+        with caller_connection.translate_errors(connection, self._path):
             if store:
                 found = caller_connection.rows_now(connection, caller_connection.HERE, {})
                 caller_connection.check_database(connection, found, store, self._path)

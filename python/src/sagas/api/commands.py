@@ -91,7 +91,7 @@ class Commands:
         value = serialization.write(told) if request is None else request[2]
         inside = self._access.inside
         answer = await inside.store.ask(row, what, value, inside.shelf.payloads)
-        return operator_requests.told(answer)
+        return operator_requests.checked_answer(answer)
 
     async def report(
         self,

@@ -116,7 +116,7 @@ class SagaLookup:
                     return row
                 pending.check_refused(row)
                 if key not in self._access.inside.sagas.by_key:
-                    await inside.store.news(row.id, turn)
+                    await inside.store.wait_for_end(row.id, turn)
                     turn += 1
             else:
                 try:

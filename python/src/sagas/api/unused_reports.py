@@ -100,7 +100,7 @@ class UnusedReports:
         inside = self._access.inside
         value = serialization.write({"step": step}) if request is None else request[2]
         answer = await inside.store.ask(row, "compensate", value, inside.shelf.payloads)
-        operator_requests.told(answer)
+        operator_requests.checked_answer(answer)
 
     async def _ended(self, key: str, of: int | None) -> SagaRow:
         """The saga with this key. Raises `StepNotWaiting` where it has not ended."""

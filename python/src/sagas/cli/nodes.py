@@ -121,7 +121,7 @@ def init(name: str, role: str | None) -> str:
     except ImportError as error:
         raise factory.missing(error) from error
     where = connections.named(name)
-    with connections.faults(where):
+    with connections.translate_errors(where):
         link = connections.connect_now(name)
         try:
             before = schema.migrate(link, where)

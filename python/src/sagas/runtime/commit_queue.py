@@ -101,7 +101,7 @@ class CommitQueue:
         """Return how many of so many functions that are called now are told of at once: half,
         where the server would have nothing to do until all were over.
         """
-        return half(ready) if self._store.takes and not self.is_writing else ready
+        return half(ready) if self._store.commit_seconds and not self.is_writing else ready
 
     # -- to be written
 
@@ -114,7 +114,7 @@ class CommitQueue:
             at_once: Whether nothing else is in the middle of something here: then the owner may
                 hear before this returns.
         """
-        if self._store.takes:
+        if self._store.commit_seconds:
             self._policy.came(self._loop.time())
         self._queue.append((effects, owner))
         if self._is_under_way:
@@ -156,7 +156,7 @@ class CommitQueue:
         """Write what waits, unless a commit is under way, or more is worth to wait for."""
         if not self._queue or self._is_under_way:
             return
-        takes = self._store.takes
+        takes = self._store.commit_seconds
         if takes and self._holds(takes):
             return
         entries, self._queue = self._queue, []
@@ -189,7 +189,7 @@ class CommitQueue:
     def _settle_soon(self) -> None:
         """What is over is told in the loop's next turn."""
         if not self._store.shared:  # a server's answer comes in a turn of its own
-            self._loop.call_soon(self._store.settle)
+            self._loop.call_soon(self._store.finish_commit)
 
     def _written(
         self, batches: Sequence[Batch], fault: BaseException | None, lost: frozenset[int]
@@ -197,7 +197,7 @@ class CommitQueue:
         entries, self._under_way, self._is_under_way = self._under_way, [], False
         if fault is not None or lost:
             entries = self._with_those_behind(entries, fault, lost)
-        takes = self._store.takes
+        takes = self._store.commit_seconds
         if self._queue and fault is None:
             is_soon = takes and self._policy.is_soon(
                 _rows_of(entries), _rows_of(self._queue), takes

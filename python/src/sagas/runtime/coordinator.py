@@ -188,18 +188,18 @@ class Coordinator:
             for listener in self.listeners:
                 listener()
 
-    def lapsed(self, is_older: bool = False) -> None:
+    def lease_expired(self, is_older: bool = False) -> None:
         """The lease ran out meanwhile; or another server has taken over, which may know less
         (`is_older`).
         """
-        self.shards.lapsed(is_older)
+        self.shards.lease_expired(is_older)
 
     def taken(self, rows: list[LogRow]) -> None:
         """Shards that another node had are this one's."""
         self.shards.taken(rows)
         self.look()
 
-    def vacant(self) -> None:
+    def slots_freed(self) -> None:
         """Some node gave places of a step back."""
         self.executor.fleet.look()
 
@@ -224,7 +224,7 @@ class Coordinator:
 
     def coming(self) -> int:
         """How many calls are on their way to a commit."""
-        return self.calls() + self.shards.coming() + self.store.sought
+        return self.calls() + self.shards.coming() + self.store.pending_lookups
 
     def calls(self) -> int:
         """How many functions are about to be called."""

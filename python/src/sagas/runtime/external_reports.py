@@ -118,7 +118,7 @@ class ExternalReports:
                 stored()
             await self._apply(Report(token, str(outcome.kind), value))
         else:
-            await self._table.tell()
+            await self._table.notify_owners()
         return True
 
     def _encoded(self, outcome: Outcome) -> str:
@@ -142,7 +142,7 @@ class ExternalReports:
             if shard in self.owner.shards.runners:
                 await self._apply(Report(token, str(outcome.kind), outcome.value))
             elif shard is not None:
-                await self._table.tell()
+                await self._table.notify_owners()
 
     async def _apply(self, report: Report) -> None:
         """Reports it into its shard here, where it can be now, and waits until it is there."""

@@ -123,10 +123,10 @@ class Placement:
     def _create(self, definitions: DefinitionSet, kind: Kind) -> ShardRunner:
         """Make a shard. None is without a definition: an audit of it would have none to read."""
         before = self.current.get(definitions.digest)
-        number, name = self._store.new_log(), secrets.token_hex(8)
+        number, name = self._store.new_shard(), secrets.token_hex(8)
         of = ShardDefinitions(definitions.kinds or [kind], definitions.digest)
         identity = ShardIdentity(number, name, of)
-        runner = self._home.run(ShardDriver.created(identity, self._store.line))
+        runner = self._home.run(ShardDriver.created(identity, self._store.timeline))
         self.current[definitions.digest] = runner
         if before:
             self._loop.call_soon(self._home.close_if_over, before)

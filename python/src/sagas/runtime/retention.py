@@ -110,7 +110,7 @@ def prune(
     """
     gone, at, stop = Gone(), -1, stop or threading.Event()
     with admin.writing(name) as link:
-        if not link.alone():
+        if not link.take_prune_lock():
             gone.other = True
             return gone
         before = min(clock(), link.now()) - keep

@@ -165,7 +165,7 @@ class Transactions:
             self._timer.cancel()
         await self._pool.close()
 
-    def let_go(self) -> None:
+    def close_idle(self) -> None:
         """Closes all that rest: the server may have none left for the store itself, or another
         one has taken over.
         """

@@ -23,7 +23,7 @@ from sagas.definition.payloads import ABSENT, Payloads
 from sagas.storage.blob_marks import Location, Marks
 
 if TYPE_CHECKING:
-    from sagas.storage.interface import Database, Then
+    from sagas.storage.interface import Database, CommitCallback
 
 AT_ONCE = 8
 """Values that are put, or got, at the same time."""
@@ -287,7 +287,7 @@ class BlobDatabase:
             await asyncio.wait([self._naming])
         await self._inner.close()
 
-    def commit(self, batches: Sequence[Batch], then: Then, now: bool) -> None:
+    def commit(self, batches: Sequence[Batch], then: CommitCallback, now: bool) -> None:
         """As `CommitWriter.commit`. The values are put first; meanwhile nothing else is written."""
         large = self.blobs.large_rows(batches)
         if not large:
@@ -298,7 +298,7 @@ class BlobDatabase:
         task.add_done_callback(self._putting.discard)
 
     async def _put(
-        self, large: Sequence[tuple[list[Any], int, int]], batches: Sequence[Batch], then: Then
+        self, large: Sequence[tuple[list[Any], int, int]], batches: Sequence[Batch], then: CommitCallback
     ) -> None:
         def settled(*told: Any) -> None:
             self.blobs.under_way.clear()  # one commit is made at a time

@@ -11,7 +11,7 @@ from sagas.definition import definition_text
 from sagas.definition.compiled import digest_of
 from sagas.definition.shelf import Shelf
 from sagas.storage.interface import Database
-from sagas.storage.record_file import told_path
+from sagas.storage.record_file import record_path
 from sagas.storage.sqlite.storage import Sqlite
 
 SCHEMES = ("postgresql:", "postgres:")
@@ -118,6 +118,6 @@ def make(
         kinds=kinds,
         version=shelf.shelf,
         transactions=transactions,
-        record=told_path(record),
+        record=record_path(record),
         encodes=shelf.payloads.codec is not None,
     )

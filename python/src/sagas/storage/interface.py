@@ -46,7 +46,7 @@ if TYPE_CHECKING:
     from sagas.definition.task import Task
     from sagas.storage.blob_layer import Blobs
 
-Then = Callable[[Sequence[Batch], "BaseException | None", frozenset[int]], None]
+CommitCallback = Callable[[Sequence[Batch], "BaseException | None", frozenset[int]], None]
 """What was given to be written; None, or what kept it from being written (as far as is known);
 and the logs of which nothing was written (`Lost`).
 """
@@ -151,7 +151,7 @@ class CommitWriter(Protocol):
     def commits(self) -> int:
         """How many transactions were written."""
 
-    def commit(self, batches: Sequence[Batch], then: Then, now: bool) -> None:
+    def commit(self, batches: Sequence[Batch], then: CommitCallback, now: bool) -> None:
         """One transaction for all; `then` is called in the loop. One at a time: not again before
         `then`. `now`: it may be called before this returns.
         """

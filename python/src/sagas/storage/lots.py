@@ -16,7 +16,7 @@ W = TypeVar("W")
 A = TypeVar("A")
 
 
-class Lots(Generic[W, A]):
+class Batcher(Generic[W, A]):
     """Asks for lots, one after the other. The items of a lot are of one group, or of none."""
 
     def __init__(

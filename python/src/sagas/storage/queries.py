@@ -299,7 +299,7 @@ class Rows:
         return found
 
 
-def known_words(id: int, history: bool) -> tuple[Any, ...]:
+def known_query(id: int, history: bool) -> tuple[Any, ...]:
     """What is asked of a saga, and the words for it."""
     if not history:
         return KNOWN, id, id, id
@@ -341,8 +341,8 @@ class Questions:
 
     async def known(self, row: SagaRow) -> Known:
         """What the store has of a saga. Raises `NoSuchSaga` where it was let go meanwhile."""
-        return known(await self.read(*known_words(row.id, history=False)), row.key)
+        return known(await self.read(*known_query(row.id, history=False)), row.key)
 
     async def history(self, row: SagaRow) -> Known:
         """As `known`, with its log's chunks."""
-        return known(await self.read_long(*known_words(row.id, history=True)), row.key)
+        return known(await self.read_long(*known_query(row.id, history=True)), row.key)

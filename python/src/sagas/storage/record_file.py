@@ -96,7 +96,7 @@ class Commit(Protocol):
     events: dict[int, int]
 
 
-def told_path(told: str | None) -> str | None:
+def record_path(told: str | None) -> str | None:
     """Return the given file; else the one that the environment names, if any."""
     return told or os.environ.get(VARIABLE) or None
 

@@ -30,7 +30,7 @@ SHAPE = "SELECT shape FROM shapes WHERE id = ?"
 OPEN = (None, "unknown", "suspended")
 
 
-class Desk(Protocol):
+class WorkerSession(Protocol):
     """A worker's connection to the store, for one thread."""
 
     def begin(self, order: Order) -> Begun | None:
@@ -50,7 +50,7 @@ class Desk(Protocol):
         """Drops the connection."""
 
 
-def desk_of(store: str) -> Desk:
+def open_worker_session(store: str) -> WorkerSession:
     """A desk over that store; it connects when it is asked."""
     if is_url(store):
         from sagas.storage.postgresql.worker_session import PostgreSQLDesk

@@ -16,7 +16,7 @@ class Announcer:
     """Tells over the connection that listens: a commit that tells takes a lock over the whole
     server."""
 
-    def __init__(self, news: notifications.News) -> None:
+    def __init__(self, news: notifications.Notifications) -> None:
         self.news = news
         self._said: list[str] = []
         self._telling: asyncio.TimerHandle | None = None

@@ -233,7 +233,7 @@ async def connect(url: str, settings: str = SETTINGS) -> Link:
     return link
 
 
-async def knock(url: str, where: str) -> None:
+async def check_access(url: str, where: str) -> None:
     """Raises `StoreUnavailable` where the server says for good that it lets nobody in so. A pool
     would try on, and whatever else it is may pass.
     """

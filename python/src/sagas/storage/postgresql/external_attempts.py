@@ -27,7 +27,7 @@ from sagas.storage.external import (
     Wanted,
     earlier,
 )
-from sagas.storage.lots import Lots
+from sagas.storage.lots import Batcher
 from sagas.storage.postgresql import notifications, prepared
 from sagas.storage.postgresql.connections import Asker
 from sagas.storage.postgresql.deliveries import PostgreSQLDeliveries
@@ -203,10 +203,10 @@ class PostgreSQLExternalAttempts:
 
     def __init__(self, url: str, asker: Asker) -> None:
         self._asker = asker
-        self._own = prepared.Kept(url, asker.where)
+        self._own = prepared.ReconnectingWire(url, asker.where)
         asker.attach(self._own)
         self._locking = asyncio.Lock()  # claims that wait for other nodes hold one of the pool
-        self._lots: Lots[Asked, Any] = Lots(self._ask_all, MOST, self._dropped, _group)
+        self._lots: Batcher[Asked, Any] = Batcher(self._ask_all, MOST, self._dropped, _group)
         self._unwanted: Callable[[Sequence[Claim]], object] = lambda claims: None
         self.deliveries: Deliveries = PostgreSQLDeliveries(asker)
 

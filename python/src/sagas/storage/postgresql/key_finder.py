@@ -30,7 +30,7 @@ class KeyFinder:
     def __init__(
         self, url: str, where: str, spawn: Callable[[Coroutine[Any, Any, None]], object]
     ) -> None:
-        self._link, self._where, self._spawn = prepared.Kept(url, where), where, spawn
+        self._link, self._where, self._spawn = prepared.ReconnectingWire(url, where), where, spawn
         self._wanted: dict[str, list[asyncio.Future[SagaRow | None]]] = {}
         self._finding = False
         self._seeking = 0  # keys that the server is asked for

@@ -85,7 +85,7 @@ DELETE FROM limit_slots WHERE (name, kind, slot) IN (SELECT name, kind, slot FRO
 place of a step has two names, and that of a key three."""
 
 
-class Places:
+class LimitSlots:
     """Takes them for one node."""
 
     def __init__(self, asker: Asker, node: str, say: Callable[[list[str]], object]) -> None:

@@ -94,7 +94,7 @@ class Listener:
             pause = min(MOST_PAUSE, 2 * pause)
 
 
-class News:
+class Notifications:
     """Listens on a connection of its own. `look` is called for each word that is of no id, and
     whenever words may have been missed.
     """

@@ -252,7 +252,7 @@ def read(result: PGresult) -> list[Values]:
     return [tuple([result.get_value(row, column) for column in columns]) for row in range(count)]
 
 
-class Kept:
+class ReconnectingWire:
     """A wire that is made again where it broke, for short statements."""
 
     def __init__(self, url: str, where: str) -> None:

@@ -83,7 +83,7 @@ async def give_back(asker: connections.Asker, node: str, start: int, why: str | 
 
 async def ask(
     asker: connections.Asker,
-    heard: notifications.News,
+    heard: notifications.Notifications,
     row: SagaRow,
     what: str,
     value: str,

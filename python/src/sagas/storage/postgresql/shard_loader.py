@@ -128,7 +128,7 @@ class Log(NamedTuple):
         return cls(text, events, Tail(*chunks[-1][:2]) if chunks else None)
 
 
-class Loads:
+class ShardLoader:
     """Takes up logs for one node."""
 
     def __init__(

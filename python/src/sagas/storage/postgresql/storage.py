@@ -15,7 +15,7 @@ from sagas.definition.serialization import cleaned
 from sagas.definition.step import Bounds
 from sagas.storage import queries
 from sagas.storage.external import ExternalAttempts
-from sagas.storage.interface import Drives, MakesTransactions, Peers, StepCaller, Then, Watcher
+from sagas.storage.interface import Drives, MakesTransactions, Peers, StepCaller, CommitCallback, Watcher
 from sagas.storage.postgresql import (
     connections,
     external_attempts,
@@ -28,13 +28,13 @@ from sagas.storage.postgresql.commit_statement import Commit
 from sagas.storage.postgresql.continuity import Continuity
 from sagas.storage.postgresql.external_attempts import PostgreSQLExternalAttempts
 from sagas.storage.postgresql.key_finder import KeyFinder
-from sagas.storage.postgresql.limit_slots import TIDY, Places
+from sagas.storage.postgresql.limit_slots import TIDY, LimitSlots
 from sagas.storage.postgresql.lookups import Lookups
 from sagas.storage.postgresql.missing_tables import MissingTables
 from sagas.storage.postgresql.node_lease import UNDRIVEN, Lease, said_of
 from sagas.storage.postgresql.peer_calls import PostgreSQLPeers
 from sagas.storage.postgresql.reader import Reader
-from sagas.storage.postgresql.shard_loader import Loads
+from sagas.storage.postgresql.shard_loader import ShardLoader
 from sagas.storage.postgresql.shard_numbers import ShardNumbers
 from sagas.storage.postgresql.writer import Writer
 from sagas.storage.record_file import RecordFile
@@ -73,7 +73,7 @@ class PostgreSQL(queries.Questions):
         self._sagas = list(sagas)
         self.external: ExternalAttempts = PostgreSQLExternalAttempts(url, self.asker)
         told = RecordFile.of(record, self.lease.node)
-        self._loads = Loads(self.asker, self.lease.node, self._spawn, told)
+        self._loads = ShardLoader(self.asker, self.lease.node, self._spawn, told)
         self._line = ""
         self._writer = Writer(
             url, self.path, self.lease.node, self._check_server, self._kept, self._let_go, told
@@ -166,7 +166,7 @@ class PostgreSQL(queries.Questions):
         """Listens, and takes over."""
         self._watcher = watcher
         channels = notifications.CHANNEL, external_attempts.CHANNEL
-        self._announcer = Announcer(notifications.News(self.url, self._heard, channels))
+        self._announcer = Announcer(notifications.Notifications(self.url, self._heard, channels))
         self._turn.set()
 
     async def close(self) -> None:
@@ -339,7 +339,7 @@ class PostgreSQL(queries.Questions):
 
     async def admit(self, name: str, bounds: Bounds, want: int, have: Sequence[int]) -> Grant:
         """Places of a step, over all nodes."""
-        places = Places(self.asker, self.lease.node, self._say)
+        places = LimitSlots(self.asker, self.lease.node, self._say)
         return await places.take(name, bounds, want, have, self.lease.pause)
 
     @property
@@ -357,7 +357,7 @@ class PostgreSQL(queries.Questions):
         """How many transactions were written."""
         return self._writer.commits
 
-    def commit(self, batches: Sequence[Batch], then: Then, now: bool) -> None:
+    def commit(self, batches: Sequence[Batch], then: CommitCallback, now: bool) -> None:
         """One statement for all; `then` is called in the loop. What others are to hear goes
         behind it: the server is at work anyway.
         """

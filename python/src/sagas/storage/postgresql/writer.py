@@ -12,7 +12,7 @@ from typing import Any, Optional
 from psycopg import errors
 from sagas.base.errors import StoreUnavailable
 from sagas.core.batch import Batch, Tail
-from sagas.storage.interface import Then
+from sagas.storage.interface import CommitCallback
 from sagas.storage.postgresql import connections
 from sagas.storage.postgresql.commit_statement import HAS_MOVED, Commit
 from sagas.storage.postgresql.prepared import Values, Wire
@@ -61,7 +61,7 @@ class Writer:
         self._rests.set()
         self._is_over = False
 
-    def commit(self, batches: Sequence[Batch], then: Then) -> None:
+    def commit(self, batches: Sequence[Batch], then: CommitCallback) -> None:
         """As `Database.commit`."""
         self._rests.clear()
         if self._is_over:
@@ -117,7 +117,7 @@ class Writer:
     def _over(
         self,
         batches: Sequence[Batch],
-        then: Then,
+        then: CommitCallback,
         fault: BaseException | None,
         lost: frozenset[int],
     ) -> None:
@@ -126,7 +126,7 @@ class Writer:
 
     # -- one statement
 
-    async def _connect(self, batches: Sequence[Batch], then: Then) -> None:
+    async def _connect(self, batches: Sequence[Batch], then: CommitCallback) -> None:
         fault: BaseException | None = None
         try:
             with connections.faults(self._where):
@@ -202,7 +202,7 @@ class Writer:
                 record.closed((log, commit.epochs[log], record.timeline))
 
     def _came(
-        self, batches: Sequence[Batch], then: Then, lost: frozenset[int], fault: Exception | None
+        self, batches: Sequence[Batch], then: CommitCallback, lost: frozenset[int], fault: Exception | None
     ) -> None:
         if isinstance(fault, OF_ONE):
             self._spawn(self._one_by_one(batches, then))
@@ -211,7 +211,7 @@ class Writer:
 
     # -- one statement for each log
 
-    async def _one_by_one(self, batches: Sequence[Batch], then: Then) -> None:
+    async def _one_by_one(self, batches: Sequence[Batch], then: CommitCallback) -> None:
         """One of them cannot be written (`OF_ONE`): the others are."""
         lost: set[int] = set()
         fault: Exception | None = None

@@ -28,7 +28,7 @@ from sagas.storage.external import (
     Wanted,
     earlier,
 )
-from sagas.storage.lots import Lots
+from sagas.storage.lots import Batcher
 from sagas.storage.sqlite.deliveries import SqliteDeliveries
 from sagas.storage.sqlite.statements import SPANS
 
@@ -138,7 +138,7 @@ class SqliteExternalAttempts:
 
     def __init__(self, rows: Callable[..., list[tuple[Any, ...]]]) -> None:
         self._rows = rows
-        self._lots: Lots[Asked, Any] = Lots(self._ask_all, MOST, self._dropped)
+        self._lots: Batcher[Asked, Any] = Batcher(self._ask_all, MOST, self._dropped)
         self.deliveries: Deliveries = SqliteDeliveries()
 
     def begin(

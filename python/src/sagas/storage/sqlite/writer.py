@@ -20,7 +20,7 @@ from collections.abc import Callable, Iterable, Sequence
 from typing import Any
 
 from sagas.core.batch import Batch, Ended, Rare
-from sagas.storage.interface import Then
+from sagas.storage.interface import CommitCallback
 from sagas.storage.sqlite import statements
 
 BUSY = 5000  # ms: an operator's command may be writing
@@ -86,7 +86,7 @@ class Writer:
         self.commits = 0
         self.events: dict[int, int] = {}
         self._jobs: queue.SimpleQueue[
-            tuple[Sequence[Batch], Then, Put | None] | None
+            tuple[Sequence[Batch], CommitCallback, Put | None] | None
         ] = queue.SimpleQueue()
         self._took = AT_ONCE  # seconds, by the last commits of the loop's
         self._patient: bool | None = None  # waits for other programs, as the connection is set
@@ -94,7 +94,7 @@ class Writer:
         self._lent = False  # the thread has the connection
         self._pages = 0  # that the loop wrote into the WAL, about
         self._over: tuple[
-            Then, Sequence[Batch], BaseException | None, frozenset[int]
+            CommitCallback, Sequence[Batch], BaseException | None, frozenset[int]
         ] | None = None  # a commit of the loop's, whose `then` is to be called
         self.fault: Exception | None = None
         """Why nothing is written any more."""
@@ -112,7 +112,7 @@ class Writer:
             self._jobs.put(None)
             self._thread.join()
 
-    def commit(self, batches: Sequence[Batch], then: Then, now: bool) -> None:
+    def commit(self, batches: Sequence[Batch], then: CommitCallback, now: bool) -> None:
         """As `Database.commit`."""
         rows = 0
         for batch in batches:
@@ -191,7 +191,7 @@ class Writer:
         return None, lost
 
     def _done(
-        self, batches: Sequence[Batch], then: Then, fault: Exception | None, lost: frozenset[int]
+        self, batches: Sequence[Batch], then: CommitCallback, fault: Exception | None, lost: frozenset[int]
     ) -> None:
         self._lent = False
         then(batches, fault, lost)
