@@ -20,4 +20,6 @@ def test_an_answer_that_names_an_error() -> None:
     """It is raised, with why; whatever else is answered is given."""
     with pytest.raises(sagas.StepNotWaiting, match="^it is over: it is done$"):
         operator_requests.checked_answer({"error": "StepNotWaiting: it is over: it is done"})
-    assert operator_requests.checked_answer(True) is True and operator_requests.checked_answer({"a": 1}) == {"a": 1}
+    assert operator_requests.checked_answer(True) is True and operator_requests.checked_answer(
+        {"a": 1}
+    ) == {"a": 1}

@@ -180,7 +180,9 @@ def test_a_program_that_comes_back_takes_a_report(late: Late) -> None:
     async def main() -> None:
         async with late.held():
             pass
-        open_worker_session(late.place).report(late.orders[0], Outcome(outcomes.SUCCEEDED, '"by the worker"'))
+        open_worker_session(late.place).report(
+            late.orders[0], Outcome(outcomes.SUCCEEDED, '"by the worker"')
+        )
         async with sagas.open(late.place, [late.saga]) as store:
             assert (await store.wait("k", 60)).results == {"once": "by the worker"}
 

@@ -333,7 +333,7 @@ class Shards:
 
     # -- lost
 
-    def lapsed(self, is_older: bool) -> None:
+    def lease_expired(self, is_older: bool) -> None:
         """Another node may have taken any shard: each is looked at in the store before anything
         begins in it. Where the store is older than what was told, no shard takes further sagas:
         their tokens would be those of the sagas that are lost.

@@ -30,7 +30,7 @@ LEAVE = """
 INSERT INTO operator_commands(key, command, value, at)
 SELECT key, ?, ?, ? FROM sagas WHERE id = ? RETURNING id
 """
-ALONE = 5_777_002
+PRUNE_LOCK = 5_777_002
 """The advisory lock of who lets ended sagas go."""
 STARTS = """
 SELECT key, saga, version, at FROM pending_starts i
@@ -72,22 +72,22 @@ class Source(Protocol):
     def now(self) -> float:
         """The time by the store's own clock, in seconds."""
 
-    def alone(self) -> bool:
+    def take_prune_lock(self) -> bool:
         """Whether no other connection has said this and is not closed yet."""
 
-    def ask(self, text: str, *words: Any) -> list[Row]:
+    def ask(self, text: str, *parameters: Any) -> list[Row]:
         """The rows of a question, or of a write that gives some."""
 
-    def changed(self, text: str, *words: Any) -> int:
+    def changed(self, text: str, *parameters: Any) -> int:
         """Writes; gives how many rows that changed."""
 
-    def tell(self, what: str) -> None:
+    def notify(self, message: str) -> None:
         """Wakes the programs that have the store open, where that can be."""
 
     def is_driven(self) -> bool:
         """Whether a program has the store open."""
 
-    def absent(self, key: str) -> Trouble:
+    def missing_saga_error(self, key: str) -> Trouble:
         """What is said where no saga has the key."""
 
     def starts(self) -> list[Row]:
@@ -102,11 +102,11 @@ class Source(Protocol):
     def start_of(self, key: str) -> int | None:
         """The id of the client's start that has the key, and no log yet."""
 
-    def leave(self, of: int, what: str, value: str) -> int | None:
+    def add_request(self, saga: int, command: str, value: str) -> int | None:
         """Leaves a request for the saga with this id, or for a client's start, as of an id below 0.
         Gives the request's id; None where what is asked is gone."""
 
-    def answer(self, number: int, of: int) -> tuple[bool, str | None]:
+    def answer(self, number: int, saga: int) -> tuple[bool, str | None]:
         """Whether a request that was left is there still, and its answer."""
 
     def drop_definitions(self) -> None:
@@ -119,21 +119,21 @@ class Source(Protocol):
         """Ends the connection."""
 
 
-class File:
+class FileSource:
     """A SQLite file; `mode` is `ro` or `rw`."""
 
     def __init__(self, name: str, mode: str) -> None:
         self.name, self.path = name, pathlib.Path(name)
-        self._alone: int | None = None
+        self._prune_lock: int | None = None
         try:
             if not self.path.is_file():
-                what = (
+                problem = (
                     "this is a folder. Name a file"
                     if self.path.is_dir()
                     else "the file does not exist. sagas.open creates a store"
                 )
-                raise Trouble(f"{name}: {what}", CANNOT)
-            self.link = sqlite3.connect(
+                raise Trouble(f"{name}: {problem}", CANNOT)
+            self.connection = sqlite3.connect(
                 f"{self.path.resolve().as_uri()}?mode={mode}",
                 uri=True,
                 timeout=5.0,
@@ -146,18 +146,20 @@ class File:
                 CANNOT,
             ) from error
         except sqlite3.Error as error:
-            raise Trouble(f"{name}: {store_file.told(error)}", CANNOT) from error
+            raise Trouble(f"{name}: {store_file.describe_error(error)}", CANNOT) from error
         try:
             version = self._version(mode)
         except sqlite3.Error as error:
-            self.link.close()
-            told = store_file.told(error)  # also who only reads writes into `-shm`
+            self.connection.close()
+            message = store_file.describe_error(error)  # also who only reads writes into `-shm`
             raise Trouble(
-                f"{name}: {told}" if told != str(error) else f"{name} is not a store: {error}",
+                f"{name}: {message}"
+                if message != str(error)
+                else f"{name} is not a store: {error}",
                 CANNOT,
             ) from error
         if version > VERSION:
-            self.link.close()
+            self.connection.close()
             raise Trouble(
                 f"{name} has tables of version {version}, and this command knows {VERSION}. "
                 "Use a later release",
@@ -165,24 +167,24 @@ class File:
             )
 
     def _version(self, mode: str) -> int:
-        (version,) = self.link.execute("PRAGMA user_version").fetchone()
-        self.link.execute("SELECT 1 FROM sagas LIMIT 1").fetchone()
+        (version,) = self.connection.execute("PRAGMA user_version").fetchone()
+        self.connection.execute("SELECT 1 FROM sagas LIMIT 1").fetchone()
         if mode == "rw":
-            self.link.execute("PRAGMA synchronous=FULL")
+            self.connection.execute("PRAGMA synchronous=FULL")
         return int(version)
 
-    def _run(self, text: str, words: tuple[Any, ...] = ()) -> sqlite3.Cursor:
+    def _run(self, text: str, parameters: tuple[Any, ...] = ()) -> sqlite3.Cursor:
         """Raises `StoreUnavailable` where the file cannot be read or written."""
         try:
-            return self.link.execute(text, cleaned(words))
+            return self.connection.execute(text, cleaned(parameters))
         except sqlite3.Error as error:
-            raise StoreUnavailable(f"{self.name}: {store_file.told(error)}") from error
+            raise StoreUnavailable(f"{self.name}: {store_file.describe_error(error)}") from error
 
     def begin(self) -> None:
         self._run("BEGIN")
 
     def end(self) -> None:
-        if self.link.in_transaction:
+        if self.connection.in_transaction:
             self._run("ROLLBACK")
 
     @contextlib.contextmanager
@@ -192,36 +194,38 @@ class File:
             yield
             self._run("COMMIT")
         except BaseException:
-            if self.link.in_transaction:
-                self.link.execute("ROLLBACK")
+            if self.connection.in_transaction:
+                self.connection.execute("ROLLBACK")
             raise
 
     def now(self) -> float:
         return time.time()
 
-    def alone(self) -> bool:
-        if self._alone is None:
+    def take_prune_lock(self) -> bool:
+        if self._prune_lock is None:
             path = f"{os.path.realpath(self.path)}.prune.lock"
-            self._alone = store_file.take_lock(path, os.O_RDONLY)  # another user may have made it
-        return self._alone is not None
+            self._prune_lock = store_file.take_lock(
+                path, os.O_RDONLY
+            )  # another user may have made it
+        return self._prune_lock is not None
 
-    def ask(self, text: str, *words: Any) -> list[Row]:
-        cursor = self._run(text, words)
+    def ask(self, text: str, *parameters: Any) -> list[Row]:
+        cursor = self._run(text, parameters)
         try:
             return cursor.fetchall()
         except sqlite3.Error as error:
-            raise StoreUnavailable(f"{self.name}: {store_file.told(error)}") from error
+            raise StoreUnavailable(f"{self.name}: {store_file.describe_error(error)}") from error
 
-    def changed(self, text: str, *words: Any) -> int:
-        return self._run(text, words).rowcount
+    def changed(self, text: str, *parameters: Any) -> int:
+        return self._run(text, parameters).rowcount
 
-    def tell(self, what: str) -> None:
+    def notify(self, message: str) -> None:
         """The program looks by itself."""
 
     def is_driven(self) -> bool:
         return store_file.is_held(self.path)
 
-    def absent(self, key: str) -> Trouble:
+    def missing_saga_error(self, key: str) -> Trouble:
         return Trouble(f"no saga has the key {key}")
 
     def starts(self) -> list[Row]:
@@ -236,11 +240,11 @@ class File:
     def start_of(self, key: str) -> int | None:
         return None
 
-    def leave(self, of: int, what: str, value: str) -> int | None:
-        rows = self.ask(LEAVE, what, value, time.time(), of)
+    def add_request(self, saga: int, command: str, value: str) -> int | None:
+        rows = self.ask(LEAVE, command, value, time.time(), saga)
         return int(rows[0][0]) if rows else None
 
-    def answer(self, number: int, of: int) -> tuple[bool, str | None]:
+    def answer(self, number: int, saga: int) -> tuple[bool, str | None]:
         rows = self.ask("SELECT answer FROM operator_commands WHERE id = ?", number)
         return bool(rows), rows[0][0] if rows else None
 
@@ -251,13 +255,13 @@ class File:
         return 0  # a file has no clients
 
     def close(self) -> None:
-        self.link.close()
-        if self._alone is not None:
-            store_file.close_lock(self._alone)
-            self._alone = None
+        self.connection.close()
+        if self._prune_lock is not None:
+            store_file.close_lock(self._prune_lock)
+            self._prune_lock = None
 
 
-class Base:
+class DatabaseSource:
     """A PostgreSQL database."""
 
     def __init__(self, url: str, mode: str) -> None:
@@ -268,58 +272,60 @@ class Base:
             raise factory.missing(error) from error
 
         self.name = connections.named(url)
-        self._faults = functools.partial(connections.faults, self.name)
-        with self._faults():
-            self.link = connections.connect_now(url)
-            version = schema.version_of(self.link)
+        self._translating_errors = functools.partial(connections.translate_errors, self.name)
+        with self._translating_errors():
+            self.connection = connections.connect_now(url)
+            version = schema.version_of(self.connection)
         if not 0 < version <= schema.VERSION:
-            self.link.close()
+            self.connection.close()
             known = schema.VERSION
-            of = (
+            problem = (
                 f"has tables of version {version}, and this command knows {known}. Use a "
                 "later release"
                 if version
                 else "has no tables yet. Start a node, or run `sagas store URL init`"
             )
-            raise Trouble(f"{self.name} {of}", CANNOT)
+            raise Trouble(f"{self.name} {problem}", CANNOT)
 
     def begin(self) -> None:
-        with self._faults():
-            self.link.execute("BEGIN ISOLATION LEVEL REPEATABLE READ READ ONLY")
+        with self._translating_errors():
+            self.connection.execute("BEGIN ISOLATION LEVEL REPEATABLE READ READ ONLY")
 
     def end(self) -> None:
-        with self._faults():
-            self.link.rollback()
+        with self._translating_errors():
+            self.connection.rollback()
 
     @contextlib.contextmanager
     def transaction(self) -> Iterator[None]:
-        with self._faults(), self.link.transaction():
+        with self._translating_errors(), self.connection.transaction():
             yield
 
     def now(self) -> float:
         return float(self.ask("SELECT extract(epoch FROM now())")[0][0])
 
-    def alone(self) -> bool:
-        return bool(self.ask("SELECT pg_try_advisory_lock(?)", ALONE)[0][0])
+    def take_prune_lock(self) -> bool:
+        return bool(self.ask("SELECT pg_try_advisory_lock(?)", PRUNE_LOCK)[0][0])
 
-    def ask(self, text: str, *words: Any) -> list[Row]:
-        with self._faults():
-            return self.link.execute(queries.for_postgresql(text), cleaned(words)).fetchall()
+    def ask(self, text: str, *parameters: Any) -> list[Row]:
+        with self._translating_errors():
+            return self.connection.execute(
+                queries.for_postgresql(text), cleaned(parameters)
+            ).fetchall()
 
-    def changed(self, text: str, *words: Any) -> int:
-        with self._faults():
-            return self.link.execute(text.replace("?", "%s"), cleaned(words)).rowcount
+    def changed(self, text: str, *parameters: Any) -> int:
+        with self._translating_errors():
+            return self.connection.execute(text.replace("?", "%s"), cleaned(parameters)).rowcount
 
-    def tell(self, what: str) -> None:
+    def notify(self, message: str) -> None:
         from sagas.storage.postgresql import notifications
 
-        with self._faults():
-            self.link.execute(notifications.SAY, {"words": [what]})
+        with self._translating_errors():
+            self.connection.execute(notifications.NOTIFY, {"messages": [message]})
 
     def is_driven(self) -> bool:
         return bool(self.ask("SELECT 1 FROM nodes WHERE lease > now() LIMIT 1"))
 
-    def absent(self, key: str) -> Trouble:
+    def missing_saga_error(self, key: str) -> Trouble:
         for saga, version, node in self.ask(
             "SELECT saga, version, node FROM pending_starts WHERE key = ?", key
         ):
@@ -328,12 +334,12 @@ class Base:
                     f"{key} has not started: node {node} has accepted it, and starts it, or "
                     "another node does when that one is gone"
                 )
-            waits = (
+            message = (
                 f"{key} has not started: it waits for a node that has {saga} (version "
                 f"{version})"
             )
             return Trouble(
-                f"{waits}. Run `sagas store URL nodes` to see the nodes, or `sagas store URL "
+                f"{message}. Run `sagas store URL nodes` to see the nodes, or `sagas store URL "
                 f"abort {key}` to withdraw it"
             )
         return Trouble(f"no saga has the key {key}")
@@ -349,20 +355,24 @@ class Base:
     def withdraw(self, key: str) -> bool:
         messages = [message for (message,) in self.ask(WITHDRAW, key)]
         for message in messages:
-            self.tell(message)
+            self.notify(message)
         return bool(messages)
 
     def start_of(self, key: str) -> int | None:
         rows = self.ask("SELECT id FROM pending_starts WHERE key = ?", key)
         return int(rows[0][0]) if rows else None
 
-    def leave(self, of: int, what: str, value: str) -> int | None:
-        rows = self.ask(ASK, what, value, of) if of >= 0 else self.ask(ASK_START, what, value, -of)
+    def add_request(self, saga: int, command: str, value: str) -> int | None:
+        rows = (
+            self.ask(ASK, command, value, saga)
+            if saga >= 0
+            else self.ask(ASK_START, command, value, -saga)
+        )
         return int(rows[0][0]) if rows else None
 
-    def answer(self, number: int, of: int) -> tuple[bool, str | None]:
-        ((is_asked, answer, is_started, _),) = self.ask(ANSWER, number, -of if of < 0 else None)
-        return is_asked or is_started, answer
+    def answer(self, number: int, saga: int) -> tuple[bool, str | None]:
+        ((has_saga, answer, has_start, _),) = self.ask(ANSWER, number, -saga if saga < 0 else None)
+        return has_saga or has_start, answer
 
     def drop_definitions(self) -> None:
         with self.transaction():  # a commit that makes a shard has written both rows, or waits
@@ -373,25 +383,25 @@ class Base:
         return self.changed(REFUSED, before)
 
     def close(self) -> None:
-        self.link.close()
+        self.connection.close()
 
 
 def connect(name: str, mode: str = "ro") -> Source:
     """A connection to a store. Raises `Trouble`, `StoreUnavailable`, `InvalidStore`."""
     factory.check_name(name)
     if factory.is_url(name):
-        return Base(name, mode)
-    return File(name, mode)
+        return DatabaseSource(name, mode)
+    return FileSource(name, mode)
 
 
 @contextlib.contextmanager
 def writing(name: str) -> Iterator[Source]:
     """A connection for a short write beside the programs."""
-    link = connect(name, "rw")
+    connection = connect(name, "rw")
     try:
-        yield link
+        yield connection
     except SagasError as error:
-        told = str(error).removeprefix(f"{link.name}: ")
-        raise Trouble(f"cannot write {link.name}: {told}", CANNOT) from error
+        message = str(error).removeprefix(f"{connection.name}: ")
+        raise Trouble(f"cannot write {connection.name}: {message}", CANNOT) from error
     finally:
-        link.close()
+        connection.close()

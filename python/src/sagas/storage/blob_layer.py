@@ -52,8 +52,8 @@ def _without(row: Row) -> Row:
 
 def referred(rows: Iterable[Row]) -> list[str]:
     """The keys to which rows of `REFERRED` refer."""
-    found = (Reference.of(text) for (text,) in rows)
-    return [one.key for one in found if one is not None]
+    references = (Reference.of(text) for (text,) in rows)
+    return [reference.key for reference in references if reference is not None]
 
 
 def within(first: int, end: int) -> tuple[Any, ...]:
@@ -93,8 +93,8 @@ class Blobs:
         try:
             await self._renew()
         except Exception as error:  # also what no blob store may raise: values are put all the same
-            told = error if isinstance(error, SagasError) else type(error).__name__
-            logger.warning("%s: whose the blobs are could not be seen: %s", self._path, told)
+            detail = error if isinstance(error, SagasError) else type(error).__name__
+            logger.warning("%s: whose the blobs are could not be seen: %s", self._path, detail)
             self.prefix = secrets.token_hex(8)
         self._is_named.set()
 
@@ -113,12 +113,12 @@ class Blobs:
                 self.prefix = secrets.token_hex(8)
         return self.other is None
 
-    async def _call(self, function: Callable[..., Any], *words: Any) -> Any:
+    async def _call(self, function: Callable[..., Any], *arguments: Any) -> Any:
         """Raises `KeyError`, and `BlobUnavailable` for anything else that a blob store raises."""
         try:
             if inspect.iscoroutinefunction(function):
-                return await function(*words)
-            return await asyncio.to_thread(function, *words)
+                return await function(*arguments)
+            return await asyncio.to_thread(function, *arguments)
         except KeyError:
             raise
         except Exception as error:  # it may have the value in its text
@@ -138,29 +138,29 @@ class Blobs:
 
     def large_rows(self, batches: Sequence[Batch]) -> list[tuple[list[Any], int, int]]:
         """Where the large values are: the rows, the place of one, and the place in it."""
-        found: list[tuple[list[Any], int, int]] = []
+        large: list[tuple[list[Any], int, int]] = []
         for batch in batches:
-            for place, opened in enumerate(batch.opened):
+            for index, opened in enumerate(batch.opened):
                 if self.is_large(opened[4]):
-                    found.append((batch.opened, place, INPUT))
-            for place, result in enumerate(batch.results):
+                    large.append((batch.opened, index, INPUT))
+            for index, result in enumerate(batch.results):
                 if result[4] in DONE and self.is_large(result[5]):
-                    found.append((batch.results, place, RESULT))
+                    large.append((batch.results, index, RESULT))
             shapes: list[Any] = batch.rare.shapes if batch.rare else []
-            for place, (_, shape) in enumerate(shapes):
+            for index, (_, shape) in enumerate(shapes):
                 if self.is_large(shape):
-                    found.append((shapes, place, SHAPE))
-        return found
+                    large.append((shapes, index, SHAPE))
+        return large
 
     async def put_all(self, large: Sequence[tuple[list[Any], int, int]]) -> None:
         """Put values, and references into their rows. Raises `StoreUnavailable`."""
         await self._is_named.wait()
-        texts = [rows[place][cell] for rows, place, cell in large]
-        ids = [rows[place][0] for rows, place, _ in large]
+        texts = [rows[index][cell] for rows, index, cell in large]
+        ids = [rows[index][0] for rows, index, _ in large]
         references = await asyncio.gather(*map(self._put, ids, texts))
-        for (rows, place, cell), reference in zip(large, references):
-            row = rows[place]
-            rows[place] = (*row[:cell], reference, *row[cell + 1 :])
+        for (rows, index, cell), reference in zip(large, references):
+            row = rows[index]
+            rows[index] = (*row[:cell], reference, *row[cell + 1 :])
 
     async def _put(self, id: int, text: str) -> str:
         key = f"{self.prefix}/{id:x}/{secrets.token_hex(16)}"
@@ -201,18 +201,18 @@ class Blobs:
 
     async def rows(self, rows: Sequence[Row]) -> list[Row]:
         """Return rows with their values."""
-        found = list(rows)
-        places = [
+        whole_rows = list(rows)
+        references = [
             (number, cell, text)
             for number, row in enumerate(rows)
             for cell, text in enumerate(row)
             if isinstance(text, str) and text.startswith(HEAD)
         ]
-        texts = await asyncio.gather(*(self.text(text) for _, _, text in places))
-        for (number, cell, _), text in zip(places, texts):
-            row = found[number]
-            found[number] = (*row[:cell], text, *row[cell + 1 :])
-        return found
+        texts = await asyncio.gather(*(self.text(text) for _, _, text in references))
+        for (number, cell, _), text in zip(references, texts):
+            row = whole_rows[number]
+            whole_rows[number] = (*row[:cell], text, *row[cell + 1 :])
+        return whole_rows
 
     # -- deleted
 
@@ -245,9 +245,9 @@ class Blobs:
             by_id.setdefault(int(key.split("/")[1], 16), []).append(key)
         count = 0
         for id, keys in by_id.items():
-            there = set(self.under_way)
-            there.update(referred(await read(REFERRED, *within(id, id + 1))))
-            orphans = [key for key in keys if key not in there]
+            referred_keys = set(self.under_way)
+            referred_keys.update(referred(await read(REFERRED, *within(id, id + 1))))
+            orphans = [key for key in keys if key not in referred_keys]
             await self._delete(orphans)
             count += len(orphans)
         return count
@@ -273,12 +273,12 @@ class BlobDatabase:
             return inner
         return cast("Database", cls(inner, Blobs(store, threshold, payloads, inner.path)))
 
-    async def open(self, drives: Any) -> Any:
+    async def open(self, check_functions: Any) -> Any:
         """As of the database; then the blobs of this store have their name."""
-        found = await self._inner.open(drives)
+        rows = await self._inner.open(check_functions)
         naming = self.blobs.name(self._inner.file, await self._inner.secret())
         self._naming = asyncio.get_running_loop().create_task(naming)
-        return found
+        return rows
 
     async def close(self) -> None:
         """As of the database."""
@@ -298,22 +298,25 @@ class BlobDatabase:
         task.add_done_callback(self._putting.discard)
 
     async def _put(
-        self, large: Sequence[tuple[list[Any], int, int]], batches: Sequence[Batch], then: CommitCallback
+        self,
+        large: Sequence[tuple[list[Any], int, int]],
+        batches: Sequence[Batch],
+        then: CommitCallback,
     ) -> None:
-        def settled(*told: Any) -> None:
+        def committed(*result: Any) -> None:
             self.blobs.under_way.clear()  # one commit is made at a time
-            then(*told)
+            then(*result)
 
         try:
             await self.blobs.put_all(large)
         except Exception as error:
-            settled(batches, error, frozenset())
+            committed(batches, error, frozenset())
         else:
-            self._inner.commit(batches, settled, True)
+            self._inner.commit(batches, committed, True)
 
-    async def load(self, log: int, epoch: int, born: Born | None) -> Loaded | None:
+    async def load(self, shard: int, epoch: int, born: Born | None) -> Loaded | None:
         """As of the database: large values of open sagas are read when a function needs them."""
-        loaded = await self._inner.load(log, epoch, born)
+        loaded = await self._inner.load(shard, epoch, born)
         if loaded is not None:
             loaded.open = cast(Any, [_without(row) for row in loaded.open])
             held = [_without(row) if row[EVENT] in HELD else row for row in loaded.results]
@@ -333,17 +336,17 @@ class BlobDatabase:
         results = cast(Any, await self.blobs.rows(known.results))
         return known._replace(results=results, shape=shape)
 
-    async def read(self, query: str, *words: Any) -> list[Row]:
+    async def read(self, query: str, *arguments: Any) -> list[Row]:
         """As of the database."""
-        return await self.blobs.rows(await self._inner.read(query, *words))
+        return await self.blobs.rows(await self._inner.read(query, *arguments))
 
-    async def read_stored(self, query: str, *words: Any) -> list[Row]:
+    async def read_stored(self, query: str, *arguments: Any) -> list[Row]:
         """As of the database."""
-        return await self._inner.read(query, *words)
+        return await self._inner.read(query, *arguments)
 
-    async def read_long(self, query: str, *words: Any) -> list[Row]:
+    async def read_long(self, query: str, *arguments: Any) -> list[Row]:
         """As of the database."""
-        return await self.blobs.rows(await self._inner.read_long(query, *words))
+        return await self.blobs.rows(await self._inner.read_long(query, *arguments))
 
     async def swept(self) -> int:
         """Delete what no row refers to; how many that were."""

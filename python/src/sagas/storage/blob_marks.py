@@ -48,8 +48,8 @@ class Location(NamedTuple):
     def read(cls, data: bytes) -> Location:
         """What a mark has."""
         try:
-            told = json.loads(data)
-            return cls(str(told["store"]), str(told["id"]))
+            fields = json.loads(data)
+            return cls(str(fields["store"]), str(fields["id"]))
         except (ValueError, KeyError, TypeError):
             return cls("another store", "")
 
@@ -62,23 +62,23 @@ class Notes:
 
     def location(self) -> Location:
         """Where the store is."""
-        with admin.writing(self._file) as link:
+        with admin.writing(self._file) as connection:
             if factory.is_url(self._file):
-                server = link.ask(SERVER)[0][0] if link.ask(MAY)[0][0] else ""
-                return Location(link.name, f"{server}/{link.ask(DATABASE)[0][0]}")
+                server = connection.ask(SERVER)[0][0] if connection.ask(MAY)[0][0] else ""
+                return Location(connection.name, f"{server}/{connection.ask(DATABASE)[0][0]}")
             path = os.path.realpath(self._file)
             return Location(path, f"{path} {os.stat(path).st_ino}")
 
     def tokens(self) -> str:
         """The tokens that are noted."""
-        with admin.writing(self._file) as link:
-            return "".join(value for (value,) in link.ask(NOTED))
+        with admin.writing(self._file) as connection:
+            return "".join(value for (value,) in connection.ask(NOTED))
 
     def change(self, before: str, tokens: str) -> bool:
         """Note other tokens, unless others than `before` are noted by now."""
-        with admin.writing(self._file) as link:
-            link.changed(NOTE)
-            return bool(link.changed(CHANGE, tokens, before))
+        with admin.writing(self._file) as connection:
+            connection.changed(NOTE)
+            return bool(connection.changed(CHANGE, tokens, before))
 
 
 class Marks:
@@ -95,14 +95,14 @@ class Marks:
 
     async def _there(self) -> dict[str, Location]:
         """The marks that are in the blob store."""
-        found = {}
+        marks = {}
         for key in await self._call(self._store.keys, f"{self._prefix}/", time.time() + LATER):
             try:
                 data: bytes = await self._call(self._store.get, key)
             except KeyError:  # deleted meanwhile
                 continue
-            found[key.rpartition("/")[2]] = Location.read(data)
-        return found
+            marks[key.rpartition("/")[2]] = Location.read(data)
+        return marks
 
     async def renew(self) -> Location | None:
         """Put a new mark in place of those of this store.
@@ -113,29 +113,29 @@ class Marks:
         Raises:
             StoreUnavailable: The blob store or the database does not answer.
         """
-        here = await _beside(self._notes.location)
+        here = await _in_thread(self._notes.location)
         for turn in range(TURNS):
             if turn:
                 await asyncio.sleep(PAUSE)
-            noted: str = await _beside(self._notes.tokens)
-            there = await self._there()
+            noted: str = await _in_thread(self._notes.tokens)
+            marks = await self._there()
             own = set(noted.split())
-            others = [place for token, place in there.items() if token not in own]
-            others += [place for place in there.values() if place.id != here.id]
+            others = [location for token, location in marks.items() if token not in own]
+            others += [location for location in marks.values() if location.id != here.id]
             if not others and await self._replace(noted, [*own], here):
                 return None
         if not others:
             raise StoreUnavailable(f"{here.name}: other nodes change the marks of the blob store")
-        if self._mine is not None and self._mine not in there:
+        if self._mine is not None and self._mine not in marks:
             # this store had the values, and another one took them: neither deletes any from now on
             await self._call(self._store.put, self._key(self._mine), here.written())
         return others[0]
 
     async def take(self) -> None:
         """Put a mark of this store in place of all that there are."""
-        here = await _beside(self._notes.location)
+        here = await _in_thread(self._notes.location)
         for _ in range(TURNS):
-            noted: str = await _beside(self._notes.tokens)
+            noted: str = await _in_thread(self._notes.tokens)
             if await self._replace(noted, [*await self._there()], here):
                 return
         raise StoreUnavailable(f"{here.name}: other nodes change the marks of the blob store")
@@ -144,21 +144,21 @@ class Marks:
         """Put a mark in place of others. False: another program notes tokens, too."""
         new = secrets.token_hex(16)
         both = " ".join([*noted.split(), new])
-        if not await _beside(self._notes.change, noted, both):
+        if not await _in_thread(self._notes.change, noted, both):
             return False
         await self._call(self._store.put, self._key(new), here.written())
         for token in before:
             await self._call(self._store.delete, self._key(token))
-        if not await _beside(self._notes.change, both, new):
+        if not await _in_thread(self._notes.change, both, new):
             await self._call(self._store.delete, self._key(new))
             return False
         self._mine = new
         return True
 
 
-async def _beside(function: Callable[..., Any], *words: Any) -> Any:
+async def _in_thread(function: Callable[..., Any], *arguments: Any) -> Any:
     """Ask the database in a thread."""
     try:
-        return await asyncio.to_thread(function, *words)
+        return await asyncio.to_thread(function, *arguments)
     except (admin.Trouble, OSError) as error:
         raise StoreUnavailable(str(error)) from error

@@ -26,11 +26,11 @@ def missing(where: str) -> MissingCodec:
     )
 
 
-def check(link: Source, payloads: Payloads) -> None:
+def check(connection: Source, payloads: Payloads) -> None:
     """Check that a value may be written over a connection.
 
     Raises:
         MissingCodec: The store's values are encoded, and this program has no codec.
     """
-    if payloads.codec is None and link.ask(NOTED):
-        raise missing(link.name)
+    if payloads.codec is None and connection.ask(NOTED):
+        raise missing(connection.name)

@@ -76,8 +76,8 @@ class Deliveries(Protocol):
     def begin(self, write: Callable[[Batch], Awaitable[None]], clock: Callable[[], float]) -> None:
         """`write`: puts a batch into the next transaction."""
 
-    async def change(self, text: str, **words: Any) -> list[tuple[Any, ...]]:
+    async def change(self, text: str, **parameters: Any) -> list[tuple[Any, ...]]:
         """Carries out one of these statements, in a transaction of its own."""
 
-    async def ask(self, text: str, **words: Any) -> list[tuple[Any, ...]]:
+    async def ask(self, text: str, **parameters: Any) -> list[tuple[Any, ...]]:
         """Rows of one that changes nothing."""

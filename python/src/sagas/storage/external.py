@@ -71,7 +71,7 @@ class Claim(NamedTuple):
     is_takeover: bool
 
 
-class Wanted(NamedTuple):
+class ClaimRequest(NamedTuple):
     """A claim of attempts of these tasks: the maximum number, and the seconds of a lease."""
 
     tasks: tuple[str, ...]
@@ -80,7 +80,7 @@ class Wanted(NamedTuple):
     worker: str
 
 
-class Reported(NamedTuple):
+class ReportRequest(NamedTuple):
     """How an attempt ended, as it is reported under a lease."""
 
     attempt: str
@@ -89,10 +89,10 @@ class Reported(NamedTuple):
     value: str
 
 
-Asked = Union[Wanted, Reported]
+ExternalRequest = Union[ClaimRequest, ReportRequest]
 
 
-class Beat(NamedTuple):
+class Heartbeat(NamedTuple):
     """For how many seconds a lease holds, and why the task is to be undone, if it is."""
 
     seconds: float
@@ -117,7 +117,7 @@ class Report(NamedTuple):
     value: str
 
 
-class Waiting(NamedTuple):
+class QueueState(NamedTuple):
     """Of a task how many wait for a worker, since when the first, and how many are leased."""
 
     task: str
@@ -147,7 +147,7 @@ class ExternalAttempts(Protocol):
         """Leases of attempts that wait, those first that have waited longest. `limited`: those of
         the tasks that have a concurrency."""
 
-    async def heartbeat(self, attempt: str, lease: int, seconds: float) -> Beat | None:
+    async def heartbeat(self, attempt: str, lease: int, seconds: float) -> Heartbeat | None:
         """Keeps a lease; None where it is not the newest, or is over."""
 
     async def advance(self, attempt: str, fraction: float, detail: str | None, at: float) -> None:
@@ -165,8 +165,8 @@ class ExternalAttempts(Protocol):
     async def reported(self, shards: Sequence[int]) -> list[Report]:
         """What was reported of attempts of these shards, and is not settled."""
 
-    async def waiting(self) -> list[Waiting]:
+    async def waiting(self) -> list[QueueState]:
         """What waits for workers, or is leased, by task."""
 
-    async def tell(self) -> None:
+    async def notify_owners(self) -> None:
         """Wakes the node that drives a shard of which something was reported."""

@@ -40,17 +40,17 @@ def check_name(name: str) -> None:
             f"{name}: must be the path of a file. In memory, for a test: sagas.testing.run"
         )
     text = name.strip()
-    found = NO_FILE.match(text)
-    if found and found["scheme"] == "sqlite":
+    match = NO_FILE.match(text)
+    if match and match["scheme"] == "sqlite":
         raise InvalidStore(
             f"{name}: name a SQLite store by its path: "
             f"{text[len('sqlite://'):].removeprefix('/')}"
         )
-    if found:
-        kind = f"{found['scheme']}://" if found["scheme"] else "a list of words"
-        if found["url"] or is_url(text):
-            kind = "a URL behind a space" if is_url(text) else "a misspelled URL"
-        raise InvalidStore(f"{kind}: a store is an SQLite file, or {FORM}")
+    if match:
+        form = f"{match['scheme']}://" if match["scheme"] else "a list of words"
+        if match["url"] or is_url(text):
+            form = "a URL behind a space" if is_url(text) else "a misspelled URL"
+        raise InvalidStore(f"{form}: a store is an SQLite file, or {FORM}")
 
 
 def missing(error: ImportError) -> InvalidStore:
@@ -68,10 +68,10 @@ def missing(error: ImportError) -> InvalidStore:
 
 def make(
     name: str,
-    shelf: Shelf,
+    definitions: Shelf,
     node: str | None,
     lease: float,
-    most: int,
+    max_connections: int,
     transactions: Callable[..., Any],
     record: str | None = None,
 ) -> Database:
@@ -89,7 +89,7 @@ def make(
             )
         for step in (
             step
-            for saga in shelf.sagas.values()
+            for saga in definitions.sagas.values()
             for step in saga.all_steps
             if step.run.transaction or step.undo.transaction
         ):
@@ -97,27 +97,27 @@ def make(
                 f"{step.where}: saga {step.saga.name!r}, step {step.name!r}: transaction=True "
                 f"needs PostgreSQL, and {name} is a SQLite file"
             )
-        return Sqlite(name, shelf.payloads.codec is not None)
+        return Sqlite(name, definitions.payloads.codec is not None)
     try:
         from sagas.storage.postgresql.storage import PostgreSQL
     except ImportError as error:
         raise missing(error) from error
-    names = {f"{kind.name}/{kind.version}": kind.text for kind in shelf.kinds}
-    names |= {
+    compiled_names = {f"{kind.name}/{kind.version}": kind.text for kind in definitions.kinds}
+    compiled_names |= {
         f"{saga.name}/{saga.version}": definition_text.declared(saga)
-        for saga in shelf.sagas.values()
+        for saga in definitions.sagas.values()
         if saga.is_shaped
     }
-    kinds = [f"{name}/{digest_of(text)}" for name, text in names.items()]
+    kinds = [f"{name}/{digest_of(text)}" for name, text in compiled_names.items()]
     return PostgreSQL(
         name,
         node=node,
         lease=lease,
-        most=most,
-        sagas=[*names, *kinds],
+        max_connections=max_connections,
+        sagas=[*compiled_names, *kinds],
         kinds=kinds,
-        version=shelf.shelf,
+        version=definitions.shelf,
         transactions=transactions,
         record=record_path(record),
-        encodes=shelf.payloads.codec is not None,
+        encodes=definitions.payloads.codec is not None,
     )

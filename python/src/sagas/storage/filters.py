@@ -79,26 +79,27 @@ class Scope:
             return False
         root = root_of(key)
         return any(
-            root.startswith(one[:-1]) if one.endswith("*") else root == one for one in self.keys
+            root.startswith(pattern[:-1]) if pattern.endswith("*") else root == pattern
+            for pattern in self.keys
         )
 
     def where(self) -> tuple[str, list[Any]]:
         """Return a condition on rows of `sagas`, which has the name `s`, and its words."""
-        wheres, words = ["1 = 1"], list[Any]()
+        conditions, parameters = ["1 = 1"], list[Any]()
         if self.definitions:
             own, undoing = sorted(self.definitions), sorted(self._undoing)
             of_own, of_undoing = (", ".join("?" * len(some)) for some in (own, undoing))
-            wheres.append(
+            conditions.append(
                 f"s.saga IN ({of_own}, {of_undoing}) AND (s.saga IN ({of_own}) OR {UNDOES_CHILD})"
             )
-            words += [*own, *undoing, *own, UNDOING_KEYS]
+            parameters += [*own, *undoing, *own, UNDOING_KEYS]
         elif self.definitions is not None:
-            wheres.append("1 = 0")
+            conditions.append("1 = 0")
         if self.keys is not None:
-            some = [_keyed(one) for one in sorted(self.keys)]
-            wheres.append(f"({' OR '.join(condition for condition, _ in some)})")
-            words += [word for _, more in some for word in more]
-        return " AND ".join(wheres), words
+            some = [_keyed(pattern) for pattern in sorted(self.keys)]
+            conditions.append(f"({' OR '.join(condition for condition, _ in some)})")
+            parameters += [word for _, more in some for word in more]
+        return " AND ".join(conditions), parameters
 
 
 def _keyed(pattern: str) -> tuple[str, list[Any]]:
@@ -156,33 +157,33 @@ class Filter:
         have a label than are found otherwise. A + keeps the databases from the index of the starts,
         which leads to more sagas than others."""
         of_few = of_few or in_order
-        within, words = self.scope.where()
-        wheres = [within]
+        within, parameters = self.scope.where()
+        conditions = [within]
         if self.phase is not None:
-            wheres.append((IN_ORDER if in_order else PHASES)[self.phase])
+            conditions.append((IN_ORDER if in_order else PHASES)[self.phase])
         if self.saga is not None:
-            wheres.append("s.saga = ?")
-        words += self.saga_words
+            conditions.append("s.saga = ?")
+        parameters += self.saga_words
         for label in self.labels.items():
-            wheres.append(WITH_LABEL if in_order or each_label else LABELED)
-            words += label
+            conditions.append(WITH_LABEL if in_order or each_label else LABELED)
+            parameters += label
         if self.search:
-            wheres.append(KEYED if not of_few else "instr(s.key, ?) > 0")
-            words.append(self.search)
+            conditions.append(KEYED if not of_few else "instr(s.key, ?) > 0")
+            parameters.append(self.search)
         times, bounds = self.times()
-        wheres += [f"+{condition}" for condition in times]
-        words += bounds
+        conditions += [f"+{condition}" for condition in times]
+        parameters += bounds
         if self.error:
             is_few = of_few or bool(self.labels) or self.phase in FEW
-            wheres.append(WITH_ERROR if is_few else AMONG_ERRORS)
-            words += [self.error, self.error]
-        return " AND ".join(wheres), words
+            conditions.append(WITH_ERROR if is_few else AMONG_ERRORS)
+            parameters += [self.error, self.error]
+        return " AND ".join(conditions), parameters
 
     def times(self) -> tuple[list[str], list[Any]]:
         """Return the conditions on the starts, and their words."""
         bounds = (("s.at >= ?", self.started_after), ("s.at < ?", self.started_before))
-        given = [(condition, word) for condition, word in bounds if word is not None]
-        return [condition for condition, _ in given], [word for _, word in given]
+        bounds_in_use = [(condition, word) for condition, word in bounds if word is not None]
+        return [condition for condition, _ in bounds_in_use], [word for _, word in bounds_in_use]
 
     @property
     def has_times_alone(self) -> bool:

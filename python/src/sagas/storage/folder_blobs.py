@@ -84,7 +84,7 @@ class FolderBlobStore:
 
     def keys(self, prefix: str, before: float, /) -> Iterator[str]:
         """Return the keys of older values. See `BlobStore.keys`."""
-        found = []
+        keys = []
         for folder, _, names in os.walk(self._folder / prefix.rstrip("/")):
             for name in names:
                 path = pathlib.Path(folder, name)
@@ -93,8 +93,8 @@ class FolderBlobStore:
                         if name.endswith(PART):  # of a program that was killed
                             path.unlink()
                         else:
-                            found.append(path.relative_to(self._folder).as_posix())
-        return iter(found)
+                            keys.append(path.relative_to(self._folder).as_posix())
+        return iter(keys)
 
 
 def _private(path: str, flags: int) -> int:

@@ -51,7 +51,7 @@ CommitCallback = Callable[[Sequence[Batch], "BaseException | None", frozenset[in
 and the logs of which nothing was written (`Lost`).
 """
 
-Drives = Callable[[list[str], list[int], Sequence[CompletedChild]], "str | None"]
+FunctionCheck = Callable[[list[str], list[int], Sequence[CompletedChild]], "str | None"]
 """Of a log's definitions, of the places of those that have open sagas, and of the completed
 children below these: None where this program has all functions, else what it lacks.
 """
@@ -60,7 +60,7 @@ children below these: None where this program has all functions, else what it la
 class Reader(Protocol):
     """A connection that only reads. One thread at a time may use it."""
 
-    def rows(self, query: str, *words: Any) -> list[tuple[Any, ...]]:
+    def rows(self, query: str, *parameters: Any) -> list[tuple[Any, ...]]:
         """Rows of a query that SQLite and PostgreSQL both understand, with `?` for each word.
         Raises `StoreUnavailable`.
         """
@@ -75,7 +75,7 @@ class Peers(Protocol):
     node: str
     answers: dict[str, Callable[[Any], Awaitable[Any]]]
     """What this one does at a call, by the call's word."""
-    hear: Callable[..., object]
+    on_message: Callable[..., object]
     """Another one told this to all."""
     missed: Callable[..., object]
     """Something that was told may not have been heard."""
@@ -91,13 +91,13 @@ class Peers(Protocol):
     async def owner(self, shard: str) -> str | None:
         """The node that has a shard, by the shard's name, where it answers."""
 
-    async def call(self, node: str, what: str, told: Any) -> Any:
+    async def call(self, node: str, command: str, payload: Any) -> Any:
         """Asks a node, and gives its answer. Raises `OwnerUnavailable`, `StoreUnavailable`."""
 
-    async def ask_all(self, what: str) -> list[Any]:
+    async def call_all(self, command: str) -> list[Any]:
         """What each of the others answers, as far as it does."""
 
-    def tell(self, told: Any) -> bool:
+    def broadcast(self, message: Any) -> bool:
         """Tells all others, in a moment; false where that is too long."""
 
 
@@ -107,7 +107,7 @@ class Watcher(Protocol):
     def look(self) -> None:
         """There may be requests or starts."""
 
-    def lapsed(self, is_older: bool = False) -> None:
+    def lease_expired(self, is_older: bool = False) -> None:
         """The lease ran out meanwhile, or another server took over: whatever this node has may
         be another's now, or be otherwise. `is_older`: what was told may be missing there.
         """
@@ -115,7 +115,7 @@ class Watcher(Protocol):
     def taken(self, rows: list[LogRow]) -> None:
         """Logs that are this node's from now on."""
 
-    def vacant(self) -> None:
+    def slots_freed(self) -> None:
         """Some node gave places of a step back (`Database.admit`)."""
 
     def reported(self) -> None:
@@ -142,7 +142,7 @@ class CommitWriter(Protocol):
         """Its name in messages: the file, or the URL without its password."""
 
     @property
-    def takes(self) -> float:
+    def commit_seconds(self) -> float:
         """Seconds that a commit takes of late, while which this program does other things; 0
         where there is no sense in holding one back.
         """
@@ -156,7 +156,7 @@ class CommitWriter(Protocol):
         `then`. `now`: it may be called before this returns.
         """
 
-    def settle(self) -> None:
+    def finish_commit(self) -> None:
         """Calls `then` of a commit that was over when `commit` returned, and did not call it. Of
         a database that is not shared it is called in the loop's next turn behind each such
         `commit`.
@@ -168,16 +168,16 @@ class StoreReader(Protocol):
     once. What cannot be read raises `StoreUnavailable`.
     """
 
-    async def read(self, query: str, *words: Any) -> list[tuple[Any, ...]]:
+    async def read(self, query: str, *parameters: Any) -> list[tuple[Any, ...]]:
         """Rows of a query that SQLite and PostgreSQL both understand, with `?` for each word."""
 
-    async def read_stored(self, query: str, *words: Any) -> list[tuple[Any, ...]]:
+    async def read_stored(self, query: str, *parameters: Any) -> list[tuple[Any, ...]]:
         """As `read`, with references in place of values that are outside of the database."""
 
-    async def read_long(self, query: str, *words: Any) -> list[tuple[Any, ...]]:
+    async def read_long(self, query: str, *parameters: Any) -> list[tuple[Any, ...]]:
         """As `read`, of what may be many megabytes."""
 
-    async def text(self, log: int) -> str:
+    async def text(self, shard: int) -> str:
         """A log's lines, which may be many megabytes."""
 
     async def known(self, row: SagaRow) -> Known:
@@ -217,12 +217,12 @@ class Database(CommitWriter, StoreReader, Protocol):
         """Where large values are, if they are outside."""
 
     @property
-    def sought(self) -> int:
+    def pending_lookups(self) -> int:
         """How many keys are looked for (`find`): most of them are about to be started."""
 
     # -- opening and closing
 
-    async def open(self, drives: Drives) -> list[LogRow]:
+    async def open(self, check_functions: FunctionCheck) -> list[LogRow]:
         """Makes or migrates the tables; gives the logs that are not closed and that this program
         drives from now on, in order.
 
@@ -244,11 +244,11 @@ class Database(CommitWriter, StoreReader, Protocol):
 
     # -- shards and places
 
-    def new_log(self) -> int:
+    def new_shard(self) -> int:
         """The number of a log that is to be born (`Batch.born`)."""
 
     @property
-    def line(self) -> str:
+    def timeline(self) -> str:
         """The server's timeline, as far as it is known; empty of a file."""
 
     def holds(self) -> bool:
@@ -274,42 +274,42 @@ class Database(CommitWriter, StoreReader, Protocol):
     async def find(self, key: str) -> SagaRow | None:
         """The saga with this key. Its input may be a reference to a value outside."""
 
-    async def load(self, log: int, epoch: int, born: Born | None) -> Loaded | None:
+    async def load(self, shard: int, epoch: int, born: Born | None) -> Loaded | None:
         """A log as a pump takes it up; None where it is another node's, or is not there. What of
         it was on its way to the database is written now, or never will be. `born`: its row,
         until a commit is known to hold it: then it may not be there, and is empty.
         """
 
-    def forget(self, log: int) -> None:
+    def forget(self, shard: int) -> None:
         """What is known of a log does not count any more: its data is damaged, and an operator may
         delete it."""
 
-    async def spare(self, log: int) -> bool:
+    async def spare(self, shard: int) -> bool:
         """Gives a log back, of which this program cannot read something, for another node to take.
         False where none has come since that was tried.
 
         Raises `StoreUnavailable`."""
 
-    async def take_up(self, log: int, epoch: int) -> tuple[str, int] | None:
+    async def take_up(self, shard: int, epoch: int) -> tuple[str, int] | None:
         """A log's lines and how many events they are, for who goes on behind them; None where it
         is not this program's under that epoch.
 
         No lines of it may be on their way.
         """
 
-    async def requests(self, after: int, most: int) -> list[Request]:
-        """What was asked of the sagas of this program's logs, and has no answer: `most` of it at
+    async def requests(self, after: int, limit: int) -> list[Request]:
+        """What was asked of the sagas of this program's logs, and has no answer: `limit` of it at
         once, behind the request with the number `after`."""
 
     async def starts(
-        self, most: int, under_way: Sequence[int] | None, left: Sequence[int] = ()
+        self, limit: int, under_way: Sequence[int] | None, left: Sequence[int] = ()
     ) -> list[Start]:
-        """Sagas that clients started: they are this program's to open, `most` at once. With
+        """Sagas that clients started: they are this program's to open, `limit` at once. With
         `under_way` also those that were, and are not among these. Those of `left` stay where they
         are.
         """
 
-    async def give_back(self, start: int, why: str | None) -> None:
+    async def give_back(self, start: int, reason: str | None) -> None:
         """Give back a start that this node took (`starts`), and has not begun.
 
         Args:
@@ -318,13 +318,13 @@ class Database(CommitWriter, StoreReader, Protocol):
                 again until it is started anew. With None, another node may take it.
         """
 
-    async def ask(self, row: SagaRow, what: str, value: str, payloads: Payloads) -> Any:
+    async def ask(self, row: SagaRow, command: str, value: str, payloads: Payloads) -> Any:
         """Leaves a request for the node that has this very saga; waits for its answer, parsed."""
 
     async def replicated(self) -> None:
         """Returns once what was read is on the synchronous standbys, where there are any."""
 
-    async def news(self, id: int, turn: int) -> None:
+    async def wait_for_end(self, id: int, turn: int) -> None:
         """Returns when the saga may have ended elsewhere, or after a while, which is longer each
         turn: who waits looks again.
         """
@@ -345,7 +345,7 @@ class StepCaller(StepTransactions, Protocol):
         knows whether that was committed.
         """
 
-    def let_go(self) -> None:
+    def close_idle(self) -> None:
         """Ends the connections that rest."""
 
     async def close(self) -> None:

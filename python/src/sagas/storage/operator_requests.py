@@ -18,7 +18,7 @@ SELECT 'begun ' || id FROM gone
 UNION ALL SELECT 'answered ' || (one ->> 0) FROM gone, jsonb_array_elements(commands) one
 """
 """Takes a client's start back, with what was asked of it. The rows are words to be told behind it
-(`notifications.SAY`), so that whoever waits for either looks at once. No row where no start has the
+(`notifications.NOTIFY`), so that whoever waits for either looks at once. No row where no start has the
 key, or a node has taken it.
 
 Of one that a node has taken the saga may be in a log in the next moment, though the node is not
@@ -55,7 +55,7 @@ ERRORS = {
 """Those that an answer may name. One of a later release may name another."""
 
 
-def told(answer: Any) -> Any:
+def checked_answer(answer: Any) -> Any:
     """The answer to a request; raises the error that it names."""
     if isinstance(answer, dict) and "error" in answer:
         name = str(answer["error"]).partition(": ")[0]

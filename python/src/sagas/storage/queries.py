@@ -108,7 +108,7 @@ FIND_MANY = {
     for count in (1, 2, 4, 8, 16, 32, 64, 128, 256)
 }
 """By how many keys: few numbers, so that their statements are kept."""
-FOUND, MOST_FOUND = [*FIND_MANY], max(FIND_MANY)
+COUNTS, MOST_KEYS = [*FIND_MANY], max(FIND_MANY)
 IN_OPEN_LOGS = f""" AND s.id IN (
   SELECT o.id FROM shards CROSS JOIN sagas o
   WHERE closed = 0 AND o.id >= shard * {SHARD_CAPACITY} AND o.id < (shard + 1) * {SHARD_CAPACITY}
@@ -211,10 +211,10 @@ def for_postgresql(query: str, mark: str = "%s") -> str:
     return query.replace("?", mark).replace(ERROR, ERROR_IN_POSTGRESQL)  # which has ? of its own
 
 
-def labels_of(told: str | None) -> dict[str, str]:
+def labels_of(text: str | None) -> dict[str, str]:
     """The labels that `LABELS` gave, by their names; who started the saga is none."""
-    found: dict[str, str] = json.loads(told or "{}")
-    return {name: found[name] for name in sorted(found) if name != TOKEN}
+    labels: dict[str, str] = json.loads(text or "{}")
+    return {name: labels[name] for name in sorted(labels) if name != TOKEN}
 
 
 def named(query: str, *names: str) -> str:
@@ -226,15 +226,15 @@ def named(query: str, *names: str) -> str:
 
 def texts_of(rows: list[tuple[Any, ...]]) -> dict[int, list[str]]:
     """The definitions of logs, by what `TEXTS` gave."""
-    found = dict[int, list[str]]()
-    for log, text in rows:
-        found.setdefault(log, []).append(text)
-    return found
+    texts = dict[int, list[str]]()
+    for shard, text in rows:
+        texts.setdefault(shard, []).append(text)
+    return texts
 
 
-def bounds(log: int) -> tuple[int, int]:
+def bounds(shard: int) -> tuple[int, int]:
     """The ids of a log's sagas: from the first, before the second."""
-    return log * SHARD_CAPACITY, (log + 1) * SHARD_CAPACITY
+    return shard * SHARD_CAPACITY, (shard + 1) * SHARD_CAPACITY
 
 
 def joined(chunks: list[tuple[Any, ...]]) -> tuple[str, int]:
@@ -254,22 +254,22 @@ def damage_of(text: str, end: int) -> str | None:
 class Rows:
     """The questions over `rows`, which are answered at once."""
 
-    def rows(self, query: str, *words: Any) -> list[tuple[Any, ...]]:
+    def rows(self, query: str, *parameters: Any) -> list[tuple[Any, ...]]:
         """Rows of a query."""
         raise NotImplementedError
 
     def open_logs(self) -> list[LogRow]:
         """The logs that are not closed, in order."""
-        found = self.rows(f"{LOGS} WHERE closed = 0 ORDER BY shard")
-        texts = texts_of(self.rows(TEXTS, found[0][0], found[-1][0]) if found else [])
+        rows = self.rows(f"{LOGS} WHERE closed = 0 ORDER BY shard")
+        texts = texts_of(self.rows(TEXTS, rows[0][0], rows[-1][0]) if rows else [])
         return [
-            LogRow(log, name, texts.get(log, []), opened, open, note=note)
-            for log, name, note, opened, open in found
+            LogRow(shard, name, texts.get(shard, []), opened, open, note=note)
+            for shard, name, note, opened, open in rows
         ]
 
-    def places(self, log: int) -> list[int]:
+    def places(self, shard: int) -> list[int]:
         """The places of the definitions of a log's open sagas."""
-        return [place for (place,) in self.rows(PLACES, *bounds(log))]
+        return [place for (place,) in self.rows(PLACES, *bounds(shard))]
 
     def completed_children(self) -> dict[int, list[CompletedChild]]:
         """The completed children below the open sagas of each log."""
@@ -278,33 +278,33 @@ class Rows:
 
     def find_now(self, key: str) -> SagaRow | None:
         """The saga with this key."""
-        found = self.rows(FIND, key)
-        return SagaRow(*found[0]) if found else None
+        rows = self.rows(FIND, key)
+        return SagaRow(*rows[0]) if rows else None
 
     def find_many(self, keys: Sequence[str]) -> dict[str, SagaRow]:
         """The sagas with these keys, by key, as far as they are there."""
-        return self.found(keys, lambda query, words: self.rows(query, *words))
+        return self.find_in_batches(keys, lambda query, parameters: self.rows(query, *parameters))
 
-    def found(
+    def find_in_batches(
         self, keys: Sequence[str], rows: Callable[[str, Sequence[str]], list[tuple[Any, ...]]]
     ) -> dict[str, SagaRow]:
         """As `find_many`, by what gives the rows of a query."""
-        found = {}
-        for place in range(0, len(keys), MOST_FOUND):
-            lot = [*keys[place : place + MOST_FOUND]]
-            count = FOUND[bisect.bisect_left(FOUND, len(lot))]
-            lot += lot[:1] * (count - len(lot))
-            for row in rows(FIND_MANY[count], lot):
-                found[row[1]] = SagaRow(*row)
-        return found
+        sagas = {}
+        for place in range(0, len(keys), MOST_KEYS):
+            batch = [*keys[place : place + MOST_KEYS]]
+            count = COUNTS[bisect.bisect_left(COUNTS, len(batch))]
+            batch += batch[:1] * (count - len(batch))
+            for row in rows(FIND_MANY[count], batch):
+                sagas[row[1]] = SagaRow(*row)
+        return sagas
 
 
 def known_query(id: int, history: bool) -> tuple[Any, ...]:
     """What is asked of a saga, and the words for it."""
     if not history:
         return KNOWN, id, id, id
-    log, number = divmod(id, SHARD_CAPACITY)
-    return HISTORY, id, id, id, log, f'%"saga":{number},%', f'%"saga":{number}}}%'
+    shard, number = divmod(id, SHARD_CAPACITY)
+    return HISTORY, id, id, id, shard, f'%"saga":{number},%', f'%"saga":{number}}}%'
 
 
 def known(rows: Sequence[tuple[Any, ...]], key: str) -> Known:
@@ -323,21 +323,21 @@ def known(rows: Sequence[tuple[Any, ...]], key: str) -> Known:
 class Questions:
     """The questions over `read`, which each database has its own way to answer."""
 
-    async def read(self, query: str, *words: Any) -> list[tuple[Any, ...]]:
+    async def read(self, query: str, *parameters: Any) -> list[tuple[Any, ...]]:
         """Rows of a query."""
         raise NotImplementedError
 
-    async def read_stored(self, query: str, *words: Any) -> list[tuple[Any, ...]]:
+    async def read_stored(self, query: str, *parameters: Any) -> list[tuple[Any, ...]]:
         """As `read`, with references in place of values that are outside of the database."""
-        return await self.read(query, *words)
+        return await self.read(query, *parameters)
 
-    async def read_long(self, query: str, *words: Any) -> list[tuple[Any, ...]]:
+    async def read_long(self, query: str, *parameters: Any) -> list[tuple[Any, ...]]:
         """As `read`, of what may be many megabytes."""
-        return await self.read(query, *words)
+        return await self.read(query, *parameters)
 
-    async def text(self, log: int) -> str:
+    async def text(self, shard: int) -> str:
         """A log's lines."""
-        return joined(await self.read_long(LINES, log))[0]
+        return joined(await self.read_long(LINES, shard))[0]
 
     async def known(self, row: SagaRow) -> Known:
         """What the store has of a saga. Raises `NoSuchSaga` where it was let go meanwhile."""

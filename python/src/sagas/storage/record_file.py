@@ -39,7 +39,7 @@ class Session:
         timeline: The timeline of the server.
         present: The epoch if its server is the present one, else -1. It holds only for the last
             session of a shard.
-        words: What each line has after its first word.
+        fields: What each line has after its first word.
         sends: A `sent` line, to be formatted with its numbers.
         hears: A `heard` line, to be formatted with its number.
         tells: A `told` line for each edge, to be formatted with its number.
@@ -53,7 +53,7 @@ class Session:
         "epoch",
         "timeline",
         "present",
-        "words",
+        "fields",
         "sends",
         "hears",
         "tells",
@@ -66,10 +66,10 @@ class Session:
     def __init__(self, run: str, line: Line, digest: int) -> None:
         shard, self.epoch, self.timeline = line
         self.present = -1
-        self.words = f" {run} {shard} {self.epoch} {self.timeline} ".encode()
-        words = self.words.replace(b"%", b"%%")
-        self.sends, self.hears = b"sent%b%%d %%d\n" % words, b"heard%b%%d\n" % words
-        self.tells = {edge: b"told%b%%d %b\n" % (words, edge.encode()) for edge in EDGES}
+        self.fields = f" {run} {shard} {self.epoch} {self.timeline} ".encode()
+        escaped = self.fields.replace(b"%", b"%%")
+        self.sends, self.hears = b"sent%b%%d %%d\n" % escaped, b"heard%b%%d\n" % escaped
+        self.tells = {edge: b"told%b%%d %b\n" % (escaped, edge.encode()) for edge in EDGES}
         self.wholes = {edge: self.sends + self.hears + self.tells[edge] for edge in EDGES}
         self.digest = digest
         self.told = dict.fromkeys(EDGES, -1)
@@ -96,9 +96,9 @@ class Commit(Protocol):
     events: dict[int, int]
 
 
-def record_path(told: str | None) -> str | None:
+def record_path(path: str | None) -> str | None:
     """Return the given file; else the one that the environment names, if any."""
-    return told or os.environ.get(VARIABLE) or None
+    return path or os.environ.get(VARIABLE) or None
 
 
 class RecordFile:
@@ -197,12 +197,12 @@ class RecordFile:
         return self._of((shard, epoch, self.timeline))
 
     def _of(self, line: Line) -> Session:
-        found = self.sessions.get(line[0])
-        if found is not None and (found.epoch, found.timeline) == line[1:]:
-            return found
+        session = self.sessions.get(line[0])
+        if session is not None and (session.epoch, session.timeline) == line[1:]:
+            return session
         other = self._others.get(line)
         if other is None:
-            digest = 0 if found is None else found.digest
+            digest = 0 if session is None else session.digest
             other = self._others[line] = Session(self.run, line, digest)
         return other
 
@@ -219,9 +219,9 @@ class RecordFile:
         """A shard was taken up, and this number of events was read."""
         self._settle()
         digest = crc32(text.encode())
-        told = number(digest) if events else 0
-        words = self._begin(line, digest).words
-        self._put(b"took%b%d %d\n" % (words, events, told))
+        digest_number = number(digest) if events else 0
+        fields = self._begin(line, digest).fields
+        self._put(b"took%b%d %d\n" % (fields, events, digest_number))
 
     def read(self, line: Line, events: int, text: str) -> None:
         """A shard was read again under the epoch that it has, or for the first time. A late answer,
@@ -254,11 +254,11 @@ class RecordFile:
             digest = crc32(text.encode(), session.digest)
             if shard in mine:
                 session.digest = digest
-                told = digest % DIGESTS + 1  # as `number`
-                self._heard = session, first, told, commit.events[shard]
+                digest_number = digest % DIGESTS + 1  # as `number`
+                self._heard = session, first, digest_number, commit.events[shard]
             else:
                 self._put(session.sends % (first, number(digest)))
-                self._put(b"stale%b\n" % session.words[:-1])
+                self._put(b"stale%b\n" % session.fields[:-1])
 
     def unanswered(self) -> None:
         """No answer to the commit that was sent will come."""
@@ -268,7 +268,7 @@ class RecordFile:
         """The server answered that it wrote nothing of the commit, which is sent again in parts."""
         self._settle()
         for _, session, _ in self._sent:
-            self._put(b"failed%b\n" % session.words[:-1])
+            self._put(b"failed%b\n" % session.fields[:-1])
 
     def _answer(self, commit: Commit, mine: Container[int]) -> None:
         """The server answered a commit that has lines."""
@@ -277,7 +277,7 @@ class RecordFile:
                 session.digest = digest
                 self._put(session.hears % commit.events[shard])
             else:
-                self._put(b"stale%b\n" % session.words[:-1])
+                self._put(b"stale%b\n" % session.fields[:-1])
 
     # -- from there to lines
 
@@ -298,9 +298,9 @@ class RecordFile:
 
     def _put_heard(self) -> None:
         assert self._heard
-        session, first, told, events = self._heard
+        session, first, digest_number, events = self._heard
         self._heard = None
-        self._put((session.sends + session.hears) % (first, told, events))
+        self._put((session.sends + session.hears) % (first, digest_number, events))
 
     def _births(self, commit: Commit) -> None:
         """Note the new shards of a commit."""
@@ -309,7 +309,7 @@ class RecordFile:
         for shard, *_ in commit.parts["born"]:
             if self.sessions.get(shard) is not self.session(shard, 1):
                 session = self._begin((shard, 1, self.timeline), 0)
-                self._put(b"took%b0 0\n" % session.words)
+                self._put(b"took%b0 0\n" % session.fields)
 
     def _put(self, line: bytes) -> None:
         self._waiting.append(line)
@@ -359,7 +359,7 @@ class RecordFile:
     def closed(self, line: Line) -> None:
         """A shard is closed, and nothing more is written of it."""
         self._settle()
-        self._put(b"closed%b\n" % self._of(line).words[:-1])
+        self._put(b"closed%b\n" % self._of(line).fields[:-1])
         shard = line[0]
         self.sessions.pop(shard, None)
         for other in [other for other in self._others if other[0] == shard]:

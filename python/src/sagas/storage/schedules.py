@@ -91,16 +91,16 @@ def of_row(row: Row) -> Schedule:
     name, saga, version, input, labels, cron, every, *rest = row
     timezone, policy, next_at, last_at, paused, error = rest
     catch_up, most, overlap = policy_of(policy)
-    told = json.loads(input), json.loads(labels), cron or None, every or None, timezone
-    when = catch_up.value, most, overlap.value, next_at, last_at
-    return Schedule(name, saga, version, *told, *when, bool(paused), error)
+    definition = json.loads(input), json.loads(labels), cron or None, every or None, timezone
+    state = catch_up.value, most, overlap.value, next_at, last_at
+    return Schedule(name, saga, version, *definition, *state, bool(paused), error)
 
 
 class Schedules:
     """Changes schedules, over a connection of its own. For a thread."""
 
-    def __init__(self, link: Source) -> None:
-        self._link = link
+    def __init__(self, connection: Source) -> None:
+        self._connection = connection
 
     def put(
         self,
@@ -115,43 +115,45 @@ class Schedules:
         """Declare one, or change it; as it is, it keeps its next time. Raises `NotSerializable`
         and `MissingCodec`."""
         stored = payloads.encode(input)
-        when = timing.cron, timing.every, timing.timezone, timing.policy
-        words = (name, *saga, stored, labels, *when, timing.next_after(now))
-        with self._link.transaction():
-            codec_note.check(self._link, payloads)
+        timing_values = timing.cron, timing.every, timing.timezone, timing.policy
+        parameters = (name, *saga, stored, labels, *timing_values, timing.next_after(now))
+        with self._connection.transaction():
+            codec_note.check(self._connection, payloads)
             if payloads.codec is not None:
                 self._encode_again(name, input, stored, payloads)
-            self._link.changed(PUT, *words)
-        self._link.tell("requests")
+            self._connection.changed(PUT, *parameters)
+        self._connection.notify("requests")
 
     def _encode_again(self, name: str, input: str, stored: str, payloads: Payloads) -> None:
         """Put the text of now in place of an older one of the same input: a codec may make another
         text each time, and that is no change.
         """
-        for (there,) in self._link.ask(LOCK, name):
-            if _is_of(there, input, payloads):
-                self._link.changed("UPDATE schedules SET input = ? WHERE name = ?", stored, name)
+        for (stored_input,) in self._connection.ask(LOCK, name):
+            if _is_of(stored_input, input, payloads):
+                self._connection.changed(
+                    "UPDATE schedules SET input = ? WHERE name = ?", stored, name
+                )
 
     def pause(self, name: str, now: float | None = None) -> str | None:
         """Start nothing of it from now on. Return what is said of times that were missed before:
         they are not started, and the schedule's `error` says so. Raises `NoSuchSchedule`.
         """
-        said, now = None, self._link.now() if now is None else now
-        with self._link.transaction():
-            for (_,) in self._link.ask(LOCK, name):
-                one = of_row(self._link.ask(ONE, name)[0])
-                said = None if one.paused else missed_before_pause(one, now)
+        missed, now = None, self._connection.now() if now is None else now
+        with self._connection.transaction():
+            for (_,) in self._connection.ask(LOCK, name):
+                schedule = of_row(self._connection.ask(ONE, name)[0])
+                missed = None if schedule.paused else missed_before_pause(schedule, now)
             text = "UPDATE schedules SET paused = 1, error = coalesce(?, error) WHERE name = ?"
-            self._changed(name, text, said, name)
-        return said
+            self._changed(name, text, missed, name)
+        return missed
 
     def resume(self, name: str, now: float) -> None:
         """Start its sagas again, from the next time on. Raises `NoSuchSchedule`."""
-        for row in self._link.ask(ONE, name):
+        for row in self._connection.ask(ONE, name):
             next_at = of_row(row).timing.next_after(now)
             text = "UPDATE schedules SET paused = 0, next_at = ? WHERE name = ? AND paused = 1"
-            self._link.changed(text, next_at, name)
-            self._link.tell("requests")
+            self._connection.changed(text, next_at, name)
+            self._connection.notify("requests")
             return
         raise _absent(name)
 
@@ -160,26 +162,26 @@ class Schedules:
         self._changed(name, "DELETE FROM schedules WHERE name = ?", name)
 
     def advance(
-        self, one: Schedule, next_at: float, last_at: float | None, error: str | None
+        self, schedule: Schedule, next_at: float, last_at: float | None, error: str | None
     ) -> None:
         """Say which time is the next one."""
-        when = one.next_at, one.timing.cron, one.timing.every, one.timezone
-        self._link.changed(ADVANCE, next_at, last_at, error, one.name, *when)
+        when = schedule.next_at, schedule.timing.cron, schedule.timing.every, schedule.timezone
+        self._connection.changed(ADVANCE, next_at, last_at, error, schedule.name, *when)
 
-    def _changed(self, name: str, text: str, *words: Any) -> None:
-        if not self._link.changed(text, *words):
+    def _changed(self, name: str, text: str, *parameters: Any) -> None:
+        if not self._connection.changed(text, *parameters):
             raise _absent(name)
 
 
-def missed_before_pause(one: Schedule, now: float) -> str | None:
+def missed_before_pause(schedule: Schedule, now: float) -> str | None:
     """What is said of the missed times of a schedule that is paused: nothing starts them."""
-    if one.next_at > now or one.catch_up == CatchUp.SKIP:
+    if schedule.next_at > now or schedule.catch_up == CatchUp.SKIP:
         return None
     try:
-        count = one.timing.missed(one.next_at, now)
+        count = schedule.timing.missed(schedule.next_at, now)
     except InvalidSchedule:  # this system does not have the time zone
         return None
-    count = 1 if one.catch_up == CatchUp.LAST else count
+    count = 1 if schedule.catch_up == CatchUp.LAST else count
     times = "1 missed time" if count == 1 else f"{count:,} missed times"
     return f"{times} before the pause {'was' if count == 1 else 'were'} not started"
 

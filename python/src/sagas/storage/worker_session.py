@@ -53,16 +53,16 @@ class WorkerSession(Protocol):
 def open_worker_session(store: str) -> WorkerSession:
     """A desk over that store; it connects when it is asked."""
     if is_url(store):
-        from sagas.storage.postgresql.worker_session import PostgreSQLDesk
+        from sagas.storage.postgresql.worker_session import PostgreSQLWorkerSession
 
-        return PostgreSQLDesk(store)
-    from sagas.storage.sqlite.worker_session import SqliteDesk
+        return PostgreSQLWorkerSession(store)
+    from sagas.storage.sqlite.worker_session import SqliteWorkerSession
 
-    return SqliteDesk(store)
+    return SqliteWorkerSession(store)
 
 
 def fetched(
-    order: Order, rows: list[tuple[Any, ...]], one: Callable[..., str], where: str
+    order: Order, rows: list[tuple[Any, ...]], read_text: Callable[..., str], where: str
 ) -> Begun | None:
     """What `BEGIN` found, with the texts that the order does not carry."""
     if not rows:
@@ -80,12 +80,12 @@ def fetched(
         return stored(RESULT, id, text.step) if isinstance(text, Position) else text
 
     def stored(*query: Any) -> str:
-        return PLAIN.decode(one(*query))
+        return PLAIN.decode(read_text(*query))
 
     results = {name: whole(text) for name, text in order.results.items()}
     return Begun(
         stored(INPUT, id) if order.input is None else order.input,
         results,
         None if order.result is None else whole(order.result),
-        None if order.declared is None else (one(DEFINITION, id), stored(SHAPE, id)),
+        None if order.declared is None else (read_text(DEFINITION, id), stored(SHAPE, id)),
     )

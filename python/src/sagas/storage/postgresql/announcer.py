@@ -16,8 +16,8 @@ class Announcer:
     """Tells over the connection that listens: a commit that tells takes a lock over the whole
     server."""
 
-    def __init__(self, news: notifications.Notifications) -> None:
-        self.news = news
+    def __init__(self, listening: notifications.Notifications) -> None:
+        self.notifications = listening
         self._said: list[str] = []
         self._telling: asyncio.TimerHandle | None = None
         self._saying = self._is_closed = False
@@ -28,8 +28,8 @@ class Announcer:
 
     async def close(self) -> None:
         """Tells what is left, and ends the connection."""
-        words, self._said = self._said, []
-        await self.news.close(words)
+        messages, self._said = self._said, []
+        await self.notifications.close(messages)
 
     def hurry(self) -> None:
         """Tells now what was to be told soon: the server is at work anyway."""
@@ -57,20 +57,20 @@ class Announcer:
             answered = [id for _, rare in commit.rare for _, id in rare.answers]
             self.say(notifications.payloads("answered", answered))
 
-    def say(self, words: list[str]) -> None:
+    def say(self, messages: list[str]) -> None:
         """Tells the other nodes and the clients, behind the commit: a commit that tells takes a
         lock over the whole server.
         """
-        self._said += words
+        self._said += messages
         if self._said and not self._saying and not self._is_closed:
             self._saying = True
             self._telling = asyncio.get_running_loop().call_later(SOON, self._tell)
 
     def _tell(self) -> None:
-        self._telling, words, self._said = None, self._said, []
-        self.news.say(words, self._told)
+        self._telling, messages, self._said = None, self._said, []
+        self.notifications.say(messages, self._sent)
 
-    def _told(self) -> None:
+    def _sent(self) -> None:
         """They were told; what came meanwhile is next."""
         self._saying = False
         self.say([])

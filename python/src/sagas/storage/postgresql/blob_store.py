@@ -44,33 +44,35 @@ class PostgresBlobStore:
         self._lock, self._is_made = threading.Lock(), False
 
     @contextlib.contextmanager
-    def _link(self) -> Iterator[psycopg.Connection[Any]]:
+    def _connection(self) -> Iterator[psycopg.Connection[Any]]:
         """A connection, which is kept for the next call unless this one fails."""
         with self._lock:
-            link = self._idle.pop() if self._idle else None
-        if link is None or link.closed:
-            link = self._connect()
+            connection = self._idle.pop() if self._idle else None
+        if connection is None or connection.closed:
+            connection = self._connect()
         try:
-            yield link
+            yield connection
         except BaseException:
-            link.close()
+            connection.close()
             raise
         with self._lock:
-            self._idle.append(link)
+            self._idle.append(connection)
 
     def _connect(self) -> psycopg.Connection[Any]:
         import psycopg
 
         from sagas.storage.postgresql import connections
 
-        link = connections.connect_now(self._url, f"{connections.DURABLE}; {LIMITED}")
+        connection = connections.connect_now(self._url, f"{connections.DURABLE}; {LIMITED}")
         with self._lock:
             if self._is_made:
-                return link
-            there = link.execute("SELECT to_regclass(%s) IS NOT NULL", (self._table,)).fetchone()
+                return connection
+            there = connection.execute(
+                "SELECT to_regclass(%s) IS NOT NULL", (self._table,)
+            ).fetchone()
             if there != (True,):
                 try:
-                    link.execute(
+                    connection.execute(
                         f"CREATE TABLE IF NOT EXISTS {self._table}(key text PRIMARY KEY, "
                         "data bytea NOT NULL, at timestamptz NOT NULL DEFAULT now())"
                     )
@@ -80,9 +82,9 @@ class PostgresBlobStore:
                         "Create it as the owner of the database"
                     ) from error
             self._is_made = True
-        return link
+        return connection
 
-    def _do(self, text: str, *words: Any) -> list[tuple[Any, ...]]:
+    def _do(self, text: str, *parameters: Any) -> list[tuple[Any, ...]]:
         """A statement; once more over a new connection where the server has ended the old one, or
         takes no writes any more.
         """
@@ -90,8 +92,8 @@ class PostgresBlobStore:
 
         for is_last in (False, True):
             try:
-                with self._link() as link:
-                    cursor = link.execute(text.format(self._table), words)
+                with self._connection() as connection:
+                    cursor = connection.execute(text.format(self._table), parameters)
                     return cursor.fetchall() if cursor.description else []
             except (psycopg.OperationalError, psycopg.errors.ReadOnlySqlTransaction):
                 if is_last:
@@ -124,5 +126,5 @@ class PostgresBlobStore:
         """Close the connections that nobody uses now."""
         with self._lock:
             idle, self._idle = self._idle, []
-        for link in idle:
-            link.close()
+        for connection in idle:
+            connection.close()

@@ -25,48 +25,48 @@ its own, and commit. In a failed one it raises."""
 
 
 async def rows(
-    link: psycopg.AsyncConnection[Any], query: str, words: dict[str, Any]
+    connection: psycopg.AsyncConnection[Any], query: str, parameters: dict[str, Any]
 ) -> list[connections.Row]:
     """A statement's rows, as tuples whatever rows and cursors the connection has."""
     return await (
-        await psycopg.AsyncCursor(link, row_factory=tuple_row).execute(query, words)
+        await psycopg.AsyncCursor(connection, row_factory=tuple_row).execute(query, parameters)
     ).fetchall()
 
 
 def rows_now(
-    link: psycopg.Connection[Any], query: str, words: dict[str, Any]
+    connection: psycopg.Connection[Any], query: str, parameters: dict[str, Any]
 ) -> list[connections.Row]:
     """As `rows`, where it stands."""
-    return psycopg.Cursor(link, row_factory=tuple_row).execute(query, words).fetchall()
+    return psycopg.Cursor(connection, row_factory=tuple_row).execute(query, parameters).fetchall()
 
 
 @contextlib.asynccontextmanager
-async def savepoint(link: psycopg.AsyncConnection[Any]) -> AsyncIterator[None]:
+async def savepoint(connection: psycopg.AsyncConnection[Any]) -> AsyncIterator[None]:
     """All of what is done within is in the caller's transaction, or nothing: if it raises, that
     transaction is as before, and can go on. A connection that commits each statement commits it as
     a whole.
     """
-    if not _is_ready(link):
-        await psycopg.AsyncCursor(link).execute(BEGIN)
-    with replication.heeded(link):
-        async with link.transaction():
+    if not _is_ready(connection):
+        await psycopg.AsyncCursor(connection).execute(BEGIN)
+    with replication.heeded(connection):
+        async with connection.transaction():
             yield
 
 
 @contextlib.contextmanager
-def savepoint_now(link: psycopg.Connection[Any]) -> Iterator[None]:
+def savepoint_now(connection: psycopg.Connection[Any]) -> Iterator[None]:
     """As `savepoint`, where it stands."""
-    if not _is_ready(link):
-        psycopg.Cursor(link).execute(BEGIN)
-    with replication.heeded(link), link.transaction():
+    if not _is_ready(connection):
+        psycopg.Cursor(connection).execute(BEGIN)
+    with replication.heeded(connection), connection.transaction():
         yield
 
 
-def _is_ready(link: Given) -> bool:
+def _is_ready(connection: Given) -> bool:
     """Whether a transaction is open and sound, or each statement is one."""
-    status = link.pgconn.transaction_status
+    status = connection.pgconn.transaction_status
     is_open = status == pq.TransactionStatus.INTRANS
-    return is_open or (link.autocommit and status == pq.TransactionStatus.IDLE)
+    return is_open or (connection.autocommit and status == pq.TransactionStatus.IDLE)
 
 
 def check_kind(connection: object, plain: bool) -> None:
@@ -84,7 +84,7 @@ def check_kind(connection: object, plain: bool) -> None:
 
 
 @contextlib.contextmanager
-def faults(connection: Given, path: str) -> Iterator[None]:
+def translate_errors(connection: Given, path: str) -> Iterator[None]:
     """What PostgreSQL raises over it, as `StoreUnavailable` that says so."""
     if connection.closed:
         raise StoreUnavailable(
@@ -98,8 +98,8 @@ def faults(connection: Given, path: str) -> Iterator[None]:
             "Roll it back, and start the saga in the next one"
         )
         raise StoreUnavailable(f"{path}: the given connection {told}") from error
-    except connections.FAULTS as error:
-        raise connections.unwritable(f"{path}, by the given connection", error) from error
+    except connections.CLIENT_ERRORS as error:
+        raise connections.store_unavailable(f"{path}, by the given connection", error) from error
 
 
 def check_database(

@@ -4,7 +4,7 @@ from __future__ import annotations
 
 from sagas.base.errors import StoreLocked
 from sagas.storage.codec_note import NOTE, NOTED, missing
-from sagas.storage.postgresql.connections import Asker, faults
+from sagas.storage.postgresql.connections import Asker, translate_errors
 
 ALLOWS = "(%(encodes)s OR NOT EXISTS (SELECT 1 FROM secrets WHERE name = 'codec'))"
 """Whether a node that encodes values, or does not, may have a lease."""
@@ -29,14 +29,14 @@ async def agree(asker: Asker, encodes: bool) -> None:
 
 
 async def _note(asker: Asker) -> None:
-    with faults(asker.where):
-        async with asker.pool.connection() as link, link.transaction():
-            await link.execute(ALONE)
-            nodes = await (await link.execute(PLAIN)).fetchall()
-            noted = await (await link.execute(NOTED)).fetchall()
+    with translate_errors(asker.where):
+        async with asker.pool.connection() as connection, connection.transaction():
+            await connection.execute(ALONE)
+            nodes = await (await connection.execute(PLAIN)).fetchall()
+            noted = await (await connection.execute(NOTED)).fetchall()
             if nodes and not noted:
                 raise StoreLocked(
                     f"{asker.where}: node {nodes[0][0]} has this store open without a codec, or is "
                     "of an earlier release. Stop all such nodes first"
                 )
-            await link.execute(NOTE)
+            await connection.execute(NOTE)

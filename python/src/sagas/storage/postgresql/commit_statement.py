@@ -76,7 +76,7 @@ by piece, which takes longer.
 dumps = json.JSONEncoder(separators=(",", ":"), check_circular=False).encode
 
 
-WORDS = "words"
+SINGLE_ROWS = "words"
 """The form of a statement of one row of each part."""
 
 
@@ -88,7 +88,7 @@ def statement(parts: tuple[str, ...], form: str = "jsonb", alone: bool = False) 
 
     As words, where each part has one row: $1, $7 and so on are the values, part by part.
     """
-    rows = _rows_of_words(parts) if form == WORDS else _rows_of_json(form)
+    rows = _rows_of_parameters(parts) if form == SINGLE_ROWS else _rows_of_json(form)
     guessed, texts = "guessed" in parts, []
     if guessed:
         texts.append(f"taken AS MATERIALIZED ({TAKEN.format(rows=rows('guessed'))})")
@@ -105,12 +105,12 @@ def statement(parts: tuple[str, ...], form: str = "jsonb", alone: bool = False) 
     ]
     if "begun" in parts:
         texts.append(MOVED)
-    asked = "" if parts else f" WHERE $1::{form} IS NOT NULL"  # each word has a type
+    condition = "" if parts else f" WHERE $1::{form} IS NOT NULL"  # each word has a type
     withdrawn = WITHDRAWN if "withdrawn" in parts else ""
     moved = ""
     if "begun" in parts:
         moved = f" UNION ALL SELECT {HAS_MOVED}{', NULL' if withdrawn else ''} FROM moved"
-    return f"WITH {', '.join(texts)} SELECT shard{withdrawn} FROM mine{asked}{moved}"
+    return f"WITH {', '.join(texts)} SELECT shard{withdrawn} FROM mine{condition}{moved}"
 
 
 def _free(name: str) -> str:
@@ -134,27 +134,27 @@ def _undone(row: HeldRow) -> HeldRow:
     return (*row[:4], EarlyReason.UNDONE.value, *row[5:]) if is_report else row
 
 
-def _saga_of(log: int, attempt: str) -> int:
+def _saga_of(shard: int, attempt: str) -> int:
     """The id of the saga of an attempt."""
     name = tokens.parse(attempt)
-    return log * SHARD_CAPACITY + name.number if name else -1
+    return shard * SHARD_CAPACITY + name.number if name else -1
 
 
 def _rows_of_json(form: str) -> Callable[[str], str]:
     def rows(part: str) -> str:
         cells = (
-            f"(e ->> {place}){'' if kind == 'text' else f'::{kind}'} AS {name}"
-            for place, (name, kind) in enumerate(COLUMNS[part])
+            f"(e ->> {index}){'' if kind == 'text' else f'::{kind}'} AS {name}"
+            for index, (name, kind) in enumerate(COLUMNS[part])
         )
         return f"(SELECT {', '.join(cells)} FROM {form}_array_elements($1::{form} -> '{part}') e) v"
 
     return rows
 
 
-def _rows_of_words(parts: tuple[str, ...]) -> Callable[[str], str]:
-    places = itertools.chain([1], itertools.count(7))
+def _rows_of_parameters(parts: tuple[str, ...]) -> Callable[[str], str]:
+    numbers = itertools.chain([1], itertools.count(7))
     cells = {
-        part: ", ".join(f"${next(places)}::{kind} AS {name}" for name, kind in COLUMNS[part])
+        part: ", ".join(f"${next(numbers)}::{kind} AS {name}" for name, kind in COLUMNS[part])
         for part in parts
     }
     return lambda part: f"(SELECT {cells[part]}) v"
@@ -165,18 +165,18 @@ EXTERNAL = ("offers", "suspended", "withdrawn", "settled")
 statement changes a row once, whatever the order of its parts. `settled` is always the last.
 """
 PLAIN: dict[str, Callable[[int, Rare], Iterable[Any]]] = {
-    "shapes": lambda log, rare: rare.shapes,
-    "labels": lambda log, rare: rare.labels,
-    "children": lambda log, rare: rare.children,
-    "deliveries": lambda log, rare: rare.deliveries,
-    "spans": lambda log, rare: [(*row[:5], clean(row[5])) for row in rare.spans],
-    "answers": lambda log, rare: [(log, *answer) for answer in rare.answers],
-    "asked": lambda log, rare: [(log, *row, answer) for row, answer in rare.asked],
-    "begun": lambda log, rare: [(log, *one) for one in rare.begun],
-    "notes": lambda log, rare: [(clean(note), id) for note, id in rare.notes],
-    "undone": lambda log, rare: rare.undone,
-    "closed": lambda log, rare: [(log, *rare.closed)] if rare.closed else [],
-    "set_aside": lambda log, rare: [(log, *rare.set_aside)] if rare.set_aside else [],
+    "shapes": lambda shard, rare: rare.shapes,
+    "labels": lambda shard, rare: rare.labels,
+    "children": lambda shard, rare: rare.children,
+    "deliveries": lambda shard, rare: rare.deliveries,
+    "spans": lambda shard, rare: [(*row[:5], clean(row[5])) for row in rare.spans],
+    "answers": lambda shard, rare: [(shard, *answer) for answer in rare.answers],
+    "asked": lambda shard, rare: [(shard, *row, answer) for row, answer in rare.asked],
+    "begun": lambda shard, rare: [(shard, *one) for one in rare.begun],
+    "notes": lambda shard, rare: [(clean(note), id) for note, id in rare.notes],
+    "undone": lambda shard, rare: rare.undone,
+    "closed": lambda shard, rare: [(shard, *rare.closed)] if rare.closed else [],
+    "set_aside": lambda shard, rare: [(shard, *rare.set_aside)] if rare.set_aside else [],
 }
 """The rows of parts that stand by themselves, by the number of the log."""
 
@@ -252,13 +252,15 @@ class Commit:
                 chunks.setdefault(batch.log, (had, batch.at, []))[2].append(batch.text)
         rows: dict[str, Sequence[Any]] = {
             "lines": [
-                (log, first, at, "".join(texts), self.epochs[log])
-                for log, (first, at, texts) in chunks.items()
+                (shard, first, at, "".join(texts), self.epochs[shard])
+                for shard, (first, at, texts) in chunks.items()
             ],
             "results": [row for batch in batches for row in batch.results],
             "guessed": [(batch.log, key) for batch in batches for key in batch.guessed],
         }
-        self.parts.update((part, found) for part, found in rows.items() if found)
+        self.parts.update(
+            (part, rows_of_part) for part, rows_of_part in rows.items() if rows_of_part
+        )
         opened = [row for batch in batches for row in batch.opened]
         self._put_sagas(opened, [row for batch in batches for row in batch.ended])
         self.rare += [(batch.log, batch.rare) for batch in batches if batch.rare]
@@ -293,11 +295,11 @@ class Commit:
 
     def _lines(self, batch: Batch) -> int:
         """How many events its log has before it."""
-        log = batch.log
-        had = self.events[log] if log in self.events else self._before(log)
+        shard = batch.log
+        had = self.events[shard] if shard in self.events else self._before(shard)
         if batch.first != had:
-            raise ValueError(f"shard {log}: event {batch.first} behind {had}")
-        self.events[log] = had + batch.text.count("\n")
+            raise ValueError(f"shard {shard}: event {batch.first} behind {had}")
+        self.events[shard] = had + batch.text.count("\n")
         return had
 
     def _held(self) -> None:
@@ -339,7 +341,7 @@ class Commit:
             self._put("progress", [*last.values()])
         for part, rows_of in PLAIN.items():
             if part in has:
-                self._put(part, [row for log, rare in self.rare for row in rows_of(log, rare)])
+                self._put(part, [row for shard, rare in self.rare for row in rows_of(shard, rare)])
 
     def _put(self, part: str, rows: Sequence[Any]) -> None:
         if rows:
@@ -347,9 +349,9 @@ class Commit:
 
     def _definitions(self) -> None:
         born = {batch.log: batch.born for batch in self.batches if batch.born}
-        self._put("born", [(log, name) for log, (name, _) in born.items()])
-        defined = {(log, *one) for log, (_, of) in born.items() for one in of}
-        defined |= {(log, *one) for log, rare in self.rare for one in rare.defined}
+        self._put("born", [(shard, name) for shard, (name, _) in born.items()])
+        defined = {(shard, *one) for shard, (_, of) in born.items() for one in of}
+        defined |= {(shard, *one) for shard, rare in self.rare for one in rare.defined}
         # in order, so that two commits that make the same wait for one another and never crosswise
         self._put("definitions", sorted({row[2:] for row in defined}))
         self._put("defined", sorted({row[:3] for row in defined}))
@@ -358,11 +360,11 @@ class Commit:
         """What becomes of attempts that others do."""
         last: dict[str, tuple[str, Any]] = {}
         others: dict[int, list[str]] = {}
-        for log, rare in self.rare:
+        for shard, rare in self.rare:
             for part in rare.parts:
                 for row in _attempts(rare, part):
                     if row[0] not in last:
-                        others.setdefault(_saga_of(log, row[0]), []).append(row[0])
+                        others.setdefault(_saga_of(shard, row[0]), []).append(row[0])
                     if part == "settled" or last.get(row[0], ("",))[0] != "settled":
                         last[row[0]] = part, row
         ended = {id: why for _, rare in self.rare for why, id in rare.cancelled}
@@ -376,22 +378,25 @@ class Commit:
         cancelled = ((why, id, array(others.get(id, ())).decode()) for id, why in ended.items())
         self._put("cancelled", [*cancelled])
 
-    def words(self, node: bytes) -> tuple[str, list[bytes | None]]:
+    def parameters(self, node: bytes) -> tuple[str, list[bytes | None]]:
         """The statement and its words."""
         parts, alone = tuple(sorted(self.parts)), len(self.epochs) == 1
         mine: list[bytes | None]
         if alone:
-            ((log, epoch),) = self.epochs.items()
-            tail = self.tails.get(log)
-            mine = [node, b"%d" % log, b"%d" % epoch, None, None]
+            ((shard, epoch),) = self.epochs.items()
+            tail = self.tails.get(shard)
+            mine = [node, b"%d" % shard, b"%d" % epoch, None, None]
             if tail is not None:
                 mine[3:] = b"%d" % tail.first_seq, repr(tail.committed_at).encode()
         else:
-            tails = [self.tails.get(log) or ("NULL", "NULL") for log in self.epochs]
+            tails = [self.tails.get(shard) or ("NULL", "NULL") for shard in self.epochs]
             lists = self.epochs, self.epochs.values(), *(zip(*tails) if tails else ((), ()))
-            mine = [node, *(f"{{{','.join(map(str, words))}}}".encode() for words in lists)]
-        if parts and max(map(len, self.parts.values())) == 1 and (words := self._cells(parts)):
-            return statement(parts, WORDS, alone), [words[0], *mine, *words[1:]]
+            mine = [
+                node,
+                *(f"{{{','.join(map(str, parameters))}}}".encode() for parameters in lists),
+            ]
+        if parts and max(map(len, self.parts.values())) == 1 and (parameters := self._cells(parts)):
+            return statement(parts, SINGLE_ROWS, alone), [parameters[0], *mine, *parameters[1:]]
         rows = dumps(self.parts).encode()
         return statement(parts, "jsonb" if len(rows) < MOST else "json", alone), [rows, *mine]
 
@@ -400,12 +405,12 @@ class Commit:
         too much of them: the other form has that refused, or takes it.
         """
         cells = [*itertools.chain.from_iterable([self.parts[part][0] for part in parts])]
-        told = "\0".join(map(str, cells)).encode()
-        words: list[bytes | None] = [*told.split(b"\0")]
-        if len(words) != len(cells) or len(told) >= MOST:
+        text = "\0".join(map(str, cells)).encode()
+        values: list[bytes | None] = [*text.split(b"\0")]
+        if len(values) != len(cells) or len(text) >= MOST:
             return None
         return (
-            words
+            values
             if None not in cells
-            else [None if cell is None else word for cell, word in zip(cells, words)]
+            else [None if cell is None else word for cell, word in zip(cells, values)]
         )

@@ -29,7 +29,7 @@ PATIENCE = 20.0
 up.
 """
 CONNECT = 5
-KNOCK = 2.0
+LOGIN_TIMEOUT = 2.0
 """Seconds that a server has for its answer to a first connection."""
 FINAL = re.compile(
     r"authentication failed|no password supplied|pg_hba\.conf|not permitted to log in|permission "
@@ -76,7 +76,7 @@ time.
 RIGHTS = "have the owner of the database run `sagas store URL init --role {role}`"
 """What helps a role that may not."""
 
-FAULTS = (psycopg.Error, PoolTimeout, OSError, TimeoutError)
+CLIENT_ERRORS = (psycopg.Error, PoolTimeout, OSError, TimeoutError)
 """What is raised where the server does not answer as it should."""
 
 LINE = hosts.LINE
@@ -110,53 +110,53 @@ def read(url: str) -> dict[str, Any]:
     """
     if not is_url(url):
         raise InvalidStore(f"this is not a URL of a PostgreSQL database. Write {FORM}")
-    if has_stray_at(url):
-        raise unread("its password probably contains @ or / unescaped")
+    if has_unescaped_at(url):
+        raise invalid_url("its password probably contains @ or / unescaped")
     try:
-        told: dict[str, Any] = conninfo.conninfo_to_dict(url)
+        parameters: dict[str, Any] = conninfo.conninfo_to_dict(url)
     except psycopg.ProgrammingError as error:
-        said = str(error).strip()
+        problem = str(error).strip()
         if (
-            not said.startswith("invalid URI query parameter") or "@" in url.partition("?")[2]
+            not problem.startswith("invalid URI query parameter") or "@" in url.partition("?")[2]
         ):  # else it may show a part of the password
-            said = (
+            problem = (
                 "two slashes are missing"
-                if said.startswith('missing "="')
-                else said.partition('"')[0].strip(" :")
+                if problem.startswith('missing "="')
+                else problem.partition('"')[0].strip(" :")
             )
-        raise unread(said) from None
-    if not all(port.isdigit() or not port for port in str(told.get("port", "")).split(",")):
-        raise unread(
+        raise invalid_url(problem) from None
+    if not all(port.isdigit() or not port for port in str(parameters.get("port", "")).split(",")):
+        raise invalid_url(
             "its port is not a number; if that is the password, @ and the host are missing"
         )
-    return told
+    return parameters
 
 
-def unread(why: str) -> InvalidStore:
+def invalid_url(why: str) -> InvalidStore:
     """What is said of a URL that cannot be read."""
     return InvalidStore(f"the URL of the store cannot be read ({why}). Write {FORM}, {ESCAPED}")
 
 
-def has_stray_at(url: str) -> bool:
+def has_unescaped_at(url: str) -> bool:
     """Whether an @ would be taken for a part of the host or of the database's name, as it is
     where a password has @ or / as they are.
     """
-    told = url.partition("://")[2]
-    user, _, behind = told.partition("@")
+    rest = url.partition("://")[2]
+    user, _, after_user = rest.partition("@")
     if "/" in user:  # what stands before it is taken for the host
-        behind = told
-    return "@" in behind.partition("?")[0]
+        after_user = rest
+    return "@" in after_user.partition("?")[0]
 
 
 def address(url: str) -> str:
     """The URL with what it leaves open: how soon a dead connection is noticed, and that the
     server has to take writes. Of `Hosts` in the order in which they are tried.
     """
-    told = read(url)
-    more = {word: value for word, value in DEFAULTS.items() if word not in told}
+    parameters = read(url)
+    defaults = {word: value for word, value in DEFAULTS.items() if word not in parameters}
     if isinstance(url, Hosts) and url.are_several:
-        more |= url.parameters()
-    return conninfo.make_conninfo(url, **more)
+        defaults |= url.parameters()
+    return conninfo.make_conninfo(url, **defaults)
 
 
 def hosts_of(url: str) -> Hosts:
@@ -167,35 +167,36 @@ def hosts_of(url: str) -> Hosts:
 
 def named(url: str) -> str:
     """The URL for messages: without its password."""
-    told = read(url)
+    parameters = read(url)
     pairs = zip(
-        str(told.get("host", "")).split(","), (str(told.get("port", "")) + "," * 8).split(",")
+        str(parameters.get("host", "")).split(","),
+        (str(parameters.get("port", "")) + "," * 8).split(","),
     )
-    places = ",".join(f"{host}:{port}" if port else host for host, port in pairs)
-    user = f"{told['user']}@" if told.get("user") else ""
-    return f"postgresql://{user}{places}/{told.get('dbname', '')}"
+    hosts_with_ports = ",".join(f"{host}:{port}" if port else host for host, port in pairs)
+    user = f"{parameters['user']}@" if parameters.get("user") else ""
+    return f"postgresql://{user}{hosts_with_ports}/{parameters.get('dbname', '')}"
 
 
 @contextlib.contextmanager
-def faults(where: str) -> Iterator[None]:
+def translate_errors(where: str) -> Iterator[None]:
     """What PostgreSQL and its connections raise, as `StoreUnavailable`; that they are a pooler's,
     as `InvalidStore`."""
     try:
         yield
     except pooler.TransactionPooled as error:
         raise InvalidStore(f"{where}: {error}") from error
-    except FAULTS as error:
-        raise unwritable(where, error) from error
+    except CLIENT_ERRORS as error:
+        raise store_unavailable(where, error) from error
 
 
-def unwritable(where: str, error: Exception) -> StoreUnavailable:
+def store_unavailable(where: str, error: Exception) -> StoreUnavailable:
     """What was raised, as `StoreUnavailable`, which has it for its cause."""
-    told = str(error).strip().splitlines()[0] if str(error).strip() else type(error).__name__
+    message = str(error).strip().splitlines()[0] if str(error).strip() else type(error).__name__
     if isinstance(error, errors.InsufficientPrivilege):
-        told += f": {RIGHTS.format(role='NAME')}"
-    fault = StoreUnavailable(f"{where}: {told}")
-    fault.__cause__ = error
-    return fault
+        message += f": {RIGHTS.format(role='NAME')}"
+    unavailable = StoreUnavailable(f"{where}: {message}")
+    unavailable.__cause__ = error
+    return unavailable
 
 
 async def tried(ask: Callable[[], Awaitable[T]]) -> T:
@@ -222,15 +223,15 @@ def was_cut(error: StoreUnavailable) -> bool:
 
 async def connect(url: str, settings: str = SETTINGS) -> Link:
     """A connection of the store's own, that commits each statement."""
-    link = await Link.connect(address(url), autocommit=True, prepare_threshold=1)
-    assert isinstance(link, Link)
+    connection = await Link.connect(address(url), autocommit=True, prepare_threshold=1)
+    assert isinstance(connection, Link)
     try:
-        await pooler.check(link, address(url))
-        await link.execute(settings, prepare=False)
+        await pooler.check(connection, address(url))
+        await connection.execute(settings, prepare=False)
     except BaseException:
-        await link.close()
+        await connection.close()
         raise
-    return link
+    return connection
 
 
 async def check_access(url: str, where: str) -> None:
@@ -238,59 +239,59 @@ async def check_access(url: str, where: str) -> None:
     would try on, and whatever else it is may pass.
     """
     try:
-        async with asyncio.timeout(KNOCK):
+        async with asyncio.timeout(LOGIN_TIMEOUT):
             await (await connect(url)).close()
     except pooler.TransactionPooled as error:
         raise InvalidStore(f"{where}: {error}") from error
-    except FAULTS as error:
+    except CLIENT_ERRORS as error:
         if (
             isinstance(error, psycopg.Error) and error.pgconn
         ):  # who has the error keeps it open, and the server would wait for a password
             with contextlib.suppress(psycopg.Error):
                 error.pgconn.finish()
         if FINAL.search(str(error)):
-            raise unwritable(where, error) from error
+            raise store_unavailable(where, error) from error
 
 
-async def line_of(link: Link) -> str:
+async def timeline_of(connection: Link) -> str:
     """The timeline of the server that it is connected to."""
-    rows = await (await link.execute(f"SELECT {LINE}", prepare=False)).fetchall()
+    rows = await (await connection.execute(f"SELECT {LINE}", prepare=False)).fetchall()
     return str(rows[0][0])
 
 
 def connect_now(url: str, settings: str = f"{SETTINGS}; {LIMITED}") -> PlainStoreConnection:
     """As `connect`, for who waits where he stands."""
-    link = PlainStoreConnection.connect(address(url), autocommit=True)
-    assert isinstance(link, PlainStoreConnection)
+    connection = PlainStoreConnection.connect(address(url), autocommit=True)
+    assert isinstance(connection, PlainStoreConnection)
     try:
-        pooler.check_now(link, address(url))
-        link.execute(settings, prepare=False)
+        pooler.check_now(connection, address(url))
+        connection.execute(settings, prepare=False)
     except BaseException:
-        link.close()
+        connection.close()
         raise
-    return link
+    return connection
 
 
-async def _configure(address: str, link: psycopg.AsyncConnection[Any]) -> None:
-    await pooler.check(link, address)
-    await link.execute(f"{SETTINGS}; {LIMITED}; {ABANDONED}", prepare=False)
+async def _configure(address: str, connection: psycopg.AsyncConnection[Any]) -> None:
+    await pooler.check(connection, address)
+    await connection.execute(f"{SETTINGS}; {LIMITED}; {ABANDONED}", prepare=False)
 
 
-def pool(url: str, most: int) -> AsyncConnectionPool:
+def pool(url: str, max_size: int) -> AsyncConnectionPool:
     """Connections for short statements, each a transaction of its own; not yet open.
 
     Who waits for one gives up by the pool's own time: a waiter that is cancelled keeps its
     place, and the connection that it gets is lost (psycopg_pool 3.1). And the pool gives up to
     connect soon, so that who asks next makes it try at once, however long the server was away.
     """
-    words = {"autocommit": True, "prepare_threshold": 2}
+    arguments = {"autocommit": True, "prepare_threshold": 2}
     return AsyncConnectionPool(
         address(url),
         connection_class=Link,
         min_size=1,
-        max_size=most,
+        max_size=max_size,
         open=False,
-        kwargs=words,
+        kwargs=arguments,
         configure=functools.partial(_configure, address(url)),
         timeout=PATIENCE / 4,
         reconnect_timeout=2.0,
@@ -311,9 +312,9 @@ class Attached(Protocol):
 class Asker:
     """Short statements over a pool."""
 
-    def __init__(self, url: str, where: str, most: int) -> None:
-        self.where, self._url, self._most = where, url, most
-        self.pool = pool(url, most)
+    def __init__(self, url: str, where: str, max_size: int) -> None:
+        self.where, self._url, self._most = where, url, max_size
+        self.pool = pool(url, max_size)
         self._attached: list[Attached] = []
         self._under_way: set[asyncio.Task[Any]] = set()
         self._used: set[Link] = set()
@@ -323,7 +324,7 @@ class Asker:
 
     async def open(self) -> None:
         """Connects. Raises `StoreUnavailable`."""
-        with faults(self.where):
+        with translate_errors(self.where):
             try:
                 await self.pool.open(wait=True, timeout=2 * CONNECT)
             except PoolTimeout:
@@ -339,32 +340,32 @@ class Asker:
         those of the pool after what is under way; with `cuts` at once too, since the server before
         may never answer.
         """
-        for one in self._attached:
-            one.cut()
+        for attached in self._attached:
+            attached.cut()
         old, self.pool = self.pool, pool(self._url, self._most)
         used = [*self._used] if cuts else []
         await self.pool.open()
-        for link in used:
-            replication.shut(link)
+        for connection in used:
+            replication.shut(connection)
         await old.close(timeout=CONNECT)
 
     async def close(self) -> None:
         if self._under_way:
             await asyncio.wait(self._under_way, timeout=CONNECT)
-        for one in self._attached:
-            await one.finish()
+        for attached in self._attached:
+            await attached.finish()
         await self.pool.close(timeout=CONNECT)
 
-    async def ask(self, text: str, **words: Any) -> list[Row]:
+    async def ask(self, text: str, **parameters: Any) -> list[Row]:
         """A statement's rows. Raises `StoreUnavailable`; then nobody knows whether it was done.
 
         Who is cancelled leaves the statement to its end: a connection in the middle of one is of
         no use.
         """
-        return await self._asked(text, words)
+        return await self._asked(text, parameters)
 
-    async def _asked(self, text: str, words: Mapping[str, Any] | Sequence[Any]) -> list[Row]:
-        return await self.whole(self._ask(text, words))
+    async def _asked(self, text: str, parameters: Mapping[str, Any] | Sequence[Any]) -> list[Row]:
+        return await self.whole(self._ask(text, parameters))
 
     async def whole(self, work: Coroutine[Any, Any, T]) -> T:
         """What comes of something that takes a connection of the pool. Who is cancelled leaves it
@@ -384,9 +385,9 @@ class Asker:
         if not work.cancelled():
             work.exception()  # whoever asked, and was not cancelled, has it
 
-    async def _ask(self, text: str, words: Mapping[str, Any] | Sequence[Any]) -> list[Row]:
-        async with self.connection() as link:
-            cursor = await link.execute(text, words)
+    async def _ask(self, text: str, parameters: Mapping[str, Any] | Sequence[Any]) -> list[Row]:
+        async with self.connection() as connection:
+            cursor = await connection.execute(text, parameters)
             return await cursor.fetchall() if cursor.pgresult and cursor.pgresult.nfields else []
 
     @contextlib.asynccontextmanager
@@ -395,29 +396,29 @@ class Asker:
         `StoreUnavailable`; then nobody knows what was done. Only within what is a task of its own
         (`whole`).
         """
-        with faults(self.where):
-            async with self.pool.connection() as link:
-                assert isinstance(link, Link)
-                self._used.add(link)
+        with translate_errors(self.where):
+            async with self.pool.connection() as connection:
+                assert isinstance(connection, Link)
+                self._used.add(connection)
                 try:
-                    async with replication.limited(link, PATIENCE + 1):
-                        yield link
+                    async with replication.limited(connection, PATIENCE + 1):
+                        yield connection
                 except (TimeoutError, errors.QueryCanceled):  # or it waits for one that is late
                     self.late()
                     raise
                 finally:
-                    self._used.discard(link)
+                    self._used.discard(connection)
 
     async def replicated(self) -> None:
         """Wait until the synchronous standbys have what is visible. Raises `StoreUnavailable`."""
         await self._barrier.passed()
 
-    async def read(self, text: str, **words: Any) -> list[Row]:
+    async def read(self, text: str, **parameters: Any) -> list[Row]:
         """As `ask`, for what may be asked twice: connections that broke unnoticed are tried
         past.
         """
-        return await tried(lambda: self._asked(text, words))
+        return await tried(lambda: self._asked(text, parameters))
 
-    async def rows(self, text: str, *words: Any) -> list[Row]:
+    async def rows(self, text: str, *parameters: Any) -> list[Row]:
         """As `read`, of a question with a `%s` for each word."""
-        return await tried(lambda: self._asked(text, words))
+        return await tried(lambda: self._asked(text, parameters))

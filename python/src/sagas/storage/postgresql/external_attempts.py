@@ -17,14 +17,14 @@ from sagas.storage.deliveries import Deliveries
 from sagas.storage.external import (
     OPEN,
     TAKES,
-    Asked,
-    Beat,
+    ExternalRequest,
+    Heartbeat,
     Claim,
     Report,
-    Reported,
+    ReportRequest,
     Row,
-    Waiting,
-    Wanted,
+    QueueState,
+    ClaimRequest,
     earlier,
 )
 from sagas.storage.lots import Batcher
@@ -127,17 +127,19 @@ kept AS (
 rows may wait for somebody who waits for this one.
 """
 SHARDS = "json_object_agg(attempt, shard)::text"
-CLAIM_WORDS = ("tasks", "most", "workers", "seconds")
-REPORT_WORDS = ("attempts", "leases", "outcomes", "values")
+CLAIM_PARAMETERS = ("tasks", "most", "workers", "seconds")
+REPORT_PARAMETERS = ("attempts", "leases", "outcomes", "values")
 CLAIMS_WIRED = prepared.numbered(
-    f"WITH {CLOCK}, {CLAIMED} SELECT {ROWS}, NULL FROM taken", *CLAIM_WORDS
+    f"WITH {CLOCK}, {CLAIMED} SELECT {ROWS}, NULL FROM taken", *CLAIM_PARAMETERS
 )
-REPORTS_WIRED = prepared.numbered(f"WITH {REPORTED} SELECT NULL, {SHARDS} FROM kept", *REPORT_WORDS)
+REPORTS_WIRED = prepared.numbered(
+    f"WITH {REPORTED} SELECT NULL, {SHARDS} FROM kept", *REPORT_PARAMETERS
+)
 BOTH_WIRED = prepared.numbered(
     f"WITH {CLOCK}, {UNREPORTED}, {REPORTED} "
     f"SELECT (SELECT {ROWS} FROM taken), (SELECT {SHARDS} FROM kept)",
-    *CLAIM_WORDS,
-    *REPORT_WORDS,
+    *CLAIM_PARAMETERS,
+    *REPORT_PARAMETERS,
 )
 """The rows of claims, and the shards of the reports that count."""
 FIND = "SELECT lease, outcome, value, reported FROM external_attempts WHERE attempt = %(attempt)s"
@@ -161,33 +163,33 @@ ON CONFLICT (id, step, action, number) DO UPDATE SET fraction = excluded.fractio
   detail = excluded.detail, at = excluded.at
 RETURNING 1
 """
-TELL = notifications.saying(CHANNEL).replace("%(words)s", "'{reported}'")
+NOTIFY_REPORTED = notifications.notify_statement(CHANNEL).replace("%(messages)s", "'{reported}'")
 
 
-_Told = Union[list[list[Any]], Optional[int]]
+_Answer = Union[list[list[Any]], Optional[int]]
 """The rows of a claim; the shard of a report, or None if it does not count."""
 
 
-def _group(one: Asked) -> tuple[str, ...] | None:
+def _group(request: ExternalRequest) -> tuple[str, ...] | None:
     """Claims of the same tasks are made by one statement; any reports go with them."""
-    return one.tasks if isinstance(one, Wanted) else None
+    return request.tasks if isinstance(request, ClaimRequest) else None
 
 
 def rows_of(text: str | bytes | None) -> list[list[Any]]:
     """The rows of `CLAIM`, from its text."""
-    found: list[list[Any]] = json.loads(text) if text else []
-    return found
+    rows: list[list[Any]] = json.loads(text) if text else []
+    return rows
 
 
-def _divided(wanted: Sequence[Wanted], rows: Sequence[list[Any]]) -> list[list[list[Any]]]:
+def _divided(claims: Sequence[ClaimRequest], rows: Sequence[list[Any]]) -> list[list[list[Any]]]:
     """The rows of each claim: those that came first have those that have waited longest."""
-    by_place = {row[8]: row for row in rows}
-    found, place = [], 0
-    for one in wanted:
-        places = range(place + 1, place + one.most + 1)
-        found.append([by_place[at] for at in places if at in by_place])
-        place += one.most
-    return found
+    by_number = {row[8]: row for row in rows}
+    rows_of_claims, taken = [], 0
+    for claim in claims:
+        numbers = range(taken + 1, taken + claim.most + 1)
+        rows_of_claims.append([by_number[number] for number in numbers if number in by_number])
+        taken += claim.most
+    return rows_of_claims
 
 
 class PostgreSQLExternalAttempts:
@@ -206,7 +208,9 @@ class PostgreSQLExternalAttempts:
         self._own = prepared.ReconnectingWire(url, asker.where)
         asker.attach(self._own)
         self._locking = asyncio.Lock()  # claims that wait for other nodes hold one of the pool
-        self._lots: Batcher[Asked, Any] = Batcher(self._ask_all, MOST, self._dropped, _group)
+        self._batcher: Batcher[ExternalRequest, Any] = Batcher(
+            self._ask_all, MOST, self._dropped, _group
+        )
         self._unwanted: Callable[[Sequence[Claim]], object] = lambda claims: None
         self.deliveries: Deliveries = PostgreSQLDeliveries(asker)
 
@@ -223,74 +227,81 @@ class PostgreSQLExternalAttempts:
         self, tasks: Sequence[str], limited: Sequence[str], most: int, seconds: float, worker: str
     ) -> list[Claim]:
         names = (*map(clean, tasks),)
-        wanted = Wanted(names, max(0, most), float(seconds), clean(worker))
+        wanted = ClaimRequest(names, max(0, most), float(seconds), clean(worker))
         if limited:
             rows = await self._alone(limited, wanted)
         else:
-            rows = await self._lots.ask(wanted)
-        found = [Claim(*row[:8]) for row in rows]
+            rows = await self._batcher.ask(wanted)
+        claims = [Claim(*row[:8]) for row in rows]
         try:
             await self._note_earlier(rows)
         except asyncio.CancelledError:
-            self._unwanted(found)
+            self._unwanted(claims)
             raise
-        return found
+        return claims
 
     async def _note_earlier(self, rows: Sequence[list[Any]]) -> None:
         """Note the earlier leases of what was claimed."""
         for _, _, _, id, step, action, _, _, _, number, since, had, lease, until in rows:
             if since is not None:
-                told = {"at": since, "spans": earlier(since, had, lease, until)}
-                at = {"id": id, "step": step, "action": action, "number": number}
+                span = {"at": since, "spans": earlier(since, had, lease, until)}
+                attempt = {"id": id, "step": step, "action": action, "number": number}
                 with contextlib.suppress(StoreUnavailable):
-                    await self._asker.ask(EARLIER, **at, **told)
+                    await self._asker.ask(EARLIER, **attempt, **span)
 
-    def _dropped(self, what: Asked, answer: Any) -> None:
-        if isinstance(what, Wanted):
+    def _dropped(self, request: ExternalRequest, answer: Any) -> None:
+        if isinstance(request, ClaimRequest):
             self._unwanted([Claim(*row[:8]) for row in answer])
 
-    async def _ask_all(self, some: Sequence[Asked]) -> list[_Told]:
+    async def _ask_all(self, requests: Sequence[ExternalRequest]) -> list[_Answer]:
         """The answers to claims of the same tasks, and to reports."""
-        wanted = [one for one in some if isinstance(one, Wanted)]
-        reports = {one.attempt: one for one in reversed(some) if isinstance(one, Reported)}
+        claims = [request for request in requests if isinstance(request, ClaimRequest)]
+        reports = {
+            request.attempt: request
+            for request in reversed(requests)
+            if isinstance(request, ReportRequest)
+        }
         if self._own.is_open or await self._has_own():
-            rows, shards = await self._ask_own(wanted, [*reports.values()])
+            rows, shards = await self._ask_own(claims, [*reports.values()])
         else:
-            rows, shards = await self._claim_all(wanted), {}  # each report goes alone
-        claims = iter(_divided(wanted, rows))
+            rows, shards = await self._claim_all(claims), {}  # each report goes alone
+        answers = iter(_divided(claims, rows))
         return [
-            next(claims)
-            if isinstance(one, Wanted)
-            else shards.get(one.attempt)
-            if reports[one.attempt] is one
+            next(answers)
+            if isinstance(request, ClaimRequest)
+            else shards.get(request.attempt)
+            if reports[request.attempt] is request
             else None
-            for one in some
+            for request in requests
         ]
 
     async def _ask_own(
-        self, wanted: Sequence[Wanted], reports: Sequence[Reported]
+        self, claims: Sequence[ClaimRequest], reports: Sequence[ReportRequest]
     ) -> tuple[list[list[Any]], dict[str, int]]:
-        words: list[bytes] = []
-        if wanted:
-            each = [one for one in wanted for _ in range(one.most)]
-            seconds = prepared.array([repr(one.seconds) for one in each])
-            workers = prepared.array([one.worker for one in each])
-            words += [prepared.array(wanted[0].tasks), b"%d" % len(each), workers, seconds]
+        parameters: list[bytes] = []
+        if claims:
+            each = [claim for claim in claims for _ in range(claim.most)]
+            seconds = prepared.array([repr(claim.seconds) for claim in each])
+            workers = prepared.array([claim.worker for claim in each])
+            parameters += [prepared.array(claims[0].tasks), b"%d" % len(each), workers, seconds]
         if reports:
             attempts, leases, outcomes, values = zip(*reports)
-            words += map(prepared.array, (attempts, map(str, leases), outcomes, values))
-        text = CLAIMS_WIRED if not reports else BOTH_WIRED if wanted else REPORTS_WIRED
-        ((rows, shards),) = await self._own.ask(text, *words)
+            parameters += map(prepared.array, (attempts, map(str, leases), outcomes, values))
+        text = CLAIMS_WIRED if not reports else BOTH_WIRED if claims else REPORTS_WIRED
+        ((rows, shards),) = await self._own.ask(text, *parameters)
         return rows_of(rows), json.loads(shards) if shards else {}
 
-    async def _claim_all(self, wanted: Sequence[Wanted]) -> list[list[Any]]:
+    async def _claim_all(self, claims: Sequence[ClaimRequest]) -> list[list[Any]]:
         """The rows of claims of the same tasks, by the pool."""
-        if not wanted:
+        if not claims:
             return []
-        each = [one for one in wanted for _ in range(one.most)]
-        told = {"workers": [one.worker for one in each], "seconds": [one.seconds for one in each]}
-        tasks = [*wanted[0].tasks]
-        ((text,),) = await self._asker.ask(CLAIM, tasks=tasks, most=len(each), **told)
+        each = [claim for claim in claims for _ in range(claim.most)]
+        workers = {
+            "workers": [claim.worker for claim in each],
+            "seconds": [claim.seconds for claim in each],
+        }
+        tasks = [*claims[0].tasks]
+        ((text,),) = await self._asker.ask(CLAIM, tasks=tasks, most=len(each), **workers)
         return rows_of(text)
 
     async def _has_own(self) -> bool:
@@ -301,7 +312,7 @@ class PostgreSQLExternalAttempts:
             return False
         return True
 
-    async def _alone(self, limited: Sequence[str], wanted: Wanted) -> list[list[Any]]:
+    async def _alone(self, limited: Sequence[str], wanted: ClaimRequest) -> list[list[Any]]:
         """A claim of tasks with a concurrency. It continues if its caller is cancelled."""
         claiming = asyncio.get_running_loop().create_task(self._claim_limited(limited, wanted))
         try:
@@ -310,33 +321,33 @@ class PostgreSQLExternalAttempts:
             claiming.add_done_callback(functools.partial(self._over, wanted))
             raise
 
-    def _over(self, wanted: Wanted, claiming: asyncio.Task[list[list[Any]]]) -> None:
+    def _over(self, wanted: ClaimRequest, claiming: asyncio.Task[list[list[Any]]]) -> None:
         if not claiming.cancelled() and not claiming.exception():
             self._dropped(wanted, claiming.result())
 
-    async def _claim_limited(self, limited: Sequence[str], wanted: Wanted) -> list[list[Any]]:
+    async def _claim_limited(self, limited: Sequence[str], wanted: ClaimRequest) -> list[list[Any]]:
         """The rows of a claim of tasks with a concurrency. No other node claims them meanwhile."""
         workers = [wanted.worker] * wanted.most
-        words = {"tasks": [*wanted.tasks], "most": wanted.most, "workers": workers}
-        async with self._locking, self._asker.connection() as link, link.transaction():
-            await link.execute(LOCK, {"limited": list(limited)})
+        parameters = {"tasks": [*wanted.tasks], "most": wanted.most, "workers": workers}
+        async with self._locking, self._asker.connection() as connection, connection.transaction():
+            await connection.execute(LOCK, {"limited": list(limited)})
             seconds = {"seconds": [wanted.seconds] * wanted.most}
-            row = await (await link.execute(CLAIM, words | seconds)).fetchone()
+            row = await (await connection.execute(CLAIM, parameters | seconds)).fetchone()
             return rows_of(row[0]) if row else []
 
-    async def heartbeat(self, attempt: str, lease: int, seconds: float) -> Beat | None:
+    async def heartbeat(self, attempt: str, lease: int, seconds: float) -> Heartbeat | None:
         rows = await self._asker.ask(HEARTBEAT, attempt=attempt, lease=lease, seconds=seconds)
-        return Beat(float(rows[0][0]), rows[0][1]) if rows else None
+        return Heartbeat(float(rows[0][0]), rows[0][1]) if rows else None
 
     async def advance(self, attempt: str, fraction: float, detail: str | None, at: float) -> None:
-        words = {"attempt": attempt, "fraction": fraction, "detail": detail, "at": at}
-        await self._asker.ask(ADVANCE, **words)
+        parameters = {"attempt": attempt, "fraction": fraction, "detail": detail, "at": at}
+        await self._asker.ask(ADVANCE, **parameters)
 
     async def report(self, attempt: str, lease: int, outcome: str, value: str) -> int | None:
-        one = Reported(attempt, lease, outcome, value)
-        shard: int | None = await self._lots.ask(one)
+        request = ReportRequest(attempt, lease, outcome, value)
+        shard: int | None = await self._batcher.ask(request)
         if shard is None:  # it does not count, or somebody has its row
-            rows = await self._asker.ask(REPORT, **one._asdict())
+            rows = await self._asker.ask(REPORT, **request._asdict())
             shard = int(rows[0][0]) if rows else None
         return shard
 
@@ -352,8 +363,8 @@ class PostgreSQLExternalAttempts:
         rows = await self._asker.read(ALL_REPORTED, shards=list(shards))
         return [Report(*row) for row in rows]
 
-    async def waiting(self) -> list[Waiting]:
-        return [Waiting(*row) for row in await self._asker.read(WAITING)]
+    async def waiting(self) -> list[QueueState]:
+        return [QueueState(*row) for row in await self._asker.read(WAITING)]
 
-    async def tell(self) -> None:
-        await self._asker.ask(TELL)
+    async def notify_owners(self) -> None:
+        await self._asker.ask(NOTIFY_REPORTED)

@@ -80,8 +80,8 @@ async def line_of(address: str, host: Mapping[str, str]) -> str | None:
     try:
         async with asyncio.timeout(PATIENCE):
             single = conninfo.make_conninfo(address, **host)
-            async with await psycopg.AsyncConnection.connect(single, autocommit=True) as link:
-                rows = await (await link.execute(f"SELECT {LINE}")).fetchall()
+            async with await psycopg.AsyncConnection.connect(single, autocommit=True) as connection:
+                rows = await (await connection.execute(f"SELECT {LINE}")).fetchall()
                 return str(rows[0][0])
     except (psycopg.Error, OSError, TimeoutError):
         return None

@@ -97,15 +97,19 @@ class LimitSlots:
     ) -> Grant:
         """As `Database.admit`; `look`: how soon to look again whose node is gone."""
         calls, seconds = bounds.rate_limit or (0, 0.0)
-        words = {"name": name, "limit": bounds.concurrency or 0, "calls": calls}
-        more = {"seconds": seconds, "node": self._node, "want": want, "have": list(have)}
+        parameters = {"name": name, "limit": bounds.concurrency or 0, "calls": calls}
+        counts = {"seconds": seconds, "node": self._node, "want": want, "have": list(have)}
         take = TAKE_KEYED if bounds.is_keyed else TAKE
-        (row,) = await self._asker.ask(take, **words, **more)
+        (row,) = await self._asker.ask(take, **parameters, **counts)
         if row[2]:
             self._say(["places"])
         if row[-1]:
-            await self._asker.ask(MAKE, **words)
-            (row,) = await self._asker.ask(take, **words, **more)
-        count, places, _, pause, _ = row
-        wait = float(pause if pause is not None else seconds) if calls else look
-        return Grant(int(count), places, min(wait, look) if bounds.concurrency else wait)
+            await self._asker.ask(MAKE, **parameters)
+            (row,) = await self._asker.ask(take, **parameters, **counts)
+        count, slots, _, pause, _ = row
+        pause_until_free = float(pause if pause is not None else seconds) if calls else look
+        return Grant(
+            int(count),
+            slots,
+            min(pause_until_free, look) if bounds.concurrency else pause_until_free,
+        )

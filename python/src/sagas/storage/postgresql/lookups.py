@@ -48,34 +48,34 @@ class Lookups:
         if not self._is_looking:
             self._is_looking = True
             self._spawn(self._look())
-        found = await future
-        if found is None:
+        known = await future
+        if known is None:
             raise NoSuchSaga(f"saga {row.key!r} was deleted meanwhile")
-        return found
+        return known
 
     async def _look(self) -> None:
         try:
             while self._wanted:
-                lot = [*self._wanted][:MANY]
-                futures = {id: self._wanted.pop(id) for id in lot}
+                ids = [*self._wanted][:MANY]
+                futures = {id: self._wanted.pop(id) for id in ids}
                 try:
-                    found = await self._ask(lot)
+                    known = await self._ask(ids)
                 except BaseException as error:
                     self._fail(futures, error)
                     if not isinstance(error, StoreUnavailable):
                         raise
                 else:
-                    self._tell(futures, found)
+                    self._resolve(futures, known)
         finally:
             self._is_looking = False
 
-    def _tell(
-        self, futures: dict[int, list[asyncio.Future[Known | None]]], found: dict[int, Known]
+    def _resolve(
+        self, futures: dict[int, list[asyncio.Future[Known | None]]], known: dict[int, Known]
     ) -> None:
         for id, waiting in futures.items():
             for future in waiting:
                 if not future.done():
-                    future.set_result(found.get(id))
+                    future.set_result(known.get(id))
 
     def _fail(
         self, futures: dict[int, list[asyncio.Future[Known | None]]], error: BaseException
@@ -90,25 +90,27 @@ class Lookups:
                     future.set_exception(error)
 
     async def _ask(self, ids: Sequence[int]) -> dict[int, Known]:
-        found: dict[int, tuple[str, str | None]] = {}
+        digests_and_shapes: dict[int, tuple[str, str | None]] = {}
         results: dict[int, list[Any]] = {id: [] for id in ids}
         for id, step, kind, attempt, event, value, at in await self._asker.read(KNOWN, ids=ids):
             if step < 0:
-                found[id] = kind, value
+                digests_and_shapes[id] = kind, value
             else:
                 results[id].append((step, kind, attempt, event, value, at))
-        await self._fetch({digest for digest, _ in found.values()})
+        await self._fetch({digest for digest, _ in digests_and_shapes.values()})
         return {
             id: Known(self._texts[digest], sorted(results[id], key=lambda row: row[:3]), [], shape)
-            for id, (digest, shape) in found.items()
+            for id, (digest, shape) in digests_and_shapes.items()
         }
 
     async def _fetch(self, digests: set[str]) -> None:
         """The texts of these are at hand."""
-        lacking = [digest for digest in digests if digest not in self._texts]
-        if not lacking:
+        missing = [digest for digest in digests if digest not in self._texts]
+        if not missing:
             return
-        rows = await self._asker.read(TEXTS, digests=lacking)
+        rows = await self._asker.read(TEXTS, digests=missing)
         if len(self._texts) + len(rows) > MOST_TEXTS:
-            self._texts = {one: self._texts[one] for one in digests if one in self._texts}
+            self._texts = {
+                digest: self._texts[digest] for digest in digests if digest in self._texts
+            }
         self._texts |= dict(rows)  # type: ignore[arg-type]

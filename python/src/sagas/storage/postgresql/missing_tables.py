@@ -52,12 +52,12 @@ class MissingTables:
         return True
 
     def _make(self) -> None:
-        with connections.faults(self._path):
-            with contextlib.closing(connections.connect_now(self._url)) as link:
-                (line,) = link.execute(f"SELECT {connections.LINE}").fetchone() or ("",)
+        with connections.translate_errors(self._path):
+            with contextlib.closing(connections.connect_now(self._url)) as connection:
+                (line,) = connection.execute(f"SELECT {connections.LINE}").fetchone() or ("",)
                 if line == self._line:
                     raise InvalidStore(
                         f"{self._path}: the tables of the store are gone, and nothing is executed. "
                         "Close all nodes, restore the database, and start them again"
                     )
-                schema.migrate(link, self._path)
+                schema.migrate(connection, self._path)

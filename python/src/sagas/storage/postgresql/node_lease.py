@@ -34,7 +34,7 @@ from sagas.storage.postgresql.connections import LINE, RAISED, Asker
 from sagas.storage.queries import COMPLETED_CHILDREN, OPENED
 
 if TYPE_CHECKING:
-    from sagas.storage.interface import Drives
+    from sagas.storage.interface import FunctionCheck
 
 BEAT = 1.0
 """Seconds between two words of a node that it lives, at most."""
@@ -42,7 +42,7 @@ OWN = 64
 """A node with so many logs looks at each beat for those that it did not hear of, one with twice
 as many at each second one.
 """
-LOT = 50
+TAKEOVER_BATCH = 50
 """Logs that are taken over at once: other nodes take theirs meanwhile."""
 SPARED = 3.0
 """Seconds that others have to take a log that this node has spared."""
@@ -57,7 +57,7 @@ at where `own`: it takes long where it has many).
 """
 UNTAKEN = f"(i.refused IS NULL AND NOT {LIVE.format('i.node')})"
 
-SAY = f"""
+RENEW_OR_ENTER = f"""
 WITH said AS (UPDATE nodes SET lease = now() + make_interval(secs => %(lease)s)
   WHERE node = %(node)s AND {ALLOWS} RETURNING 1),
 entered AS (INSERT INTO nodes(node, name, version, kinds, since, lease)
@@ -87,11 +87,11 @@ TEXTS = """(SELECT coalesce(json_agg(text ORDER BY place), '[]')
 """The definitions of a log."""
 CANDIDATES = f"""
 SELECT json_build_array(l.shard, {TEXTS}, {PLACES}, l.epoch)::text FROM shards l
-WHERE {ORPHAN} AND l.shard <> ALL(%(left)s::bigint[]) ORDER BY l.shard LIMIT {LOT}
+WHERE {ORPHAN} AND l.shard <> ALL(%(left)s::bigint[]) ORDER BY l.shard LIMIT {TAKEOVER_BATCH}
 """
 TAKE = f"""
 WITH mine AS (UPDATE shards SET owner = %(node)s, epoch = epoch + 1 WHERE shard IN (
-  SELECT l.shard FROM shards l WHERE l.shard = ANY(%(logs)s::bigint[]) AND {ORPHAN}
+  SELECT l.shard FROM shards l WHERE l.shard = ANY(%(shards)s::bigint[]) AND {ORPHAN}
   ORDER BY l.shard FOR UPDATE SKIP LOCKED) RETURNING shard, epoch),
 noted AS ({RAISED})
 SELECT shard FROM mine
@@ -100,14 +100,14 @@ TAKEN = f"""
 SELECT json_build_array(shard, name, {TEXTS}, ({OPENED}), ({OPENED} AND phase IS NULL), epoch,
   {PLACES}, audit)::text
 FROM shards l
-WHERE shard = ANY(%(logs)s::bigint[]) AND owner = %(node)s ORDER BY shard
+WHERE shard = ANY(%(shards)s::bigint[]) AND owner = %(node)s ORDER BY shard
 """
 """What is in the logs that were taken. By a statement behind the taking: one that counted as it
 took would not see the last commit of a node that still wrote.
 
 Each row is one text, which psycopg reads in less time than several cells.
 """
-COMPLETED = COMPLETED_CHILDREN.format(which="l.shard = ANY(%(logs)s::bigint[])")
+COMPLETED = COMPLETED_CHILDREN.format(which="l.shard = ANY(%(shards)s::bigint[])")
 TEXTS_OF = "SELECT definition, text FROM definitions WHERE definition = ANY(%(digests)s::text[])"
 UNDRIVEN = f"""
 SELECT text, count(DISTINCT l.shard), count(*)
@@ -116,17 +116,17 @@ JOIN sagas s ON s.id >= l.shard * {SHARD_CAPACITY} AND s.id < (l.shard + 1) * {S
   AND phase IS NULL
 JOIN shard_definitions d ON d.shard = l.shard AND d.place = s.definition_index
 JOIN definitions USING (definition)
-WHERE l.shard = ANY(%(logs)s::bigint[]) GROUP BY 1 ORDER BY 1
+WHERE l.shard = ANY(%(shards)s::bigint[]) GROUP BY 1 ORDER BY 1
 """
 """The definitions of the open sagas of these logs: of how many logs, and how many sagas."""
 LEAVE = f"""
 WITH mine AS (UPDATE shards SET owner = NULL, epoch = epoch + 1
-  WHERE shard = ANY(%(logs)s::bigint[]) AND owner = %(node)s RETURNING shard, epoch)
+  WHERE shard = ANY(%(shards)s::bigint[]) AND owner = %(node)s RETURNING shard, epoch)
 {RAISED}
 """
 SPARE = f"""
 WITH mine AS (UPDATE shards l SET owner = NULL, epoch = epoch + 1
-  WHERE l.shard = %(log)s AND l.owner = %(node)s AND EXISTS (
+  WHERE l.shard = %(shard)s AND l.owner = %(node)s AND EXISTS (
     SELECT 1 FROM nodes n
     WHERE n.node <> %(node)s AND n.lease > now() AND n.since > to_timestamp(%(before)s))
   RETURNING shard, epoch),
@@ -180,12 +180,12 @@ class Lease:
         # open logs that this program lacks functions for, with the epochs at which it does
         self.left: dict[int, int] = {}
         self._undriven: dict[int, float] = {}  # those that no node drives, since when, by `now`
-        self._told: set[int] = set()  # of which that was told
+        self._reported: set[int] = set()  # of which that was told
         # until when this node does not take it, and when it was given back, by the server's clock
         self._spared: dict[int, tuple[float, float]] = {}
         self.fresh = True  # no function was kept from beginning since the last beat
         self._enters = True  # its row is made where there is none
-        self._told_of_codec = False
+        self._has_reported_codec = False
         self._until = 0.0
         self._turn = -1
 
@@ -208,11 +208,11 @@ class Lease:
         Whether the lease ran out before, whether there are logs to take, whether there is
         something asked, and the server's timeline.
         """
-        asked = now()
+        started = now()
         self._turn += 1
         own = self._turn % max(1, len(mine) // OWN) == 0
         before = self._passed()
-        words = {
+        parameters = {
             "own": own,
             "node": self.node,
             "name": self.name,
@@ -223,62 +223,62 @@ class Lease:
             "mine": mine,
             "encodes": self.encodes,
         }
-        rows = await self._asker.ask(SAY + LOOK, enters=self._enters, **words)
+        rows = await self._asker.ask(RENEW_OR_ENTER + LOOK, enters=self._enters, **parameters)
         ((line, is_there, orphans, asks, left),) = rows
         self._look_at_left(left)
         self._enters = not is_there
         if not is_there:
-            self._until = asked
+            self._until = started
             await self._look_for_codec()
             return False, False, False, line
         lapsed = self._until > 0 and not (self.holds() and self.fresh)
-        self._until, self.fresh = asked + self.seconds, True
+        self._until, self.fresh = started + self.seconds, True
         return lapsed, orphans, asks, line
 
     async def renew(self) -> None:
         """Says that this node lives, and no more: the next beat tells what it missed meanwhile."""
-        asked, _ = now(), self.holds()
+        started, _ = now(), self.holds()
         is_there = await self._asker.ask(
             RENEW, node=self.node, lease=self.seconds, encodes=self.encodes
         )
-        self._until = asked + self.seconds if is_there else asked
+        self._until = started + self.seconds if is_there else started
 
     def _passed(self) -> list[int]:
         """Logs that this node does not take now."""
-        return [*self.left, *(log for log, (until, _) in self._spared.items() if until > now())]
+        return [*self.left, *(shard for shard, (until, _) in self._spared.items() if until > now())]
 
-    async def spare(self, log: int) -> bool:
+    async def spare(self, shard: int) -> bool:
         """Gives a log back, of which another node may be able to read what this one cannot. False
         where none has come since that was tried."""
-        before = self._spared.get(log, (0.0, 0.0))[1]
-        rows = await self._asker.ask(SPARE, log=log, node=self.node, before=before)
+        before = self._spared.get(shard, (0.0, 0.0))[1]
+        rows = await self._asker.ask(SPARE, shard=shard, node=self.node, before=before)
         for (at,) in rows:
-            self._spared[log] = now() + SPARED, at
+            self._spared[shard] = now() + SPARED, at
         if rows:
-            await self._asker.ask(notifications.SAY, words=["logs"])
+            await self._asker.ask(notifications.NOTIFY, messages=["logs"])
         return bool(rows)
 
-    def _look_at_left(self, found: Sequence[tuple[int, int, bool]]) -> None:
+    def _look_at_left(self, rows: Sequence[tuple[int, int, bool]]) -> None:
         """Of those that were left, these are open still: their epochs, and whether a node drives
         each. One that another has driven since then is judged again: it may lack nothing now.
         """
-        as_it_was = {log for log, at, driven in found if driven or self.left.get(log) == at}
-        self.left = {log: at for log, at in self.left.items() if log in as_it_was}
-        undriven = [log for log, _, driven in found if log in self.left and not driven]
-        self._undriven = since = {log: self._undriven.get(log, now()) for log in undriven}
-        self._told &= since.keys()
+        still_left = {shard for shard, at, driven in rows if driven or self.left.get(shard) == at}
+        self.left = {shard: at for shard, at in self.left.items() if shard in still_left}
+        undriven = [shard for shard, _, driven in rows if shard in self.left and not driven]
+        self._undriven = since = {shard: self._undriven.get(shard, now()) for shard in undriven}
+        self._reported &= since.keys()
 
     def undriven(self) -> list[int]:
         """Logs that no node has driven for as long as a lease, each once: a node that is gone had
         its time, and so had those that would take its logs."""
-        old = [log for log, since in self._undriven.items() if now() - since >= self.seconds]
-        logs = [log for log in old if log not in self._told]
-        self._told.update(logs)
-        return logs
+        old = [shard for shard, since in self._undriven.items() if now() - since >= self.seconds]
+        shards = [shard for shard in old if shard not in self._reported]
+        self._reported.update(shards)
+        return shards
 
-    def untold(self, logs: Sequence[int]) -> None:
+    def untold(self, shards: Sequence[int]) -> None:
         """It could not be told of these."""
-        self._told -= {*logs}
+        self._reported -= {*shards}
 
     async def secret(self) -> bytes:
         """As `Database.secret`."""
@@ -299,71 +299,74 @@ class Lease:
 
     async def _look_for_codec(self) -> None:
         """Say why this node has no lease, where it is that the store's values are encoded now."""
-        if self.encodes or self._told_of_codec or not await self._asker.read(NOTED):
+        if self.encodes or self._has_reported_codec or not await self._asker.read(NOTED):
             return
-        self._told_of_codec = True
+        self._has_reported_codec = True
         logger.error("%s. This node does nothing more", missing(self._asker.where))
 
-    async def take(self, drives: Drives, mine: list[int]) -> list[LogRow] | None:
+    async def take(self, check_functions: FunctionCheck, mine: list[int]) -> list[LogRow] | None:
         """A lot of the logs that nobody has: those of it whose functions this program has. None
         where there are no more, or others take them.
         """
-        words = {"node": self.node, "mine": mine, "own": True}
-        found = await self._asker.read(CANDIDATES, left=self._passed(), **words)
-        fit = await self._fit(drives, [json.loads(text) for (text,) in found])
-        taken = await self._asker.ask(TAKE, logs=fit, **words) if fit else []
+        parameters = {"node": self.node, "mine": mine, "own": True}
+        rows = await self._asker.read(CANDIDATES, left=self._passed(), **parameters)
+        fit = await self._fit(check_functions, [json.loads(text) for (text,) in rows])
+        taken = await self._asker.ask(TAKE, shards=fit, **parameters) if fit else []
         if taken:
-            return await self._has(drives, [log for (log,) in taken])
-        return [] if found and not fit else None
+            return await self._has(check_functions, [shard for (shard,) in taken])
+        return [] if rows and not fit else None
 
-    async def _fit(self, drives: Drives, found: Sequence[Sequence[Any]]) -> list[int]:
+    async def _fit(
+        self, check_functions: FunctionCheck, candidates: Sequence[Sequence[Any]]
+    ) -> list[int]:
         """Those of these logs that this program has the functions for; the others are left to
         other nodes, and given back where they are this one's by now.
         """
-        completed = await self._completed([log for log, *_ in found]) if found else {}
+        completed = await self._completed([shard for shard, *_ in candidates]) if candidates else {}
         lacks = {
-            log: drives(texts, places, completed.get(log, [])) for log, texts, places, _ in found
+            shard: check_functions(texts, places, completed.get(shard, []))
+            for shard, texts, places, _ in candidates
         }
-        left = {log: at for log, _, _, at in found if lacks[log] is not None}
+        left = {shard: at for shard, _, _, at in candidates if lacks[shard] is not None}
         if left:
-            await self._asker.ask(LEAVE, node=self.node, logs=[*left])
+            await self._asker.ask(LEAVE, node=self.node, shards=[*left])
             self.left |= left
             logger.info("left %d shards to other nodes: %s", len(left), lacks[next(iter(left))])
-        return [log for log in lacks if log not in left]
+        return [shard for shard in lacks if shard not in left]
 
-    async def _completed(self, logs: Sequence[int]) -> dict[int, list[CompletedChild]]:
+    async def _completed(self, shards: Sequence[int]) -> dict[int, list[CompletedChild]]:
         """The completed children below the open sagas of these logs."""
-        rows = await self._asker.read(COMPLETED, logs=[*logs])
+        rows = await self._asker.read(COMPLETED, shards=[*shards])
         if not rows:
             return {}
         digests = [*{digest for _, _, one, _, other in rows for digest in (one, other)}]
         return undo_check.by_shard(rows, await self._asker.read(TEXTS_OF, digests=digests))
 
-    async def _has(self, drives: Drives, taken: list[int]) -> list[LogRow]:
+    async def _has(self, check_functions: FunctionCheck, taken: list[int]) -> list[LogRow]:
         """What is in the logs that were just taken: a saga of theirs, which was opened
         meanwhile, may need a function that is not here.
         """
-        found = [
+        rows = [
             json.loads(text)
-            for (text,) in await self._asker.read(TAKEN, node=self.node, logs=taken)
+            for (text,) in await self._asker.read(TAKEN, node=self.node, shards=taken)
         ]
-        fit = await self._fit(drives, [(row[0], row[2], row[6], row[5]) for row in found])
-        return [LogRow(*row[:6], *row[7:]) for row in found if row[0] in fit]
+        fit = await self._fit(check_functions, [(row[0], row[2], row[6], row[5]) for row in rows])
+        return [LogRow(*row[:6], *row[7:]) for row in rows if row[0] in fit]
 
     async def end(self) -> None:
         """What this node has is free for others, now."""
         await self._asker.ask(HAND_OVER, node=self.node)
-        await self._asker.ask(notifications.SAY, words=["logs", notifications.STARTS])
+        await self._asker.ask(notifications.NOTIFY, messages=["logs", notifications.STARTS])
 
 
-def said_of(where: str, logs: Sequence[int], rows: Sequence[Sequence[Any]]) -> str:
+def describe_undriven(where: str, shards: Sequence[int], rows: Sequence[Sequence[Any]]) -> str:
     """That no node drives these logs, with the definitions of their open sagas (`UNDRIVEN`)."""
-    whose = []
+    descriptions = []
     for text, count, sagas in rows:
         name = f"{tomllib.loads(text)['name']} (version {version_of(text)})"
-        whose.append(f"{name}: {number(sagas, 'saga')} in {number(count, 'shard')}")
+        descriptions.append(f"{name}: {number(sagas, 'saga')} in {number(count, 'shard')}")
     return (
-        f"{where}: no node executes {number(len(logs), 'shard')}, because none has "
-        f"the functions of their open sagas: {'; '.join(whose)}. Start a program that "
+        f"{where}: no node executes {number(len(shards), 'shard')}, because none has "
+        f"the functions of their open sagas: {'; '.join(descriptions)}. Start a program that "
         "has them, and see `sagas store URL nodes`"
     )

@@ -24,29 +24,31 @@ AT_ONCE = "set_config('synchronous_commit', 'off', true)"
 and no standby, and nothing is written with it: a crash forgets who listened."""
 
 
-def saying(channel: str) -> str:
-    """The statement that tells `words` to all that listen on a channel."""
-    return f"SELECT {AT_ONCE}, pg_notify('{channel}', v) FROM unnest(%(words)s::text[]) AS v"
+def notify_statement(channel: str) -> str:
+    """The statement that tells `messages` to all that listen on a channel."""
+    return f"SELECT {AT_ONCE}, pg_notify('{channel}', v) FROM unnest(%(messages)s::text[]) AS v"
 
 
-SAY = saying(CHANNEL)
-SAY_WIRED = SAY.replace("%(words)s", "$1")
-"""The same over a wire, to which `wired` gives the words."""
+NOTIFY = notify_statement(CHANNEL)
+NOTIFY_WIRED = NOTIFY.replace("%(messages)s", "$1")
+"""The same over a wire, to which `array_of` gives the words."""
 MOST = 400  # ids a word: PostgreSQL takes 8,000 bytes
 FIRST_LOOK, MOST_LOOK = 0.5, 30.0  # seconds
 RECENT = 10_000
 FIRST_PAUSE, MOST_PAUSE = 0.1, 2.0  # seconds
 
 
-def payloads(what: str, ids: Iterable[int]) -> list[str]:
+def payloads(event: str, ids: Iterable[int]) -> list[str]:
     """Words that tell of these ids."""
-    told = [str(id) for id in ids]
-    return [f"{what} {' '.join(told[first : first + MOST])}" for first in range(0, len(told), MOST)]
+    texts = [str(id) for id in ids]
+    return [
+        f"{event} {' '.join(texts[first : first + MOST])}" for first in range(0, len(texts), MOST)
+    ]
 
 
-def wired(words: Iterable[str]) -> bytes:
+def array_of(messages: Iterable[str]) -> bytes:
     """Words as an array of PostgreSQL's: there are letters, digits and blanks in them."""
-    return ('{"' + '","'.join(words) + '"}').encode()
+    return ('{"' + '","'.join(messages) + '"}').encode()
 
 
 class Listener:
@@ -108,27 +110,27 @@ class Notifications:
         self._recent: OrderedDict[tuple[str, int], None] = OrderedDict()
         self._job = asyncio.get_running_loop().create_task(self.listener.run())
 
-    async def close(self, words: Sequence[str] = ()) -> None:
+    async def close(self, messages: Sequence[str] = ()) -> None:
         """Says a last thing, and listens no more. Callers that wait look once more."""
-        if words:
-            said = asyncio.Event()
-            self.say(words, said.set)
+        if messages:
+            sent = asyncio.Event()
+            self.say(messages, sent.set)
             with contextlib.suppress(TimeoutError):
                 async with asyncio.timeout(connections.CONNECT):
-                    await said.wait()
+                    await sent.wait()
         while not self._job.done():  # a connection that is being made may swallow the first word
             self._job.cancel()
             await asyncio.wait([self._job], timeout=0.2)
         for futures in self._waiting.values():
             _wake(futures)
 
-    def say(self, words: Sequence[str], then: Callable[[], object]) -> None:
+    def say(self, messages: Sequence[str], then: Callable[[], object]) -> None:
         """Tells the others, if they can be told now: whoever waits also looks by himself. `then`
         is called behind that.
         """
         wire = self.listener.wire
-        if words and wire and not wire.closed:
-            wire.ask(SAY_WIRED, [wired(words)], lambda rows, fault: then())
+        if messages and wire and not wire.closed:
+            wire.ask(NOTIFY_WIRED, [array_of(messages)], lambda rows, fault: then())
         else:
             then()
 
@@ -139,13 +141,13 @@ class Notifications:
         self._look("")
 
     def _heard(self, payload: str) -> None:
-        what, *ids = payload.split()
+        event, *ids = payload.split()
         if not ids:
-            self._look(what)
+            self._look(event)
         for id in ids:
-            at = what, int(id)
-            self._recent[at] = None
-            _wake(self._waiting.get(at, []))
+            event_and_id = event, int(id)
+            self._recent[event_and_id] = None
+            _wake(self._waiting.get(event_and_id, []))
         while len(self._recent) > RECENT:
             self._recent.popitem(last=False)
 
@@ -153,19 +155,19 @@ class Notifications:
         """Waits for a saga's end; with an id below 0, for the log that takes it."""
         await self.wait(*(("ended", id) if id >= 0 else ("begun", -id)), turn)
 
-    async def wait(self, what: str, id: int, turn: int) -> None:
+    async def wait(self, event: str, id: int, turn: int) -> None:
         """Returns when that was heard, or after a while, which is longer each turn."""
-        at = what, id
-        if at in self._recent:
+        event_and_id = event, id
+        if event_and_id in self._recent:
             return
         future = asyncio.get_running_loop().create_future()
-        self._waiting.setdefault(at, []).append(future)
+        self._waiting.setdefault(event_and_id, []).append(future)
         try:
             await asyncio.wait([future], timeout=min(MOST_LOOK, FIRST_LOOK * 2.0 ** min(turn, 16)))
         finally:
-            self._waiting[at].remove(future)
-            if not self._waiting[at]:
-                del self._waiting[at]
+            self._waiting[event_and_id].remove(future)
+            if not self._waiting[event_and_id]:
+                del self._waiting[event_and_id]
 
 
 def _wake(futures: list[asyncio.Future[None]]) -> None:

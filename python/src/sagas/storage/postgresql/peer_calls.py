@@ -19,9 +19,9 @@ from typing import TYPE_CHECKING, Any
 
 from sagas.base.errors import OwnerUnavailable, SagasError, StoreUnavailable
 from sagas.base.logger import logger
-from sagas.storage.operator_requests import told as told_of
+from sagas.storage.operator_requests import checked_answer
 from sagas.storage.postgresql import connections
-from sagas.storage.postgresql.notifications import AT_ONCE, Listener, saying
+from sagas.storage.postgresql.notifications import AT_ONCE, Listener, notify_statement
 
 if TYPE_CHECKING:
     from sagas.storage.postgresql.storage import PostgreSQL
@@ -35,14 +35,14 @@ HELLO = 2.0
 """Seconds that a node that opens waits for the others to know of it."""
 ASKING = 1.0
 """Seconds that a node has to answer."""
-MOST_WORD = 7900
+MAX_MESSAGE = 7900
 """Bytes: PostgreSQL takes 8,000 in a word."""
 OLD = 60.0
 """Seconds after which a call is nobody's any more."""
-MOST_UNTOLD = 10_000
+MAX_UNSENT = 10_000
 """Words that are kept while they cannot be told."""
 
-SAY = saying(CHANNEL)
+NOTIFY = notify_statement(CHANNEL)
 CALL = f"""
 WITH call AS (INSERT INTO peer_calls(id, node, command, payload)
   VALUES (%(id)s, %(node)s, %(command)s, %(payload)s))
@@ -75,7 +75,7 @@ class PostgreSQLPeers:
     def __init__(self, database: PostgreSQL) -> None:
         self.node, self._asker = database.lease.node, database.asker
         self.answers: dict[str, Callable[[Any], Awaitable[Any]]] = {"hello": self._greet}
-        self.hear: Callable[..., object] = lambda told: None
+        self.on_message: Callable[..., object] = lambda message: None
         """Another node told this to all."""
         self.missed: Callable[..., object] = lambda: None
         """Something that was told may not have been heard."""
@@ -130,7 +130,7 @@ class PostgreSQLPeers:
 
     # -- who is there
 
-    async def _greet(self, told: Any) -> None:
+    async def _greet(self, payload: Any) -> None:
         await self._meet()
 
     async def _keep(self) -> None:
@@ -159,43 +159,45 @@ class PostgreSQLPeers:
 
     # -- calls
 
-    async def ask_all(self, what: str) -> list[Any]:
+    async def call_all(self, command: str) -> list[Any]:
         """What each of the other nodes answers, as far as it does."""
-        told = await asyncio.gather(
-            *(self.call(node, what, None, ASKING) for node in list(self.others)),
+        results = await asyncio.gather(
+            *(self.call(node, command, None, ASKING) for node in list(self.others)),
             return_exceptions=True,
         )
-        return [one for one in told if not isinstance(one, BaseException)]
+        return [one for one in results if not isinstance(one, BaseException)]
 
-    async def call(self, node: str, what: str, told: Any, seconds: float = ASKING) -> Any:
+    async def call(self, node: str, command: str, payload: Any, seconds: float = ASKING) -> Any:
         """Asks a node, and gives its answer. Raises `OwnerUnavailable` where it does not answer in
         time,
         what it raises, and `StoreUnavailable`.
         """
         id, until = secrets.token_hex(8), loop_time() + seconds
-        word = self._waiting[id] = asyncio.Event()
+        answered = self._waiting[id] = asyncio.Event()
         try:
-            await self._asker.ask(CALL, id=id, node=node, command=what, payload=json.dumps(told))
+            await self._asker.ask(
+                CALL, id=id, node=node, command=command, payload=json.dumps(payload)
+            )
             while True:
-                late = await self._unheard(word, until) and (
+                late = await self._unheard(answered, until) and (
                     loop_time() >= until or node not in self.others
                 )
                 rows = await self._asker.ask(GIVEN_UP if late else ANSWERED, id=id)
                 if rows and rows[0][0] is not None:
-                    return told_of(json.loads(rows[0][0])).get("told")
+                    return checked_answer(json.loads(rows[0][0])).get("told")
                 if late:
                     raise OwnerUnavailable(f"node {node} does not answer. Retry later")
         finally:
             del self._waiting[id]
 
-    async def _unheard(self, word: asyncio.Event, until: float) -> bool:
+    async def _unheard(self, answered: asyncio.Event, until: float) -> bool:
         """Waits for a word, until then at most, and looks in between; whether it did not come."""
         try:
             async with asyncio.timeout(max(0.0, min(LOOK, until - loop_time()))):
-                await word.wait()
+                await answered.wait()
         except TimeoutError:
             return True
-        word.clear()
+        answered.clear()
         return False
 
     def _fetch(self) -> None:
@@ -210,44 +212,44 @@ class PostgreSQLPeers:
             while self._fetch_again:
                 self._fetch_again = False
                 rows = await self._asker.read(CALLS, node=self.node, known=list(self._doing))
-                for id, what, told in rows:
+                for id, command, payload in rows:
                     if id not in self._doing:
-                        work = self._answer(id, what, json.loads(told))
+                        work = self._answer(id, command, json.loads(payload))
                         self._doing[id] = asyncio.get_running_loop().create_task(work)
         except StoreUnavailable:
             pass  # the next look finds them
         finally:
             self._fetching = False
 
-    async def _answer(self, id: str, what: str, told: Any) -> None:
+    async def _answer(self, id: str, command: str, payload: Any) -> None:
         try:
             try:
                 if self._closing:
                     raise OwnerUnavailable("the node is closing")
-                answer = {"told": await self.answers.get(what, self._unknown)(told)}
+                answer = {"told": await self.answers.get(command, self._unknown)(payload)}
             except SagasError as error:
                 answer = {"error": f"{type(error).__name__}: {error}"}
             except Exception as error:
-                logger.exception("a call of another node: %s", what)
+                logger.exception("a call of another node: %s", command)
                 answer = {"error": f"SagasError: {error!r}"}
             with contextlib.suppress(StoreUnavailable):
                 await self._asker.ask(ANSWER, id=id, answer=json.dumps(answer))
         finally:
             self._doing.pop(id, None)
 
-    async def _unknown(self, told: Any) -> None:
+    async def _unknown(self, payload: Any) -> None:
         raise OwnerUnavailable("this node does not know that call, because it has another release")
 
     # -- words
 
-    def tell(self, told: Any) -> bool:
+    def broadcast(self, message: Any) -> bool:
         """Tells all other nodes, in a moment; false where that is too long for a word. One that
         cannot be told knows that it misses something.
         """
-        word = json.dumps(["told", self.node, told])
-        if len(word) > MOST_WORD:
+        text = json.dumps(["told", self.node, message])
+        if len(text) > MAX_MESSAGE:
             return False
-        self._untold.append(word)
+        self._untold.append(text)
         self._tell_soon()
         return True
 
@@ -257,12 +259,12 @@ class PostgreSQLPeers:
             asyncio.get_running_loop().call_later(GATHERED, lambda: self._spawn(self._tell()))
 
     async def _tell(self) -> None:
-        words, self._untold, self._telling = self._untold, [], False
+        messages, self._untold, self._telling = self._untold, [], False
         try:
-            if words and not self._closing:
-                await self._asker.ask(SAY, words=words)
+            if messages and not self._closing:
+                await self._asker.ask(NOTIFY, messages=messages)
         except StoreUnavailable:
-            self._untold = (words + self._untold)[-MOST_UNTOLD:]
+            self._untold = (messages + self._untold)[-MAX_UNSENT:]
 
     def _listens(self) -> None:
         if self._has_listened:
@@ -270,17 +272,17 @@ class PostgreSQLPeers:
             self._fetch()
         self._has_listened = True
 
-    def _heard(self, word: str) -> None:
+    def _heard(self, text: str) -> None:
         try:
-            what, whose, *told = json.loads(word)
-            if what == "answer" and whose in self._waiting:
-                self._waiting[whose].set()
-            elif what == "call" and whose == self.node:
+            kind, addressee, *payload = json.loads(text)
+            if kind == "answer" and addressee in self._waiting:
+                self._waiting[addressee].set()
+            elif kind == "call" and addressee == self.node:
                 self._fetch()
-            elif what == "told" and whose != self.node:
-                self.hear(told[0])
+            elif kind == "told" and addressee != self.node:
+                self.on_message(payload[0])
         except Exception:  # of another release, say: nothing of this node's depends on it
-            logger.exception("a message between nodes was not understood: %.200s", word)
+            logger.exception("a message between nodes was not understood: %.200s", text)
 
 
 def loop_time() -> float:

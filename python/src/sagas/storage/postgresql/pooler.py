@@ -30,8 +30,8 @@ class TransactionPooled(errors.OperationalError):
         )
 
 
-async def check(link: psycopg.AsyncConnection[Any], address: str) -> None:
-    """Raises `TransactionPooled`. `link`: a new connection that commits each statement; `address`:
+async def check(connection: psycopg.AsyncConnection[Any], address: str) -> None:
+    """Raises `TransactionPooled`. `connection`: a new connection that commits each statement; `address`:
     where it leads, for another one.
 
     A pooler has session numbers of its own, so most connections need no second one.
@@ -41,14 +41,14 @@ async def check(link: psycopg.AsyncConnection[Any], address: str) -> None:
         rows = await (await of.execute(SESSION, prepare=False)).fetchall()
         return int(rows[0][0])
 
-    first = await session(link)
-    if first == link.info.backend_pid:
+    first = await session(connection)
+    if first == connection.info.backend_pid:
         return
     other = await psycopg.AsyncConnection.connect(address, autocommit=True)
     try:
         async with asyncio.timeout(PATIENCE):
             await other.execute("BEGIN")
-            is_shared = await session(other) == first or await session(link) != first
+            is_shared = await session(other) == first or await session(connection) != first
     except TimeoutError:
         is_shared = False
     except errors.OperationalError as error:
@@ -61,19 +61,19 @@ async def check(link: psycopg.AsyncConnection[Any], address: str) -> None:
         raise TransactionPooled
 
 
-def check_now(link: psycopg.Connection[Any], address: str) -> None:
+def check_now(connection: psycopg.Connection[Any], address: str) -> None:
     """As `check`, where it stands."""
 
     def session(of: psycopg.Connection[Any]) -> int:
         return int(of.execute(SESSION, prepare=False).fetchall()[0][0])
 
-    first = session(link)
-    if first == link.info.backend_pid:
+    first = session(connection)
+    if first == connection.info.backend_pid:
         return
     other = psycopg.connect(address, autocommit=True)
     try:
         other.execute("BEGIN")
-        is_shared = session(other) == first or session(link) != first
+        is_shared = session(other) == first or session(connection) != first
     except errors.OperationalError as error:
         if STATEMENTS not in str(error):
             raise

@@ -23,18 +23,18 @@ from sagas.storage.postgresql.replication import NotReplicated
 if TYPE_CHECKING:
     from psycopg.pq.abc import PGresult
 
-Words = Sequence[Optional[bytes]]
+Parameters = Sequence[Optional[bytes]]
 """Of a statement, for $1 and so on, as PostgreSQL reads them."""
 Values = tuple[Optional[bytes], ...]
 """Of a row, as PostgreSQL writes them."""
-Then = Callable[[list[Values], Optional[Exception]], object]
+ReplyCallback = Callable[[list[Values], Optional[Exception]], object]
 """What is called with the rows, or with what was raised."""
 MOST = 96
 """Statements that are prepared at once: each takes the server some 270 kB."""
 GOOD = (pq.ExecStatus.TUPLES_OK, pq.ExecStatus.COMMAND_OK)
 
 
-Job = tuple[str, Words, Then]
+Job = tuple[str, Parameters, ReplyCallback]
 """A statement that is under way, or waits for those before it, and what is told of it."""
 
 
@@ -45,14 +45,14 @@ class Wire:
 
     def __init__(
         self,
-        link: connections.Link,
+        connection: connections.Link,
         heard: Callable[[str], object] | None = None,
         patience: float | None = None,
     ) -> None:
         """`heard` is called with each word of a channel that it listens on. `patience`: seconds
         that an answer may take (default: `connections.PATIENCE`).
         """
-        self._link, self._pgconn, self._heard = link, link.pgconn, heard
+        self._connection, self._pgconn, self._heard = connection, connection.pgconn, heard
         self._patience = connections.PATIENCE if patience is None else patience
         self._loop = asyncio.get_running_loop()
         self._fd = self._pgconn.socket
@@ -71,17 +71,17 @@ class Wire:
         """It is closed."""
         self._loop.add_reader(self._fd, self._readable)
 
-    def ask(self, text: str, words: Words, then: Then) -> None:
+    def ask(self, text: str, parameters: Parameters, then: ReplyCallback) -> None:
         """Does a statement behind those before. `then` hears what psycopg raises, or a
         `TimeoutError`.
         """
-        self._jobs.append((text, words, then))
+        self._jobs.append((text, parameters, then))
         if self.closed:
             self._loop.call_soon(self._tell, errors.OperationalError("the connection is closed"))
         elif len(self._jobs) == 1:
             self._go_on()
 
-    async def rows(self, text: str, *words: bytes | None) -> list[Values]:
+    async def rows(self, text: str, *parameters: bytes | None) -> list[Values]:
         """As `ask`, for who waits; who is cancelled leaves the statement to its end."""
         future: asyncio.Future[list[Values]] = self._loop.create_future()
 
@@ -89,7 +89,7 @@ class Wire:
             if not future.done():
                 future.set_exception(fault) if fault else future.set_result(rows)
 
-        self.ask(text, words, then)
+        self.ask(text, parameters, then)
         return await future
 
     async def rest(self) -> None:
@@ -97,14 +97,14 @@ class Wire:
         if not self._jobs:
             return
         future: asyncio.Future[None] = self._loop.create_future()
-        text, words, then = self._jobs[-1]
+        text, parameters, then = self._jobs[-1]
 
         def last(rows: list[Values], fault: Exception | None) -> None:
             then(rows, fault)
             if not future.done():
                 future.set_result(None)
 
-        self._jobs[-1] = text, words, last
+        self._jobs[-1] = text, parameters, last
         await future
 
     def close(self) -> None:
@@ -121,7 +121,7 @@ class Wire:
         self._begin()
 
     def _begin(self) -> None:
-        text, words, _ = self._jobs[0]
+        text, parameters, _ = self._jobs[0]
         try:
             name = self._names.get(text)
             if name is None and len(self._names) >= MOST:
@@ -131,7 +131,7 @@ class Wire:
                 self._preparing = b"sagas%d" % len(self._names)
                 self._pgconn.send_prepare(self._preparing, text.encode())
             else:
-                self._pgconn.send_query_prepared(name, words)
+                self._pgconn.send_query_prepared(name, parameters)
             self._flush()
         except Exception as error:
             self._loop.call_soon(self._break, error)
@@ -165,8 +165,8 @@ class Wire:
     def _receive(self) -> bool:
         """Whether the server has said all of what it was asked last."""
         self._pgconn.consume_input()
-        while self._heard and (word := self._pgconn.notifies()):
-            self._loop.call_soon(self._heard, word.extra.decode())
+        while self._heard and (notification := self._pgconn.notifies()):
+            self._loop.call_soon(self._heard, notification.extra.decode())
         while self._jobs and not self._pgconn.is_busy():
             result = self._pgconn.get_result()
             if result is None:
@@ -179,8 +179,8 @@ class Wire:
         preparing, self._preparing = self._preparing, None
         assert result
         fault = None if result.status in GOOD else errors.error_from_result(result)
-        if fault is None and self._link.warned:
-            self._link.warned, fault = False, NotReplicated()
+        if fault is None and self._connection.warned:
+            self._connection.warned, fault = False, NotReplicated()
         lets_go, self._lets_go = self._lets_go, False
         if lets_go and not fault:
             self._names.clear()
@@ -227,17 +227,17 @@ class Wire:
 
 def array(texts: Iterable[str]) -> bytes:
     """Return an array of texts, as a word of a statement. They have no zero bytes."""
-    told = [
+    escaped = [
         text.replace("\\", "\\\\").replace('"', '\\"') if '"' in text or "\\" in text else text
         for text in texts
     ]
-    return ('{"' + '","'.join(told) + '"}').encode() if told else b"{}"
+    return ('{"' + '","'.join(escaped) + '"}').encode() if escaped else b"{}"
 
 
 def numbered(text: str, *names: str) -> str:
     """Return the statement with $1 and so on in place of `%(NAME)s`."""
-    for place, name in enumerate(names, 1):
-        text = text.replace(f"%({name})s", f"${place}")
+    for number, name in enumerate(names, 1):
+        text = text.replace(f"%({name})s", f"${number}")
     return text
 
 
@@ -268,45 +268,45 @@ class ReconnectingWire:
 
     async def open(self) -> None:
         """Connects. Raises `StoreUnavailable`."""
-        with connections.faults(self._where):
+        with connections.translate_errors(self._where):
             await self._made()
 
-    async def ask(self, text: str, *words: bytes | None) -> list[Values]:
+    async def ask(self, text: str, *parameters: bytes | None) -> list[Values]:
         """A statement's rows. Raises `StoreUnavailable`; then nobody knows whether it was done."""
-        with connections.faults(self._where):
+        with connections.translate_errors(self._where):
             wire = self._wire
             if wire is None or wire.closed:
                 wire = await self._made()
-            return await wire.rows(text, *words)
+            return await wire.rows(text, *parameters)
 
-    def tell(self, text: str, words: Words, then: Then) -> bool:
+    def send(self, text: str, parameters: Parameters, then: ReplyCallback) -> bool:
         """As `Wire.ask`, which takes the loop no turn of a task's; False where there is no
         connection yet, or any more.
         """
         if self._wire is None or self._wire.closed:
             return False
-        self._wire.ask(text, words, then)
+        self._wire.ask(text, parameters, then)
         return True
 
-    async def read(self, text: str, *words: bytes | None) -> list[Values]:
+    async def read(self, text: str, *parameters: bytes | None) -> list[Values]:
         """As `ask`, for what may be asked twice: a connection that broke unnoticed is tried
         past.
         """
-        return await connections.tried(lambda: self.ask(text, *words))
+        return await connections.tried(lambda: self.ask(text, *parameters))
 
     async def _made(self) -> Wire:
         async with self._making:
             if self._is_over:
                 raise errors.OperationalError("the connection is closed")
             if self._wire is None or self._wire.closed:
-                link = await connections.connect(
+                connection = await connections.connect(
                     self._url, f"{connections.REPEATED}; {connections.LIMITED}"
                 )
                 if self._is_over:  # meanwhile
-                    await link.close()
+                    await connection.close()
                     raise errors.OperationalError("the connection is closed")
                 self._wire = Wire(
-                    link, patience=connections.PATIENCE + 1
+                    connection, patience=connections.PATIENCE + 1
                 )  # the server gives up first
             return self._wire
 

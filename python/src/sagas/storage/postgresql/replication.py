@@ -73,27 +73,27 @@ class PlainStoreConnection(psycopg.Connection[Row]):
 Connection = Union[StoreConnection, PlainStoreConnection]
 
 
-def _watch(link: Connection) -> None:
+def _watch(connection: Connection) -> None:
     """Note the warning. psycopg keeps the handler, which therefore does not keep the connection."""
-    reference = weakref.ref(link)
+    reference = weakref.ref(connection)
 
     def note(notice: errors.Diagnostic) -> None:
         watched = reference()
         if watched is not None and notice.source_function == CANCELED:
             watched.warned = True
 
-    link.add_notice_handler(note)
+    connection.add_notice_handler(note)
 
 
-def check(link: Connection) -> None:
+def check(connection: Connection) -> None:
     """Raises `NotReplicated` where the server warned since this was called last."""
-    if link.warned:
-        link.warned = False
+    if connection.warned:
+        connection.warned = False
         raise NotReplicated
 
 
 @contextlib.contextmanager
-def heeded(link: psycopg.AsyncConnection[Any] | psycopg.Connection[Any]) -> Iterator[None]:
+def heeded(connection: psycopg.AsyncConnection[Any] | psycopg.Connection[Any]) -> Iterator[None]:
     """The same of a connection that somebody else made: of what is committed within."""
     warned = False
 
@@ -101,24 +101,24 @@ def heeded(link: psycopg.AsyncConnection[Any] | psycopg.Connection[Any]) -> Iter
         nonlocal warned
         warned = warned or notice.source_function == CANCELED
 
-    link.add_notice_handler(note)
+    connection.add_notice_handler(note)
     try:
         yield
     finally:
-        link.remove_notice_handler(note)
+        connection.remove_notice_handler(note)
     if warned:
         raise NotReplicated
 
 
-def shut(link: StoreConnection) -> None:
+def shut(connection: StoreConnection) -> None:
     """End it, so that psycopg hears of that; until then its descriptor is nobody else's."""
     with contextlib.suppress(OSError, psycopg.Error):
-        with socket.socket(fileno=os.dup(link.pgconn.socket)) as end:
+        with socket.socket(fileno=os.dup(connection.pgconn.socket)) as end:
             end.shutdown(socket.SHUT_RDWR)
 
 
 @contextlib.asynccontextmanager
-async def limited(link: StoreConnection, seconds: float) -> AsyncIterator[None]:
+async def limited(connection: StoreConnection, seconds: float) -> AsyncIterator[None]:
     """Cuts the connection where what is done within takes longer. Raises `TimeoutError` then.
 
     Nothing is canceled at the server, as psycopg 3.2 does for a caller that is canceled: a commit
@@ -129,7 +129,7 @@ async def limited(link: StoreConnection, seconds: float) -> AsyncIterator[None]:
     def cut() -> None:
         nonlocal is_late
         is_late = True
-        shut(link)
+        shut(connection)
 
     timer = asyncio.get_running_loop().call_later(seconds, cut)
     try:

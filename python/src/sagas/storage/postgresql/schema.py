@@ -245,11 +245,11 @@ TABLES = (
 """The tables whose rows a node and a client read and write."""
 
 
-def version_of(link: psycopg.Connection[tuple[object, ...]]) -> int:
+def version_of(connection: psycopg.Connection[tuple[object, ...]]) -> int:
     """The version of the tables; 0 where there are none."""
-    if link.execute("SELECT to_regclass('sagas.store')").fetchone() == (None,):
+    if connection.execute("SELECT to_regclass('sagas.store')").fetchone() == (None,):
         return 0
-    row = link.execute("SELECT version FROM sagas.store").fetchone()
+    row = connection.execute("SELECT version FROM sagas.store").fetchone()
     return int(str(row[0])) if row else 0
 
 
@@ -262,7 +262,7 @@ def check(version: int, where: str) -> None:
         )
 
 
-def migrate(link: psycopg.Connection[tuple[object, ...]], where: str) -> int:
+def migrate(connection: psycopg.Connection[tuple[object, ...]], where: str) -> int:
     """Makes the tables where there are none, in one transaction; gives the version that was there.
     Of older tables it makes the index of the starts, where this user may.
 
@@ -271,76 +271,78 @@ def migrate(link: psycopg.Connection[tuple[object, ...]], where: str) -> int:
     may not.
     """
     try:
-        version = version_of(link)
+        version = version_of(connection)
         check(version, where)
-        if version == VERSION and not _lacks_started(link):
+        if version == VERSION and not _lacks_started(connection):
             return version
-        link.execute(
+        connection.execute(
             "SELECT pg_advisory_lock(%s)", (LOCK,)
         )  # before the transaction: one that waits within it may not see new tables
         try:
-            version = version_of(link)
+            version = version_of(connection)
             check(version, where)
             if version < VERSION:
-                with link.transaction():
-                    _make(link)
-            elif _lacks_started(link):
-                _add_started(link, where)
+                with connection.transaction():
+                    _make(connection)
+            elif _lacks_started(connection):
+                _add_started(connection, where)
         finally:
-            link.execute("SELECT pg_advisory_unlock(%s)", (LOCK,))
+            connection.execute("SELECT pg_advisory_unlock(%s)", (LOCK,))
         return version
     except errors.InsufficientPrivilege as error:
         raise InvalidStore(
-            f"{where}: {str(error).splitlines()[0]}: {RIGHTS.format(role=link.info.user)}"
+            f"{where}: {str(error).splitlines()[0]}: {RIGHTS.format(role=connection.info.user)}"
         ) from error
 
 
-def _lacks_started(link: psycopg.Connection[tuple[object, ...]]) -> bool:
-    return link.execute(LACKS_STARTED).fetchone() == (True,)
+def _lacks_started(connection: psycopg.Connection[tuple[object, ...]]) -> bool:
+    return connection.execute(LACKS_STARTED).fetchone() == (True,)
 
 
-def _add_started(link: psycopg.Connection[tuple[object, ...]], where: str) -> None:
+def _add_started(connection: psycopg.Connection[tuple[object, ...]], where: str) -> None:
     """Makes the index, unless that held up the other nodes for long: lists are slow without it."""
     try:
-        with link.transaction():
-            link.execute("SET LOCAL lock_timeout = '5s'")
-            link.execute(STARTED)
+        with connection.transaction():
+            connection.execute("SET LOCAL lock_timeout = '5s'")
+            connection.execute(STARTED)
     except (errors.InsufficientPrivilege, errors.LockNotAvailable, errors.QueryCanceled) as error:
-        told = str(error).splitlines()[0]
-        logger.warning("%s: %s. Lists are slow without an index. %s", where, told, REMEDY)
+        detail = str(error).splitlines()[0]
+        logger.warning("%s: %s. Lists are slow without an index. %s", where, detail, REMEDY)
 
 
-def _make(link: psycopg.Connection[tuple[object, ...]]) -> None:
-    link.execute("CREATE SCHEMA IF NOT EXISTS sagas")
-    link.execute("CREATE TABLE sagas.store(version integer NOT NULL)")
-    link.execute(SCHEMA)
-    link.execute(f"INSERT INTO sagas.store VALUES({VERSION})")
+def _make(connection: psycopg.Connection[tuple[object, ...]]) -> None:
+    connection.execute("CREATE SCHEMA IF NOT EXISTS sagas")
+    connection.execute("CREATE TABLE sagas.store(version integer NOT NULL)")
+    connection.execute(SCHEMA)
+    connection.execute(f"INSERT INTO sagas.store VALUES({VERSION})")
 
 
-def allow(link: psycopg.Connection[tuple[object, ...]], role: str) -> None:
+def allow(connection: psycopg.Connection[tuple[object, ...]], role: str) -> None:
     """Gives a role what a node and a client need, and no more: the rows of these tables. Raises
     `InvalidStore` where this user cannot give that.
     """
     name = sql.Identifier(role)
-    with link.transaction():
-        link.execute(sql.SQL("GRANT USAGE ON SCHEMA sagas TO {}").format(name))
-        link.execute(sql.SQL("GRANT SELECT ON sagas.store TO {}").format(name))
+    with connection.transaction():
+        connection.execute(sql.SQL("GRANT USAGE ON SCHEMA sagas TO {}").format(name))
+        connection.execute(sql.SQL("GRANT SELECT ON sagas.store TO {}").format(name))
         for table in TABLES:
-            link.execute(
+            connection.execute(
                 sql.SQL("GRANT SELECT, INSERT, UPDATE, DELETE ON sagas.{} TO {}").format(
                     sql.Identifier(table), name
                 )
             )
-        link.execute(sql.SQL("GRANT USAGE ON ALL SEQUENCES IN SCHEMA sagas TO {}").format(name))
-        link.execute(sql.SQL("GRANT EXECUTE ON FUNCTION sagas.last_seq TO {}").format(name))
+        connection.execute(
+            sql.SQL("GRANT USAGE ON ALL SEQUENCES IN SCHEMA sagas TO {}").format(name)
+        )
+        connection.execute(sql.SQL("GRANT EXECUTE ON FUNCTION sagas.last_seq TO {}").format(name))
         given = (
             "has_schema_privilege(%(role)s, 'sagas', 'USAGE') "
             "AND has_table_privilege(%(role)s, 'sagas.shards', 'INSERT')"
         )
-        if link.execute(f"SELECT {given}", {"role": role}).fetchone() != (
+        if connection.execute(f"SELECT {given}", {"role": role}).fetchone() != (
             True,
         ):  # PostgreSQL only warns where nothing was given
             raise InvalidStore(
-                f"{link.info.user} cannot grant these rights to {role}. Run the command as "
+                f"{connection.info.user} cannot grant these rights to {role}. Run the command as "
                 "the owner of the schema `sagas`"
             )

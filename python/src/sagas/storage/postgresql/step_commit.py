@@ -28,7 +28,7 @@ PARAMETERS = {
     "step": "integer",
     "kind": "text",
     "attempt": "integer",
-    "log": "bigint",
+    "shard": "bigint",
     "node": "text",
     "epoch": "bigint",
     "line": "text",
@@ -39,9 +39,9 @@ PARAMETERS = {
 TABLE = "sagas", "attempts"
 """The schema and the name of the table that a record is written to."""
 RECORD = f"""INSERT INTO {'.'.join(TABLE)} VALUES ({{id}}, {{step}}, {{kind}}, {{attempt}},
-  (SELECT 'ok' FROM sagas.shards WHERE shard = {{log}} AND owner = {{node}}
+  (SELECT 'ok' FROM sagas.shards WHERE shard = {{shard}} AND owner = {{node}}
     AND epoch = {{epoch}} AND {connections.LINE} = {{line}}
-    AND EXISTS (SELECT 1 FROM sagas.event_log WHERE shard = {{log}}
+    AND EXISTS (SELECT 1 FROM sagas.event_log WHERE shard = {{shard}}
       AND first_seq = {{first_seq}} AND committed_at = {{committed_at}}) FOR SHARE),
   {{value}}, extract(epoch FROM clock_timestamp()))"""
 """If the shard is not this node's any more, or lacks what was committed before the attempt began,
@@ -54,7 +54,7 @@ def prepares() -> str:
     They also plan it, by keys: a plan for small tables would be kept while the tables grow. The
     settings hold for this text alone.
     """
-    places = {word: f"${place}" for place, word in enumerate(PARAMETERS, 1)}
+    places = {name: f"${number}" for number, name in enumerate(PARAMETERS, 1)}
     types, nulls = ", ".join(PARAMETERS.values()), ", ".join("NULL" for _ in PARAMETERS)
     return "; ".join(
         [
@@ -68,39 +68,39 @@ def prepares() -> str:
 class Fence(NamedTuple):
     """The owner that a shard must have for anything to be committed, and a chunk of its log."""
 
-    log: int
+    shard: int
     node: str
     epoch: int
     line: str
     tail: Tail
 
 
-def _literal(link: Any, word: str) -> str:
+def _literal(connection: Any, text: str) -> str:
     """A text as a literal, for this connection."""
-    if word.isascii() and "'" not in word and "\\" not in word and "\0" not in word:
-        return f"'{word}'"
-    encoding = encoding_of(link)
-    escaped = pq.Escaping(link.pgconn).escape_literal(word.encode(encoding))
+    if text.isascii() and "'" not in text and "\\" not in text and "\0" not in text:
+        return f"'{text}'"
+    encoding = encoding_of(connection)
+    escaped = pq.Escaping(connection.pgconn).escape_literal(text.encode(encoding))
     return bytes(escaped).decode(encoding)
 
 
-def record_and_commit(link: Any, row: Sequence[Any], fence: Fence, value: str) -> str:
+def record_and_commit(connection: Any, row: Sequence[Any], fence: Fence, value: str) -> str:
     """The record of a result, which locks the shard's row, and the commit."""
     id, step, kind, attempt = row
-    log, node, epoch, line, (first_seq, committed_at) = fence
-    words = [
+    shard, node, epoch, line, (first_seq, committed_at) = fence
+    parameters = [
         str(id),
         str(step),
         f"'{kind}'",
         str(attempt),
-        str(log),
-        _literal(link, node),
+        str(shard),
+        _literal(connection, node),
         str(epoch),
         f"'{line}'",
         str(first_seq),
         f"'{committed_at!r}'",
-        _literal(link, value),
+        _literal(connection, value),
     ]
-    if is_prepared(link):
-        return f"EXECUTE {PREPARED}({', '.join(words)}){COMMIT}"
-    return RECORD.format(**dict(zip(PARAMETERS, words))) + COMMIT
+    if is_prepared(connection):
+        return f"EXECUTE {PREPARED}({', '.join(parameters)}){COMMIT}"
+    return RECORD.format(**dict(zip(PARAMETERS, parameters))) + COMMIT

@@ -22,9 +22,9 @@ from sagas.storage.postgresql.step_protocol import (
     RV,
     Prepares,
     Statements,
-    behind_begin,
+    after_begin,
     encoding_of,
-    go_on,
+    continue_generator,
     joined,
     look_at,
     note,
@@ -41,9 +41,9 @@ class AsyncStepCursor(psycopg.AsyncCursor[Row]):
     statement for sure.
     """
 
-    async def execute(self, query: Any, params: Any = None, **more: Any) -> Any:
+    async def execute(self, query: Any, params: Any = None, **kwargs: Any) -> Any:
         """As psycopg's."""
-        await super().execute(query, params, **joined(self.connection, query, params, more))
+        await super().execute(query, params, **joined(self.connection, query, params, kwargs))
         note(self)
         return self
 
@@ -77,27 +77,27 @@ class AsyncStepLink(psycopg.AsyncConnection[Row]):
     _answer: asyncio.Future[tuple[Any, Any]] | None = None
     """what it gave, or what it waits for if that is not an answer"""
 
-    def __init__(self, *words: Any, **more: Any) -> None:
-        super().__init__(*words, **more)
+    def __init__(self, *args: Any, **kwargs: Any) -> None:
+        super().__init__(*args, **kwargs)
         self.cursor_factory = AsyncStepCursor
         self._home = asyncio.get_running_loop()
         self._pool = None  # psycopg's word for one that is not its user's to close
 
-    async def wait(self, gen: PQGen[RV], *words: Any, **more: Any) -> RV:
+    async def wait(self, gen: PQGen[RV], *args: Any, **kwargs: Any) -> RV:
         """All that psycopg does over a connection goes by here."""
         if self.begun is False:
-            gen = behind_begin(self, gen)
+            gen = after_begin(self, gen)
         try:
             value, state = self._step(gen, None)
             if state == waiting.WAIT_R:
                 value, state = await self._answered(gen)
             if state is not None:
                 self.silence()
-                value = await super().wait(go_on(gen, state), *words, **more)
+                value = await super().wait(continue_generator(gen, state), *args, **kwargs)
         except asyncio.CancelledError as error:
             self._gen = None
             await super().wait(
-                raising(error), *words, **more
+                raising(error), *args, **kwargs
             )  # what psycopg does where it is interrupted
             raise
         finally:
@@ -164,14 +164,14 @@ class AsyncStepLink(psycopg.AsyncConnection[Row]):
                 self.heard(self)
             return
         try:
-            told = self._step(gen, waiting.READY_R)
+            result = self._step(gen, waiting.READY_R)
         except Exception as error:
             self._gen = None
             answer.set_exception(error)
         else:
-            if told[1] != waiting.WAIT_R:
+            if result[1] != waiting.WAIT_R:
                 self._gen = None
-                answer.set_result(told)
+                answer.set_result(result)
 
     @property
     def is_unheard(self) -> bool:
@@ -205,9 +205,9 @@ class AsyncStepLink(psycopg.AsyncConnection[Row]):
                 async with self.lock:
                     await self.wait(run_text(self, text, encoding_of(self)))
 
-    def _exec_command(self, command: Any, *words: Any, **more: Any) -> Any:
+    def _exec_command(self, command: Any, *args: Any, **kwargs: Any) -> Any:
         look_at(self, command)
-        return super()._exec_command(command, *words, **more)
+        return super()._exec_command(command, *args, **kwargs)
 
     async def commit(self) -> None:
         """Not within a step."""
@@ -235,9 +235,9 @@ class AsyncStepLink(psycopg.AsyncConnection[Row]):
 class StepCursor(psycopg.Cursor[Row]):
     """As `AsyncStepCursor`."""
 
-    def execute(self, query: Any, params: Any = None, **more: Any) -> Any:
+    def execute(self, query: Any, params: Any = None, **kwargs: Any) -> Any:
         """As psycopg's."""
-        super().execute(query, params, **joined(self.connection, query, params, more))
+        super().execute(query, params, **joined(self.connection, query, params, kwargs))
         note(self)
         return self
 
@@ -253,8 +253,8 @@ class StepLink(psycopg.Connection[Row]):
     halfway = False
     is_unheard = True
 
-    def __init__(self, *words: Any, **more: Any) -> None:
-        super().__init__(*words, **more)
+    def __init__(self, *args: Any, **kwargs: Any) -> None:
+        super().__init__(*args, **kwargs)
         self.cursor_factory = StepCursor
         self._pool = None
 
@@ -274,12 +274,12 @@ class StepLink(psycopg.Connection[Row]):
             self.close()
             raise
 
-    def wait(self, gen: PQGen[RV], *words: Any, **more: Any) -> RV:
+    def wait(self, gen: PQGen[RV], *args: Any, **kwargs: Any) -> RV:
         """All that psycopg does over a connection goes by here."""
         if self.begun is False:
-            gen = behind_begin(self, gen)
+            gen = after_begin(self, gen)
         try:
-            return super().wait(gen, *words, **more)
+            return super().wait(gen, *args, **kwargs)
         finally:
             if self.halfway:
                 super().close()
@@ -298,9 +298,9 @@ class StepLink(psycopg.Connection[Row]):
                 with self.lock:
                     self.wait(run_text(self, text, encoding_of(self)))
 
-    def _exec_command(self, command: Any, *words: Any, **more: Any) -> Any:
+    def _exec_command(self, command: Any, *args: Any, **kwargs: Any) -> Any:
         look_at(self, command)
-        return super()._exec_command(command, *words, **more)
+        return super()._exec_command(command, *args, **kwargs)
 
     def close(self) -> None:
         """Not within a step."""
@@ -332,37 +332,41 @@ class StepLink(psycopg.Connection[Row]):
 To = TypeVar("To", AsyncStepLink, StepLink)
 
 
-def turned(link: AsyncStepLink | StepLink, kind: type[To]) -> To:
+def turned(connection: AsyncStepLink | StepLink, kind: type[To]) -> To:
     """A connection that nobody uses, for functions of this kind; the object before is of no use."""
-    if isinstance(link, kind):
-        return link
-    if isinstance(link, AsyncStepLink):
-        link.silence()
-    made = kind(link.pgconn)
-    made._prepared = link._prepared  # what psycopg has prepared over it, by names of its own
-    made.prepares, made.statements = link.prepares, link.statements
+    if isinstance(connection, kind):
+        return connection
+    if isinstance(connection, AsyncStepLink):
+        connection.silence()
+    made = kind(connection.pgconn)
+    made._prepared = connection._prepared  # what psycopg has prepared over it, by names of its own
+    made.prepares, made.statements = connection.prepares, connection.statements
     return made
 
 
-def is_prepared(link: AsyncStepLink | StepLink) -> bool:
+def is_prepared(connection: AsyncStepLink | StepLink) -> bool:
     """Whether the statements of the transaction's end are."""
-    return link.statements is Statements.KEPT and link.prepares is not None and link.prepares.works
+    return (
+        connection.statements is Statements.KEPT
+        and connection.prepares is not None
+        and connection.prepares.works
+    )
 
 
-def is_as_made(link: AsyncStepLink | StepLink) -> bool:
+def is_as_made(connection: AsyncStepLink | StepLink) -> bool:
     """Whether nothing that a step did to it is to be put back."""
-    return not link.is_set and link.statements in (Statements.KEPT, Statements.NONE)
+    return not connection.is_set and connection.statements in (Statements.KEPT, Statements.NONE)
 
 
-def _put_back(link: AsyncStepLink | StepLink) -> Iterator[str]:
+def _put_back(connection: AsyncStepLink | StepLink) -> Iterator[str]:
     """The statements that make a connection as it was; each is done before the next is asked for.
 
     The rollback is not psycopg's, which lets all go that is prepared."""
-    if link.pgconn.transaction_status in OPEN:
+    if connection.pgconn.transaction_status in OPEN:
         yield "ROLLBACK"
-    if link.is_set and not link.closed:
+    if connection.is_set and not connection.closed:
         yield AS_MADE
-        link.is_set = False
-    if link.statements is Statements.LET_GO and link.prepares and not link.closed:
-        yield link.prepares.text
-        link.statements = Statements.KEPT
+        connection.is_set = False
+    if connection.statements is Statements.LET_GO and connection.prepares and not connection.closed:
+        yield connection.prepares.text
+        connection.statements = Statements.KEPT

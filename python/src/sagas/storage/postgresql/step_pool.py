@@ -36,10 +36,10 @@ CLOSED = "the store is closed"
 BROKE = "the connection broke before the function asked for it"
 
 
-def is_good(link: AsyncStepLink | StepLink) -> bool:
+def is_good(connection: AsyncStepLink | StepLink) -> bool:
     """Whether it may be handed out again."""
-    is_open = not (link.closed or link.spent) and is_as_made(link)
-    return is_open and link.pgconn.transaction_status == pq.TransactionStatus.IDLE
+    is_open = not (connection.closed or connection.spent) and is_as_made(connection)
+    return is_open and connection.pgconn.transaction_status == pq.TransactionStatus.IDLE
 
 
 class Pool:
@@ -83,17 +83,17 @@ class Pool:
 
     def acquire_reserved(self) -> AsyncStepLink:
         """Give the one that was reserved (`Reservation.acquire`)."""
-        link = self._resting()
-        if link is None:
+        connection = self._resting()
+        if connection is None:
             raise errors.OperationalError(BROKE)
         self._reserved -= 1
-        return link
+        return connection
 
     def release_reserved(self) -> None:
         """Let others have the one that was reserved (`Reservation.release`)."""
         self._reserved -= 1
-        if self._waiting and (link := self.try_acquire()):
-            self.release(link)
+        if self._waiting and (connection := self.try_acquire()):
+            self.release(connection)
 
     def acquire_now(self) -> AsyncStepLink:
         """Give one that rests.
@@ -101,54 +101,56 @@ class Pool:
         Raises:
             psycopg.OperationalError: All that rested are broken.
         """
-        link = self.try_acquire()
-        if link is None:
+        connection = self.try_acquire()
+        if connection is None:
             raise errors.OperationalError(BROKE)
-        return link
+        return connection
 
     def try_acquire(self) -> AsyncStepLink | None:
         """Give one that rests, and that nobody has reserved, if there is one."""
         return self._resting() if self.has_idle() else None
 
     def _resting(self) -> AsyncStepLink | None:
-        link = self._last(self._rests)
-        if link is None and (plain := self._last(self._plain_rests)) is not None:
-            link = turned(plain, AsyncStepLink)
-        return link
+        connection = self._last(self._rests)
+        if connection is None and (plain := self._last(self._plain_rests)) is not None:
+            connection = turned(plain, AsyncStepLink)
+        return connection
 
     def _plain_idle(self) -> StepLink | None:
         if not self.has_idle():
             return None
         plain = self._last(self._plain_rests)
-        if plain is None and (link := self._last(self._rests)) is not None:
-            plain = turned(link, StepLink)
+        if plain is None and (connection := self._last(self._rests)) is not None:
+            plain = turned(connection, StepLink)
         return plain
 
     def _last(self, rests: list[tuple[L, float]]) -> L | None:
         """The one that came last of those that are not broken."""
         while rests:
-            link, _ = rests.pop()
-            if link.is_there():
-                return link
-            self._drop(link)
+            connection, _ = rests.pop()
+            if connection.is_there():
+                return connection
+            self._drop(connection)
         return None
 
-    def _rest(self, link: AsyncStepLink | StepLink) -> None:
-        if isinstance(link, StepLink):
-            self._plain_rests.append((link, time.monotonic()))
+    def _rest(self, connection: AsyncStepLink | StepLink) -> None:
+        if isinstance(connection, StepLink):
+            self._plain_rests.append((connection, time.monotonic()))
             return
-        link.heard = self._heard
-        link.watch()
-        self._rests.append((link, time.monotonic()))
+        connection.heard = self._heard
+        connection.watch()
+        self._rests.append((connection, time.monotonic()))
 
-    def _heard(self, link: AsyncStepLink) -> None:
+    def _heard(self, connection: AsyncStepLink) -> None:
         """Something came to one that rests: it broke, or goes on resting."""
-        place = next((place for place, (one, _) in enumerate(self._rests) if one is link), None)
-        if place is not None and link.is_there():
-            link.watch()
-        elif place is not None:
-            del self._rests[place]
-            self._drop(link)
+        index = next(
+            (index for index, (resting, _) in enumerate(self._rests) if resting is connection), None
+        )
+        if index is not None and connection.is_there():
+            connection.watch()
+        elif index is not None:
+            del self._rests[index]
+            self._drop(connection)
 
     async def acquire(self) -> AsyncStepLink:
         """Give one, as soon as it is there.
@@ -184,32 +186,32 @@ class Pool:
                 raise errors.OperationalError(NONE_FREE) from self._fault
             raise
 
-    def release(self, link: AsyncStepLink | StepLink) -> None:
+    def release(self, connection: AsyncStepLink | StepLink) -> None:
         """Take one back that nobody uses any more."""
-        link.row_factory = tuple_row  # as it was made
-        if self._is_over or not is_good(link):
-            self._drop(link)
+        connection.row_factory = tuple_row  # as it was made
+        if self._is_over or not is_good(connection):
+            self._drop(connection)
             return
         while self._waiting:
             future = self._waiting.popleft()
             if not future.done():
-                future.set_result(link)
+                future.set_result(connection)
                 return
-        self._rest(link)
+        self._rest(connection)
 
     def look(self, rest: float = REST) -> None:
         """Closes those that rested so long."""
-        self._let_go(self._plain_rests, rest)
-        self._let_go(self._rests, rest)
+        self._close_resting(self._plain_rests, rest)
+        self._close_resting(self._rests, rest)
 
-    def _let_go(self, rests: list[tuple[L, float]], rest: float) -> None:
+    def _close_resting(self, rests: list[tuple[L, float]], rest: float) -> None:
         while rests and self.has_idle() and time.monotonic() - rests[0][1] >= rest:
-            link, _ = rests.pop(0)
-            self._drop(link)
+            connection, _ = rests.pop(0)
+            self._drop(connection)
 
-    def _drop(self, link: AsyncStepLink | StepLink) -> None:
+    def _drop(self, connection: AsyncStepLink | StepLink) -> None:
         """Closes it; until then it counts."""
-        job = asyncio.get_running_loop().create_task(_close(link))
+        job = asyncio.get_running_loop().create_task(_close(connection))
         self._drops.add(job)
         job.add_done_callback(self._dropped)
 
@@ -224,26 +226,26 @@ class Pool:
             self._grows = asyncio.get_running_loop().create_task(self._connect())
 
     async def _connect(self) -> None:
-        link: AsyncStepLink | None = None
+        connection: AsyncStepLink | None = None
         pause = AGAIN[0]
         try:
-            while link is None and self._waiting:
+            while connection is None and self._waiting:
                 try:
                     made = await AsyncStepLink.connect(connections.address(self._url))
                     assert isinstance(made, AsyncStepLink)
                     if self._prepares and self._prepares.works:
                         await made.prepare(self._prepares)
-                    link = made
-                except connections.FAULTS as error:
+                    connection = made
+                except connections.CLIENT_ERRORS as error:
                     self._fault = error
                     await asyncio.sleep(pause)
                     pause = min(AGAIN[1], 2 * pause)
         finally:
             self._grows = None
-            if link is None:
+            if connection is None:
                 self._count -= 1
-        if link is not None:
-            self.release(link)
+        if connection is not None:
+            self.release(connection)
         self._grow()
 
     async def close(self) -> None:
@@ -264,12 +266,12 @@ class Pool:
             await asyncio.wait(list(self._drops))
 
 
-async def _close(link: AsyncStepLink | StepLink) -> None:
+async def _close(connection: AsyncStepLink | StepLink) -> None:
     with contextlib.suppress(psycopg.Error):
-        if isinstance(link, StepLink):
-            link.close()
+        if isinstance(connection, StepLink):
+            connection.close()
         else:
-            await link.close()
+            await connection.close()
 
 
 class Reservation:
@@ -306,8 +308,8 @@ class Loan:
     """A connection that a function in a thread is to have. It goes back once: as who called the
     function goes on (`leave`), or, where that is before the function is over, as it is (`end`)."""
 
-    def __init__(self, pool: Pool, link: StepLink) -> None:
-        self._pool, self._link, self._state = pool, link, LoanState.WAITS
+    def __init__(self, pool: Pool, connection: StepLink) -> None:
+        self._pool, self._connection, self._state = pool, connection, LoanState.WAITS
         self._loop, self._lock = asyncio.get_running_loop(), threading.Lock()
 
     def begin(self) -> StepLink:
@@ -317,7 +319,7 @@ class Loan:
             if self._state is not LoanState.WAITS:
                 raise errors.OperationalError(CLOSED)
             self._state = LoanState.HELD
-        return self._link
+        return self._connection
 
     def end(self) -> None:
         """In the thread: the function is over."""
@@ -325,13 +327,13 @@ class Loan:
             is_left, self._state = self._state is LoanState.LEFT, LoanState.OVER
         if is_left:
             try:
-                self._loop.call_soon_threadsafe(self._pool.release, self._link)
+                self._loop.call_soon_threadsafe(self._pool.release, self._connection)
             except RuntimeError:  # the loop is closed
-                self._link.close()
+                self._connection.close()
 
     def leave(self) -> None:
         """In the loop: the function is over, or nobody waits for it."""
         with self._lock:
             is_held, self._state = self._state is LoanState.HELD, LoanState.LEFT
         if not is_held:
-            self._pool.release(self._link)
+            self._pool.release(self._connection)

@@ -74,28 +74,28 @@ class Statements(enum.Enum):
     """A statement of the function's did, and psycopg does not know it: no step has it again."""
 
 
-def look_at(link: AsyncStepLink | StepLink, command: object) -> None:
+def look_at(connection: AsyncStepLink | StepLink, command: object) -> None:
     """psycopg is about to send this, of its own accord."""
-    if command == LET_GO.encode() and link.statements is Statements.KEPT:
-        link.statements = Statements.LET_GO
+    if command == LET_GO.encode() and connection.statements is Statements.KEPT:
+        connection.statements = Statements.LET_GO
 
 
-def check_whole(link: AsyncStepLink | StepLink) -> None:
+def check_whole(connection: AsyncStepLink | StepLink) -> None:
     """Whether the transaction is there to be ended; nothing of its end was sent. Raises what
     psycopg raises where the connection broke, as while the function did something else, or where
     the function ended the transaction.
     """
     try:
         for _ in range(
-            2 if link.is_unheard else 0
+            2 if connection.is_unheard else 0
         ):  # what the server said last, and that it is gone
-            if not link.closed:
-                link.pgconn.consume_input()
+            if not connection.closed:
+                connection.pgconn.consume_input()
     except psycopg.Error as error:
         raise errors.OperationalError(BROKE.format(error)) from error
-    if link.closed:
+    if connection.closed:
         raise errors.OperationalError(BROKE.format("it is closed"))
-    if link.spent or link.pgconn.transaction_status == pq.TransactionStatus.IDLE:
+    if connection.spent or connection.pgconn.transaction_status == pq.TransactionStatus.IDLE:
         raise errors.ProgrammingError(ENDED)
 
 
@@ -103,42 +103,42 @@ def note(cursor: Any) -> None:
     """What a statement of the function's did to its connection, by the word that the server has
     for it.
     """
-    said = cursor.pgresult.command_status if cursor.pgresult else None
-    if said == b"SET":
+    status = cursor.pgresult.command_status if cursor.pgresult else None
+    if status == b"SET":
         cursor.connection.is_set = True
-    elif said == LET_GO.encode():
+    elif status == LET_GO.encode():
         cursor.connection.statements = Statements.LOST
-    elif said == b"COMMIT":
+    elif status == b"COMMIT":
         cursor.connection.spent = True
         raise errors.ProgrammingError(ENDED)
 
 
-def joined(link: Any, query: Any, params: Any, more: dict[str, Any]) -> dict[str, Any]:
+def joined(connection: Any, query: Any, params: Any, more: dict[str, Any]) -> dict[str, Any]:
     """The words for psycopg. Where it is the first of a transaction, and goes to the server as
     one statement with words, it is not prepared, so that it takes one trip and can go with the
     begin.
     """
     if MAY_SET.search(query if isinstance(query, str) else str(query)):
-        link.is_set = True
+        connection.is_set = True
     if (
-        link.begun is False
+        connection.begun is False
         and JOINS
         and params
         and more.get("prepare") is None
         and isinstance(query, str)
     ):
-        has_words = (
+        has_parameters = (
             "%(" in query.replace("%%", "")
             if isinstance(params, Mapping)
             else isinstance(params, (tuple, list))
         )
-        if has_words:
-            link.joins = threading.get_ident()
+        if has_parameters:
+            connection.joins = threading.get_ident()
             return more | {"prepare": False}
     return more
 
 
-def go_on(gen: PQGen[RV], state: Any) -> PQGen[RV]:
+def continue_generator(gen: PQGen[RV], state: Any) -> PQGen[RV]:
     """A generator that has said already what it waits for."""
     while True:
         ready = yield state
@@ -153,57 +153,57 @@ def raising(error: BaseException) -> PQGen[None]:
     yield
 
 
-def encoding_of(link: Any) -> str:
+def encoding_of(connection: Any) -> str:
     """As psycopg writes texts: PostgreSQL's SQL_ASCII takes whatever it is given."""
-    encoding: str = link.info.encoding
+    encoding: str = connection.info.encoding
     return "utf-8" if encoding == "ascii" else encoding
 
 
-def run_text(link: Any, text: str, encoding: str) -> PQGen[None]:
+def run_text(connection: Any, text: str, encoding: str) -> PQGen[None]:
     """Statements in one text. Raises what the server says of the first that fails."""
-    link.pgconn.send_query(text.encode(encoding))
-    yield from generators.send(link.pgconn)
-    raise_first(link, (yield from fetched(link.pgconn)))
+    connection.pgconn.send_query(text.encode(encoding))
+    yield from generators.send(connection.pgconn)
+    raise_first(connection, (yield from fetched(connection.pgconn)))
 
 
 def fetched(pgconn: Any) -> PQGen[list[Any]]:
     """What the server says of what was sent last: as `generators.fetch_many`, which asks twice
     as much of libpq.
     """
-    found: list[Any] = []
+    results: list[Any] = []
     while True:
         while pgconn.is_busy():
             yield waiting.WAIT_R
             pgconn.consume_input()
         result = pgconn.get_result()
         if result is None:
-            return found
-        found.append(result)
+            return results
+        results.append(result)
         if result.status == pq.ExecStatus.PIPELINE_SYNC:  # nothing follows it
-            return found
+            return results
 
 
-def raise_first(link: Any, results: Sequence[Any]) -> None:
+def raise_first(connection: Any, results: Sequence[Any]) -> None:
     for result in results:
         if result.status == pq.ExecStatus.FATAL_ERROR:
-            raise errors.error_from_result(result, encoding=encoding_of(link))
+            raise errors.error_from_result(result, encoding=encoding_of(connection))
 
 
-def behind_begin(link: Any, gen: PQGen[RV]) -> PQGen[RV]:
+def after_begin(connection: Any, gen: PQGen[RV]) -> PQGen[RV]:
     """The first thing that a function does over it, in a transaction."""
-    joins, link.joins, link.begun = link.joins == threading.get_ident(), 0, True
-    if joins and link.pgconn.transaction_status == pq.TransactionStatus.IDLE:
-        return (yield from with_begin(link, gen))
-    yield from run_text(link, "BEGIN", encoding_of(link))
+    joins, connection.joins, connection.begun = connection.joins == threading.get_ident(), 0, True
+    if joins and connection.pgconn.transaction_status == pq.TransactionStatus.IDLE:
+        return (yield from with_begin(connection, gen))
+    yield from run_text(connection, "BEGIN", encoding_of(connection))
     return (yield from gen)
 
 
-def with_begin(link: Any, gen: PQGen[RV]) -> PQGen[RV]:
+def with_begin(connection: Any, gen: PQGen[RV]) -> PQGen[RV]:
     """The begin and one statement, sent at once: where the begin is refused, the server does
     nothing of what is behind it.
     """
-    pgconn, fault, value = link.pgconn, None, None
-    link.halfway = True
+    pgconn, fault, value = connection.pgconn, None, None
+    connection.halfway = True
     pgconn.enter_pipeline_mode()
     pgconn.send_query_params(b"BEGIN", None)
     try:
@@ -222,8 +222,8 @@ def with_begin(link: Any, gen: PQGen[RV]) -> PQGen[RV]:
         fault = error
     yield from fetched(pgconn)  # where both end
     pgconn.exit_pipeline_mode()
-    link.halfway = False
-    raise_first(link, begun)
+    connection.halfway = False
+    raise_first(connection, begun)
     if fault is not None:
         raise fault
     return value  # type: ignore[return-value]
@@ -235,4 +235,4 @@ def resume(gen: PQGen[RV]) -> PQGen[RV]:
         state = gen.send(waiting.READY_R)
     except StopIteration as end:
         return end.value  # type: ignore[no-any-return]
-    return (yield from go_on(gen, state))
+    return (yield from continue_generator(gen, state))

@@ -15,7 +15,14 @@ from sagas.definition.serialization import cleaned
 from sagas.definition.step import Bounds
 from sagas.storage import queries
 from sagas.storage.external import ExternalAttempts
-from sagas.storage.interface import Drives, MakesTransactions, Peers, StepCaller, CommitCallback, Watcher
+from sagas.storage.interface import (
+    FunctionCheck,
+    MakesTransactions,
+    Peers,
+    StepCaller,
+    CommitCallback,
+    Watcher,
+)
 from sagas.storage.postgresql import (
     connections,
     external_attempts,
@@ -31,7 +38,7 @@ from sagas.storage.postgresql.key_finder import KeyFinder
 from sagas.storage.postgresql.limit_slots import TIDY, LimitSlots
 from sagas.storage.postgresql.lookups import Lookups
 from sagas.storage.postgresql.missing_tables import MissingTables
-from sagas.storage.postgresql.node_lease import UNDRIVEN, Lease, said_of
+from sagas.storage.postgresql.node_lease import UNDRIVEN, Lease, describe_undriven
 from sagas.storage.postgresql.peer_calls import PostgreSQLPeers
 from sagas.storage.postgresql.reader import Reader
 from sagas.storage.postgresql.shard_loader import ShardLoader
@@ -58,7 +65,7 @@ class PostgreSQL(queries.Questions):
         sagas: Sequence[str] = (),
         kinds: Sequence[str] = (),
         version: str = "",
-        most: int = 16,
+        max_connections: int = 16,
         transactions: MakesTransactions | None = None,
         record: str | None = None,
         encodes: bool = False,
@@ -72,16 +79,27 @@ class PostgreSQL(queries.Questions):
         self.lease = Lease(self.asker, node, lease, version, kinds, encodes)
         self._sagas = list(sagas)
         self.external: ExternalAttempts = PostgreSQLExternalAttempts(url, self.asker)
-        told = RecordFile.of(record, self.lease.node)
-        self._loads = ShardLoader(self.asker, self.lease.node, self._spawn, told)
+        record_file = RecordFile.of(record, self.lease.node)
+        self._loads = ShardLoader(self.asker, self.lease.node, self._spawn, record_file)
         self._line = ""
         self._writer = Writer(
-            url, self.path, self.lease.node, self._check_server, self._kept, self._let_go, told
+            url,
+            self.path,
+            self.lease.node,
+            self._check_server,
+            self._kept,
+            self._close_idle,
+            record_file,
         )
         self._writer.late = self._look_at_hosts
         self._transactions = (
             transactions(
-                url, self.path, self.lease.node, lambda: self._line, self._writer.tails.get, most
+                url,
+                self.path,
+                self.lease.node,
+                lambda: self._line,
+                self._writer.tails.get,
+                max_connections,
             )
             if transactions
             else None
@@ -120,17 +138,17 @@ class PostgreSQL(queries.Questions):
         """What calls functions in transactions."""
         return self._transactions
 
-    def _let_go(self) -> None:
+    def _close_idle(self) -> None:
         """Ends the connections of steps that rest."""
         if self._transactions:
-            self._transactions.let_go()
+            self._transactions.close_idle()
 
     # -- opening and closing
 
-    async def open(self, drives: Drives) -> list[LogRow]:
+    async def open(self, check_functions: FunctionCheck) -> list[LogRow]:
         """Migrates the tables where they are older; gives the logs that nobody has, as far as
         this program drives them. Keeps the lease from now on."""
-        self._drives = drives
+        self._check_functions = check_functions
         if self.record:
             self.record.open()
         await asyncio.to_thread(self._migrate)
@@ -142,7 +160,9 @@ class PostgreSQL(queries.Questions):
         if self.record:
             self.record.moved(self._line)
         rows: list[LogRow] = []
-        while (taken := await self.lease.take(drives, [row.log for row in rows])) is not None:
+        while (
+            taken := await self.lease.take(check_functions, [row.log for row in rows])
+        ) is not None:
             rows += taken
         await self._numbers.fill()
         await self.asker.ask(TIDY)
@@ -153,10 +173,10 @@ class PostgreSQL(queries.Questions):
         return await self.lease.secret()
 
     def _migrate(self) -> None:
-        with connections.faults(self.path):
-            link = connections.connect_now(self.url)
-            with contextlib.closing(link):
-                schema.migrate(link, self.path)
+        with connections.translate_errors(self.path):
+            connection = connections.connect_now(self.url)
+            with contextlib.closing(connection):
+                schema.migrate(connection, self.path)
 
     def peers(self) -> Peers:
         """What this node and the others ask of each other."""
@@ -197,16 +217,16 @@ class PostgreSQL(queries.Questions):
         if self._jobs:  # who looked for a key hears that it is closed
             await asyncio.wait(list(self._jobs))
 
-    def _heard(self, what: str) -> None:
+    def _heard(self, command: str) -> None:
         assert self._watcher
-        if what in ("reported", ""):
+        if command in ("reported", ""):
             self._watcher.reported()
-        if what in ("tasks", ""):
+        if command in ("tasks", ""):
             self._watcher.offered()
-        if what not in ("places", "reported", "tasks"):
+        if command not in ("places", "reported", "tasks"):
             self._turn.set()
-        if what in ("places", ""):
-            self._watcher.vacant()
+        if command in ("places", ""):
+            self._watcher.slots_freed()
 
     def _spawn(self, work: Any) -> None:
         job = asyncio.get_running_loop().create_task(work)
@@ -247,9 +267,9 @@ class PostgreSQL(queries.Questions):
         if not self._is_known(line):
             self._writer.cut()
         elif lapsed:
-            self._watcher.lapsed()
+            self._watcher.lease_expired()
         if orphans and not self._closing:
-            rows = await self.lease.take(self._drives, self._watcher.logs())
+            rows = await self.lease.take(self._check_functions, self._watcher.logs())
             if rows is not None:  # the next lot comes behind a beat
                 for row in rows:
                     self._writer.forget(row.log)
@@ -257,20 +277,20 @@ class PostgreSQL(queries.Questions):
                 self._turn.set()
         if asks:
             self._watcher.look()
-        if logs := self.lease.undriven():
-            self._spawn(self._warn(logs))
+        if shards := self.lease.undriven():
+            self._spawn(self._warn(shards))
         self._spawn(self._continuity.look())
         await self._numbers.fill()
 
-    async def _warn(self, logs: list[int]) -> None:
+    async def _warn(self, shards: list[int]) -> None:
         """Tells that no node drives these. Not as a part of a beat, which waits for no table."""
         try:
-            rows = await self._questions.read(UNDRIVEN, logs=logs)
+            rows = await self._questions.read(UNDRIVEN, shards=shards)
         except StoreUnavailable:
-            self.lease.untold(logs)
+            self.lease.untold(shards)
             return
         if rows:
-            logger.warning("%s", said_of(self.path, logs, rows))
+            logger.warning("%s", describe_undriven(self.path, shards, rows))
 
     def _look_at_hosts(self) -> None:
         """A statement took too long: a server that was replaced may be waiting for its standby."""
@@ -283,7 +303,7 @@ class PostgreSQL(queries.Questions):
             self._is_known(line, cuts=True)
             self._writer.cut()
             if self._announcer:  # the server before would tell nothing more
-                self._announcer.news.listener.cut()
+                self._announcer.notifications.listener.cut()
 
     def _check_age(self, line: str) -> None:
         """Raises `StoreUnavailable` at a server that was replaced, where the URL has another."""
@@ -315,11 +335,11 @@ class PostgreSQL(queries.Questions):
         is taken up again. `cuts`: questions that were asked have no answer any more."""
         self._writer.events.clear()
         self._keys.cut()
-        self._let_go()
+        self._close_idle()
         self._spawn(self.asker.renew(cuts))
         self._spawn(self._questions.renew(cuts))
         if self._watcher:
-            self._watcher.lapsed(is_older=True)
+            self._watcher.lease_expired(is_older=True)
 
     def _check_line(self, line: str) -> None:
         if line != self._line:
@@ -327,7 +347,7 @@ class PostgreSQL(queries.Questions):
 
     # -- writing
 
-    def new_log(self) -> int:
+    def new_shard(self) -> int:
         """The number of a log that is to be born. Raises `StoreUnavailable` where none is at
         hand.
         """
@@ -343,14 +363,14 @@ class PostgreSQL(queries.Questions):
         return await places.take(name, bounds, want, have, self.lease.pause)
 
     @property
-    def line(self) -> str:
+    def timeline(self) -> str:
         """The server's timeline, as far as this node knows."""
         return self._line
 
     @property
-    def takes(self) -> float:
+    def commit_seconds(self) -> float:
         """How long a commit takes."""
-        return self._writer.takes
+        return self._writer.commit_seconds
 
     @property
     def commits(self) -> int:
@@ -365,20 +385,20 @@ class PostgreSQL(queries.Questions):
         if self._announcer:
             self._announcer.hurry()
 
-    def settle(self) -> None:
+    def finish_commit(self) -> None:
         """Nothing: `then` is called as soon as the server's answer is there."""
 
-    async def _check_server(self, link: connections.Link) -> None:
-        line = await connections.line_of(link)
+    async def _check_server(self, connection: connections.Link) -> None:
+        line = await connections.timeline_of(connection)
         self._check_age(line)
         if not self._is_known(line):
-            why = "another server has taken over, and its data is read first"
-            raise StoreUnavailable(f"{self.path}: {why}")
+            reason = "another server has taken over, and its data is read first"
+            raise StoreUnavailable(f"{self.path}: {reason}")
 
-    def _say(self, words: list[str]) -> None:
+    def _say(self, parameters: list[str]) -> None:
         """Tells the other nodes, behind what is in the store by now."""
         if self._announcer:
-            self._announcer.say(words)
+            self._announcer.say(parameters)
 
     def _kept(self, commit: Commit) -> None:
         """A commit is in the store: the others hear of it."""
@@ -388,87 +408,89 @@ class PostgreSQL(queries.Questions):
     # -- reading, for the coordinator
 
     @property
-    def sought(self) -> int:
+    def pending_lookups(self) -> int:
         """How many keys are looked for."""
-        return self._keys.sought
+        return self._keys.pending_lookups
 
     async def find(self, key: str) -> SagaRow | None:
         """As `KeyFinder.find`."""
         return await self._keys.find(key)
 
-    async def load(self, log: int, epoch: int, born: Born | None) -> Loaded | None:
+    async def load(self, shard: int, epoch: int, born: Born | None) -> Loaded | None:
         """A log as a pump takes it up, under a new epoch, which fences what was on its way. None
         where it is another node's, or is not there."""
         line = self._line
-        loaded = await self._loads.load(log, epoch, born)
+        loaded = await self._loads.load(shard, epoch, born)
         self._check_line(loaded.line if loaded else line)  # it may come over a connection of before
-        await self._continuity.compare(log, loaded.events if loaded else None)
+        await self._continuity.compare(shard, loaded.events if loaded else None)
         if loaded:
-            self._writer.reached(log, loaded.events, loaded.tail)
+            self._writer.reached(shard, loaded.events, loaded.tail)
         return loaded
 
-    def forget(self, log: int) -> None:
+    def forget(self, shard: int) -> None:
         """As `Database.forget`."""
-        self._writer.forget(log)
+        self._writer.forget(shard)
 
-    async def spare(self, log: int) -> bool:
+    async def spare(self, shard: int) -> bool:
         """Gives a log back for another node to take, where one has come since that was tried."""
-        return await self.lease.spare(log)
+        return await self.lease.spare(shard)
 
-    async def take_up(self, log: int, epoch: int) -> tuple[str, int] | None:
+    async def take_up(self, shard: int, epoch: int) -> tuple[str, int] | None:
         """A log's lines and how many events they are; None where it is not this node's any more."""
         line = self._line
-        read = await self._loads.take_up(log, epoch, line)
+        read = await self._loads.take_up(shard, epoch, line)
         if read is None:
             return None
         self._check_line(line)
-        if self._continuity.lacks(log, read.events) or queries.damage_of(read.text, read.events):
+        if self._continuity.lacks(shard, read.events) or queries.damage_of(read.text, read.events):
             return None  # that is looked at as after a failure
-        self._writer.reached(log, read.events, read.tail)
+        self._writer.reached(shard, read.events, read.tail)
         return read.text, read.events
 
-    async def requests(self, after: int, most: int) -> list[Request]:
+    async def requests(self, after: int, limit: int) -> list[Request]:
         """What was asked of the sagas of this node's logs."""
-        return await saga_requests.asked_of(self.asker, self.lease.node, after, most)
+        return await saga_requests.pending_requests(self.asker, self.lease.node, after, limit)
 
     async def starts(
-        self, most: int, under_way: Sequence[int] | None, left: Sequence[int] = ()
+        self, limit: int, under_way: Sequence[int] | None, left: Sequence[int] = ()
     ) -> list[Start]:
         """Sagas that clients started, and that are this node's to open."""
         node, sagas = self.lease.node, self._sagas
-        return await saga_requests.take_starts(self.asker, node, sagas, most, under_way, left)
+        return await saga_requests.take_starts(self.asker, node, sagas, limit, under_way, left)
 
-    async def give_back(self, start: int, why: str | None) -> None:
+    async def give_back(self, start: int, reason: str | None) -> None:
         """Give back a start that this node took."""
-        await saga_requests.give_back(self.asker, self.lease.node, start, why)
+        await saga_requests.give_back(self.asker, self.lease.node, start, reason)
 
-    async def ask(self, row: SagaRow, what: str, value: str, payloads: Payloads) -> Any:
+    async def ask(self, row: SagaRow, command: str, value: str, payloads: Payloads) -> Any:
         """Leaves a request for the node that has the saga, and waits for its answer."""
         assert self._announcer
-        return await saga_requests.ask(self.asker, self._announcer.news, row, what, value, payloads)
+        return await saga_requests.ask(
+            self.asker, self._announcer.notifications, row, command, value, payloads
+        )
 
     async def replicated(self) -> None:
         """Waits until the synchronous standbys have what was read."""
         await self.asker.replicated()
 
-    async def news(self, id: int, turn: int) -> None:
+    async def wait_for_end(self, id: int, turn: int) -> None:
         """Returns when the saga may have ended, or after a while, which is longer each turn."""
         if self._announcer:
-            await self._announcer.news.of(id, turn)
+            await self._announcer.notifications.of(id, turn)
 
     # -- questions
 
-    async def read(self, query: str, *words: Any) -> list[tuple[Any, ...]]:
+    async def read(self, query: str, *parameters: Any) -> list[tuple[Any, ...]]:
         """Rows of a query."""
-        return await self._questions.rows(queries.for_postgresql(query), *cleaned(words))
+        return await self._questions.rows(queries.for_postgresql(query), *cleaned(parameters))
 
     async def known(self, row: SagaRow) -> Known:
         """What the store has of a saga, with what others ask in the same moment."""
         return await self._lookups.known(row)
 
-    async def text(self, log: int) -> str:
+    async def text(self, shard: int) -> str:
         """A log's lines, which the server puts together."""
-        return str((await self.read(TEXT, log))[0][0])
+        return str((await self.read(TEXT, shard))[0][0])
 
     def reader(self) -> Reader:
         """Another connection, for a thread that only reads."""

@@ -22,7 +22,7 @@ NONE: frozenset[int] = frozenset()
 OF_ONE = (errors.UniqueViolation, errors.NotNullViolation)
 """What the server refuses because of one log: another has one of its keys or wrote it before, or a
 worker has reported *done* of an attempt that came to something else."""
-Came = Callable[[frozenset[int], Optional[Exception]], object]
+AnswerCallback = Callable[[frozenset[int], Optional[Exception]], object]
 """What is called with the logs that are not this node's, or with what kept all from being
 written.
 """
@@ -51,7 +51,7 @@ class Writer:
         self.late: Callable[[], object] = lambda: None
         """Called where a commit took too long."""
         self.commits = 0
-        self.takes = 0.0
+        self.commit_seconds = 0.0
         """Seconds that a commit takes, in the middle of the last ones."""
         self.events: dict[int, int] = {}
         self.tails: dict[int, Tail] = {}
@@ -71,26 +71,26 @@ class Writer:
         else:
             self._write(self._wire, batches, functools.partial(self._came, batches, then))
 
-    def reached(self, log: int, events: int, tail: Tail | None) -> None:
+    def reached(self, shard: int, events: int, tail: Tail | None) -> None:
         """A log was read, or written, to this chunk."""
-        self.events.pop(log, None)
-        self.events[log] = events
+        self.events.pop(shard, None)
+        self.events[shard] = events
         if tail is not None:
-            self.tails[log] = tail
+            self.tails[shard] = tail
         else:
-            self.tails.pop(log, None)
+            self.tails.pop(shard, None)
 
-    def latest(self, logs: Collection[int]) -> tuple[int, Tail] | None:
+    def latest(self, shards: Collection[int]) -> tuple[int, Tail] | None:
         """Return which of these logs was read or written last, and its tail."""
-        for log in reversed(self.events):
-            if log in logs and log in self.tails:
-                return log, self.tails[log]
+        for shard in reversed(self.events):
+            if shard in shards and shard in self.tails:
+                return shard, self.tails[shard]
         return None
 
-    def forget(self, log: int) -> None:
+    def forget(self, shard: int) -> None:
         """What is known of a log does not count any more: it has a later epoch."""
-        self.events.pop(log, None)
-        self.tails.pop(log, None)
+        self.events.pop(shard, None)
+        self.tails.pop(shard, None)
 
     def cut(self) -> None:
         """What the connection was doing is over, or is fenced by the epoch that follows."""
@@ -129,7 +129,7 @@ class Writer:
     async def _connect(self, batches: Sequence[Batch], then: CommitCallback) -> None:
         fault: BaseException | None = None
         try:
-            with connections.faults(self._where):
+            with connections.translate_errors(self._where):
                 async with asyncio.timeout(connections.PATIENCE):
                     wire = self._wire = Wire(await self._connected())
         except Exception as error:
@@ -143,30 +143,34 @@ class Writer:
             self._write(wire, batches, functools.partial(self._came, batches, then))
 
     async def _connected(self) -> connections.Link:
-        link = await connections.connect(self._url, connections.REPEATED)
+        connection = await connections.connect(self._url, connections.REPEATED)
         try:
-            await self._check(link)
+            await self._check(connection)
         except BaseException:
-            await link.close()
+            await connection.close()
             raise
-        return link
+        return connection
 
-    def _write(self, wire: Wire, batches: Sequence[Batch], came: Came) -> None:
+    def _write(self, wire: Wire, batches: Sequence[Batch], on_answer: AnswerCallback) -> None:
         try:
-            commit = Commit(batches, lambda log: self.events.get(log, 0), self.tails)
-            text, words = commit.words(self._node)
+            commit = Commit(batches, lambda shard: self.events.get(shard, 0), self.tails)
+            text, parameters = commit.parameters(self._node)
         except Exception as error:  # told to the coordinator, which begins again from the database
-            asyncio.get_running_loop().call_soon(came, NONE, error)
+            asyncio.get_running_loop().call_soon(on_answer, NONE, error)
         else:
             if self.record is not None:
                 self.record.commit = commit
             began = time.monotonic()
-            wire.ask(text, words, lambda rows, fault: came(*self._read(commit, rows, fault, began)))
+            wire.ask(
+                text,
+                parameters,
+                lambda rows, fault: on_answer(*self._read(commit, rows, fault, began)),
+            )
 
     def _read(
         self, commit: Commit, rows: list[Values], fault: Exception | None, began: float
     ) -> tuple[frozenset[int], Exception | None]:
-        self.takes += (time.monotonic() - began - self.takes) / 8
+        self.commit_seconds += (time.monotonic() - began - self.commit_seconds) / 8
         if fault is not None:
             if not isinstance(fault, OF_ONE):
                 self.cut()
@@ -188,26 +192,30 @@ class Writer:
             if commit.rare:
                 self._note_closed(self.record, commit, mine)
         self.commits += 1
-        tails = {log: Tail(first, at) for log, first, at, *_ in commit.rows("lines")}
-        for log, events in commit.events.items():
-            if log in mine:
-                self.reached(log, events, tails.get(log) or self.tails.get(log))
+        tails = {shard: Tail(first, at) for shard, first, at, *_ in commit.rows("lines")}
+        for shard, events in commit.events.items():
+            if shard in mine:
+                self.reached(shard, events, tails.get(shard) or self.tails.get(shard))
         self._kept(commit)
         lost = commit.epochs.keys() - mine
         return frozenset(lost) if lost else NONE, None
 
     def _note_closed(self, record: RecordFile, commit: Commit, mine: set[int]) -> None:
-        for log, *_ in commit.rows("closed"):
-            if log in mine:
-                record.closed((log, commit.epochs[log], record.timeline))
+        for shard, *_ in commit.rows("closed"):
+            if shard in mine:
+                record.closed((shard, commit.epochs[shard], record.timeline))
 
     def _came(
-        self, batches: Sequence[Batch], then: CommitCallback, lost: frozenset[int], fault: Exception | None
+        self,
+        batches: Sequence[Batch],
+        then: CommitCallback,
+        lost: frozenset[int],
+        fault: Exception | None,
     ) -> None:
         if isinstance(fault, OF_ONE):
             self._spawn(self._one_by_one(batches, then))
         else:
-            self._over(batches, then, fault and self._told(fault), lost)
+            self._over(batches, then, fault and self._translated(fault), lost)
 
     # -- one statement for each log
 
@@ -216,15 +224,17 @@ class Writer:
         lost: set[int] = set()
         fault: Exception | None = None
         try:
-            for log in dict.fromkeys(batch.log for batch in batches):
-                lost |= await self._written(log, [batch for batch in batches if batch.log == log])
+            for shard in dict.fromkeys(batch.log for batch in batches):
+                lost |= await self._written(
+                    shard, [batch for batch in batches if batch.log == shard]
+                )
         except Exception as error:
             fault = error
         except asyncio.CancelledError:
             fault = self._closed()
         self._over(batches, then, fault, NONE if fault else frozenset(lost))
 
-    async def _written(self, log: int, batches: Sequence[Batch]) -> frozenset[int]:
+    async def _written(self, shard: int, batches: Sequence[Batch]) -> frozenset[int]:
         """Those of its log, unless it cannot be written."""
         if self._wire is None:
             raise StoreUnavailable(f"{self._where}: the connection is closed")
@@ -232,22 +242,22 @@ class Writer:
             tuple[frozenset[int], Exception | None]
         ] = asyncio.get_running_loop().create_future()
 
-        def came(lost: frozenset[int], fault: Exception | None) -> None:
+        def on_answer(lost: frozenset[int], fault: Exception | None) -> None:
             if not future.done():
                 future.set_result((lost, fault))
 
-        self._write(self._wire, batches, came)
+        self._write(self._wire, batches, on_answer)
         lost, fault = await future
         if fault is None:
             return lost
         if isinstance(fault, OF_ONE):
-            return frozenset({log})
-        raise self._told(fault)
+            return frozenset({shard})
+        raise self._translated(fault)
 
-    def _told(self, fault: Exception) -> Exception:
+    def _translated(self, fault: Exception) -> Exception:
         """What the coordinator hears."""
         return (
-            connections.unwritable(self._where, fault)
-            if isinstance(fault, connections.FAULTS)
+            connections.store_unavailable(self._where, fault)
+            if isinstance(fault, connections.CLIENT_ERRORS)
             else fault
         )

@@ -21,19 +21,19 @@ class SqliteDeliveries:
         """`write`: puts a batch into the next transaction."""
         self._write, self._clock = write, clock
 
-    async def change(self, text: str, **words: Any) -> list[tuple[Any, ...]]:
+    async def change(self, text: str, **parameters: Any) -> list[tuple[Any, ...]]:
         batch = Batch(-1, self._clock())
-        found: list[tuple[Any, ...]] = []
+        rows: list[tuple[Any, ...]] = []
 
         def work(db: sqlite3.Connection) -> None:
-            found[:] = db.execute(*self._form(text, words)).fetchall()
+            rows[:] = db.execute(*self._form(text, parameters)).fetchall()
 
         batch.more.work.append(work)
         await self._write(batch)
-        return found
+        return rows
 
-    async def ask(self, text: str, **words: Any) -> list[tuple[Any, ...]]:
-        return await self.change(text, **words)
+    async def ask(self, text: str, **parameters: Any) -> list[tuple[Any, ...]]:
+        return await self.change(text, **parameters)
 
-    def _form(self, text: str, words: dict[str, Any]) -> tuple[str, dict[str, Any]]:
-        return text.format(now=":now", locked=""), {**words, "now": self._clock()}
+    def _form(self, text: str, parameters: dict[str, Any]) -> tuple[str, dict[str, Any]]:
+        return text.format(now=":now", locked=""), {**parameters, "now": self._clock()}

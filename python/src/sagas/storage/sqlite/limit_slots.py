@@ -25,7 +25,7 @@ SOON = (
 def free(limit: int, want: int, have: Sequence[int]) -> list[int]:
     """The places of a limit that nobody has: one program is the whole fleet of a file."""
     taken = set(have)
-    return [place for place in range(1, limit + 1) if place not in taken][:want]
+    return [slot for slot in range(1, limit + 1) if slot not in taken][:want]
 
 
 def take(
@@ -43,12 +43,12 @@ def take(
             db.execute("BEGIN IMMEDIATE")
             db.executemany(
                 "INSERT OR IGNORE INTO limit_slots(name, kind, slot) VALUES(?, 'rate', ?)",
-                [(name, place) for place in range(1, calls + 1)],
+                [(name, slot) for slot in range(1, calls + 1)],
             )
             rows = db.execute(FREE, (name, calls, now, now + seconds, want)).fetchall()
             db.executemany(
                 "UPDATE limit_slots SET until = ? WHERE name = ? AND kind = 'rate' AND slot = ?",
-                [(now + seconds, name, place) for (place,) in rows],
+                [(now + seconds, name, slot) for (slot,) in rows],
             )
             (soon,) = db.execute(SOON, (name, calls, now)).fetchone()
             db.execute("COMMIT")

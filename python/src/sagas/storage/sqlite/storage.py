@@ -30,7 +30,7 @@ from sagas.definition.serialization import cleaned
 from sagas.definition.step import Bounds
 from sagas.storage import codec_note, queries
 from sagas.storage.external import ExternalAttempts
-from sagas.storage.interface import Drives, Watcher
+from sagas.storage.interface import FunctionCheck, Watcher
 from sagas.storage.record_file import RecordFile
 from sagas.storage.sqlite import limit_slots
 from sagas.storage.sqlite.external_attempts import SqliteExternalAttempts
@@ -45,8 +45,8 @@ from sagas.storage.sqlite.store_file import (
     lock_of,
     migrate,
     take_lock,
-    there,
-    told,
+    file_identity,
+    describe_error,
 )
 from sagas.storage.sqlite.writer import Writer
 
@@ -76,8 +76,8 @@ class Sqlite(queries.Questions, queries.Rows):
     writes."""
 
     shared = False
-    takes = 0.0
-    sought = 0
+    commit_seconds = 0.0
+    pending_lookups = 0
     inside = None
     blobs = None
     record: RecordFile | None = None
@@ -93,9 +93,9 @@ class Sqlite(queries.Questions, queries.Rows):
         self._next_log = 0
         self.external: ExternalAttempts = SqliteExternalAttempts(self.rows)
         self._writer = writer = Writer(self._check_files)
-        self.commit, self.settle = (
+        self.commit, self.finish_commit = (
             writer.commit,
-            writer.settle,
+            writer.finish_commit,
         )
 
     @property
@@ -105,14 +105,14 @@ class Sqlite(queries.Questions, queries.Rows):
 
     # -- opening and closing
 
-    async def open(self, drives: Drives) -> list[LogRow]:
+    async def open(self, check_functions: FunctionCheck) -> list[LogRow]:
         """Takes the lock and makes the tables. Raises `StoreLocked`, `StoreUnavailable`,
         `InvalidStore` or `MissingStep`.
         """
         self._take_lock()
         self._make()
         lengthen(self._db)
-        self._there = {name: there(name) for name in (self.file, f"{self.file}-wal")}
+        self._there = {name: file_identity(name) for name in (self.file, f"{self.file}-wal")}
         self._writer.open(self._db)
         self._note_codec()
         self._next_log = int(self.rows("SELECT coalesce(max(shard) + 1, 0) FROM shards")[0][0])
@@ -120,16 +120,16 @@ class Sqlite(queries.Questions, queries.Rows):
         completed = self.completed_children()
         for row in rows:
             below = completed.get(row.log, [])
-            lacks = drives(row.texts, self.places(row.log), below) if row.open else None
-            if lacks:
+            missing = check_functions(row.texts, self.places(row.log), below) if row.open else None
+            if missing:
                 count = sum(row.open for row in rows)
-                told = (
+                hint = (
                     f"open sagas: {count:,}; `sagas store {shlex.quote(self.path)} list --phase "
                     "open` lists them"
                 )
                 raise MissingStep(
-                    f"{self.path}: {lacks}. Declare it again, or let the older program finish "
-                    f"them with open(..., accept_new=False); {told}"
+                    f"{self.path}: {missing}. Declare it again, or let the older program finish "
+                    f"them with open(..., accept_new=False); {hint}"
                 )
         return rows
 
@@ -144,7 +144,7 @@ class Sqlite(queries.Questions, queries.Rows):
         except sqlite3.DatabaseError as error:
             self._drop_lock()
             if isinstance(error, sqlite3.OperationalError):
-                raise StoreUnavailable(f"{self.path}: {told(error)}") from error
+                raise StoreUnavailable(f"{self.path}: {describe_error(error)}") from error
             raise InvalidStore(f"{self.path}: {error}") from error
         except BaseException:
             self._drop_lock()
@@ -158,7 +158,7 @@ class Sqlite(queries.Questions, queries.Rows):
             if self._encodes and not is_noted:
                 self._db.execute(codec_note.NOTE)
         except sqlite3.Error as error:
-            raise StoreUnavailable(f"{self.path}: {told(error)}") from error
+            raise StoreUnavailable(f"{self.path}: {describe_error(error)}") from error
         if is_noted and not self._encodes:
             raise codec_note.missing(self.path)
 
@@ -218,8 +218,8 @@ class Sqlite(queries.Questions, queries.Rows):
         """Where one was deleted or replaced, SQLite would write on into what nobody will find:
         from then on nothing is. Raises `StoreUnavailable`.
         """
-        for name, was in self._there.items():
-            if there(name) != was:
+        for name, identity in self._there.items():
+            if file_identity(name) != identity:
                 remedy = (
                     "nothing is written any more. Close the store, restore the file (a copy with "
                     "its -wal, or a backup), and open it again"
@@ -234,7 +234,7 @@ class Sqlite(queries.Questions, queries.Rows):
     def _look_for_lock(self) -> None:
         """Where it was deleted another program could open the store: it is made again."""
         lock = self._lock
-        if lock is None or there(lock_of(self.file)) == there(lock):
+        if lock is None or file_identity(lock_of(self.file)) == file_identity(lock):
             return
         self._lock = None
         try:
@@ -246,13 +246,13 @@ class Sqlite(queries.Questions, queries.Rows):
             private.discard(lock)
             os.close(lock)
 
-    def _give_up(self, why: str) -> None:
+    def _give_up(self, reason: str) -> None:
         """The first reason stays. Either thread may see it."""
         with self._faults:
             if self._writer.fault:
                 return
-            self._writer.fault = StoreUnavailable(why)
-        logger.critical("%s", why)
+            self._writer.fault = StoreUnavailable(reason)
+        logger.critical("%s", reason)
 
     async def close(self) -> None:
         """Ends the writer behind what it was given."""
@@ -268,13 +268,13 @@ class Sqlite(queries.Questions, queries.Rows):
 
     # -- writing
 
-    def new_log(self) -> int:
+    def new_shard(self) -> int:
         """The number of a log that is to be born."""
         self._next_log += 1
         return self._next_log - 1
 
     @property
-    def line(self) -> str:
+    def timeline(self) -> str:
         """A file has none."""
         return ""
 
@@ -297,64 +297,64 @@ class Sqlite(queries.Questions, queries.Rows):
 
     # -- reading
 
-    def rows(self, query: str, *words: Any) -> list[tuple[Any, ...]]:
+    def rows(self, query: str, *parameters: Any) -> list[tuple[Any, ...]]:
         """Rows of the reader. Raises `StoreUnavailable` where the file cannot be read."""
-        return self._read(self._reader, query, cleaned(words))
+        return self._read(self._reader, query, cleaned(parameters))
 
     def _read(
-        self, db: sqlite3.Connection, query: str, words: Sequence[Any]
+        self, db: sqlite3.Connection, query: str, parameters: Sequence[Any]
     ) -> list[tuple[Any, ...]]:
         try:
-            return db.execute(query, words).fetchall()
+            return db.execute(query, parameters).fetchall()
         except sqlite3.Error as error:
             raise StoreUnavailable(f"{self.path}: {error}") from error
 
     def find_many(self, keys: Sequence[str]) -> dict[str, SagaRow]:
         """The sagas with these keys, by key, as far as they are there."""
-        return self.found(
+        return self.find_in_batches(
             keys, functools.partial(self._read, self._writer.reader() or self._reader)
         )
 
-    async def read(self, query: str, *words: Any) -> list[tuple[Any, ...]]:
+    async def read(self, query: str, *parameters: Any) -> list[tuple[Any, ...]]:
         """As `rows`: the file is at hand."""
-        return self.rows(query, *words)
+        return self.rows(query, *parameters)
 
-    async def read_long(self, query: str, *words: Any) -> list[tuple[Any, ...]]:
+    async def read_long(self, query: str, *parameters: Any) -> list[tuple[Any, ...]]:
         """As `read`, in a thread."""
-        return await asyncio.to_thread(self._read_apart, query, words)
+        return await asyncio.to_thread(self._read_apart, query, parameters)
 
-    def _read_apart(self, query: str, words: Sequence[Any]) -> list[tuple[Any, ...]]:
+    def _read_apart(self, query: str, parameters: Sequence[Any]) -> list[tuple[Any, ...]]:
         with contextlib.closing(self.reader()) as reader:
-            return reader.rows(query, *words)
+            return reader.rows(query, *parameters)
 
     def reader(self) -> Reader:
         """Another connection, for a thread that only reads."""
         return Reader(self.file)
 
-    def forget(self, log: int) -> None:
+    def forget(self, shard: int) -> None:
         """Nothing is known but what is read."""
 
-    async def spare(self, log: int) -> bool:
+    async def spare(self, shard: int) -> bool:
         """There is nobody else."""
         return False
 
-    async def take_up(self, log: int, epoch: int) -> tuple[str, int]:
+    async def take_up(self, shard: int, epoch: int) -> tuple[str, int]:
         """A log's lines and how many events they are, for who will write behind it: nobody else
         writes this file. No lines of it may be on their way."""
-        text, self._writer.events[log] = queries.joined(self.rows(queries.LINES, log))
-        return text, self._writer.events[log]
+        text, self._writer.events[shard] = queries.joined(self.rows(queries.LINES, shard))
+        return text, self._writer.events[shard]
 
-    async def load(self, log: int, epoch: int, born: Born | None) -> Loaded:
+    async def load(self, shard: int, epoch: int, born: Born | None) -> Loaded:
         """A log as a pump takes it up. No batch of it may be on its way."""
-        within = queries.bounds(log)
-        text, events = await self.take_up(log, epoch)
+        within = queries.bounds(shard)
+        text, events = await self.take_up(shard, epoch)
         opened = self.rows(queries.COUNT, *within)[0][0]
         open, results, held = (
             self.rows(query, *within)
             for query in (queries.OPEN_SAGAS, queries.OPEN_RESULTS, queries.OPEN_HELD)
         )
         loaded = Loaded(text, events, opened, open, results, held, epoch)  # type: ignore[arg-type]
-        loaded.definitions = self.rows(queries.DEFINITIONS, log)[0][0]
+        loaded.definitions = self.rows(queries.DEFINITIONS, shard)[0][0]
         loaded.damage = queries.damage_of(text, events)
         return loaded
 
@@ -362,21 +362,21 @@ class Sqlite(queries.Questions, queries.Rows):
         """The saga with this key."""
         return self.find_now(key)
 
-    async def requests(self, after: int, most: int) -> list[Request]:
+    async def requests(self, after: int, limit: int) -> list[Request]:
         """What was asked and has no answer."""
-        return self.rows(queries.REQUESTS, after, most)  # type: ignore[return-value]
+        return self.rows(queries.REQUESTS, after, limit)  # type: ignore[return-value]
 
     async def starts(
-        self, most: int, under_way: Sequence[int] | None, left: Sequence[int] = ()
+        self, limit: int, under_way: Sequence[int] | None, left: Sequence[int] = ()
     ) -> list[Start]:
         """None: who starts a saga has the store open."""
         return []
 
-    async def give_back(self, start: int, why: str | None) -> None:
+    async def give_back(self, start: int, reason: str | None) -> None:
         """There are none."""
         raise NotImplementedError
 
-    async def ask(self, row: SagaRow, what: str, value: str, payloads: Payloads) -> Any:
+    async def ask(self, row: SagaRow, command: str, value: str, payloads: Payloads) -> Any:
         """Nobody else has the sagas of a file, so the shard of this one is set aside."""
         raise OwnerUnavailable(
             f"saga {row.key!r} is not executed, because its shard is damaged. Repair the shard, or "
@@ -386,6 +386,6 @@ class Sqlite(queries.Questions, queries.Rows):
     async def replicated(self) -> None:
         """A file has no standby."""
 
-    async def news(self, id: int, turn: int) -> None:
+    async def wait_for_end(self, id: int, turn: int) -> None:
         """A saga ends when its shard, which is set aside, is repaired: that is seldom."""
         await asyncio.sleep(min(MOST_LOOK, LOOK * 2 ** min(turn, 10)))

@@ -44,7 +44,7 @@ def connect(path: str, synchronous: str = "FULL") -> sqlite3.Connection:
     return db
 
 
-def told(error: sqlite3.Error) -> str:
+def describe_error(error: sqlite3.Error) -> str:
     """What SQLite says, and what to do about it where the file cannot be opened or written."""
     text = str(error)
     if is_of_disk(error):
@@ -192,13 +192,13 @@ def is_held(path: str | os.PathLike[str]) -> bool:
         os.close(lock)
 
 
-def there(path: str | int) -> tuple[int, int]:
+def file_identity(path: str | int) -> tuple[int, int]:
     """Which file has this name, or descriptor; none where there is no such."""
     try:
-        found = os.stat(path)
+        status = os.stat(path)
     except OSError:
         return 0, 0
-    return found.st_dev, found.st_ino
+    return status.st_dev, status.st_ino
 
 
 def owner_of(path: str) -> str | None:
@@ -276,10 +276,10 @@ class Reader:
             timeout=BUSY / 1000,
         )
 
-    def rows(self, query: str, *words: Any) -> list[tuple[Any, ...]]:
+    def rows(self, query: str, *parameters: Any) -> list[tuple[Any, ...]]:
         """Rows of a query. Raises `StoreUnavailable` where the file cannot be read."""
         try:
-            return self._db.execute(query, cleaned(words)).fetchall()
+            return self._db.execute(query, cleaned(parameters)).fetchall()
         except sqlite3.Error as error:
             raise StoreUnavailable(f"{self._path}: {error}") from error
 

@@ -20,14 +20,14 @@ BUSY = (
 )
 
 
-class SqliteDesk:
+class SqliteWorkerSession:
     """A worker's connection to the file, for one thread."""
 
     def __init__(self, path: str) -> None:
         self.path = os.path.abspath(path)
         self._db: sqlite3.Connection | None = None
 
-    def _ask(self, text: str, words: Any) -> list[tuple[Any, ...]]:
+    def _ask(self, text: str, parameters: Any) -> list[tuple[Any, ...]]:
         try:
             if self._db is None:
                 # without `create`: a file that is not there is another store
@@ -37,7 +37,7 @@ class SqliteDesk:
                 self._db.execute(
                     "PRAGMA synchronous=NORMAL"
                 )  # the owner's next commit syncs it; what a crash loses is ordered again
-            return self._db.execute(text, words).fetchall()
+            return self._db.execute(text, parameters).fetchall()
         except sqlite3.Error as error:
             self.close()
             if not os.path.exists(self.path):
@@ -53,8 +53,8 @@ class SqliteDesk:
         """
         return fetched(order, self._ask(BEGIN, (order.token, order.log)), self._one, self.path)
 
-    def _one(self, text: str, *words: Any) -> str:
-        rows = self._ask(text, words)
+    def _one(self, text: str, *parameters: Any) -> str:
+        rows = self._ask(text, parameters)
         return str(rows[0][0]) if rows and rows[0][0] is not None else "null"
 
     def report(self, order: Order, outcome: Outcome) -> None:

@@ -62,7 +62,7 @@ FORGET = 0.97  # of what the disk took, a commit of the thread's
 NONE: frozenset[int] = frozenset()
 Events = dict[int, int]
 """How many events each log has."""
-Put = tuple[Events, frozenset[int]]
+PutResult = tuple[Events, frozenset[int]]
 """What a transaction brings the logs to, and those of which it has nothing: they began a saga
 without a look for its key, which is another's.
 """
@@ -86,7 +86,7 @@ class Writer:
         self.commits = 0
         self.events: dict[int, int] = {}
         self._jobs: queue.SimpleQueue[
-            tuple[Sequence[Batch], CommitCallback, Put | None] | None
+            tuple[Sequence[Batch], CommitCallback, PutResult | None] | None
         ] = queue.SimpleQueue()
         self._took = AT_ONCE  # seconds, by the last commits of the loop's
         self._patient: bool | None = None  # waits for other programs, as the connection is set
@@ -138,7 +138,7 @@ class Writer:
         else:
             self._over = then, batches, fault, lost
 
-    def _put_here(self, batches: Sequence[Batch]) -> Put | None:
+    def _put_here(self, batches: Sequence[Batch]) -> PutResult | None:
         """As `_put`; None where somebody else writes just now."""
         try:
             return self._put(batches, patient=False)
@@ -162,8 +162,8 @@ class Writer:
             self._took = max(took, self._took)
         return True
 
-    def settle(self) -> None:
-        """As `Database.settle`."""
+    def finish_commit(self) -> None:
+        """As `Database.finish_commit`."""
         if self._over:
             (then, batches, fault, lost), self._over = self._over, None
             then(batches, fault, lost)
@@ -177,7 +177,7 @@ class Writer:
                 self._loop.call_soon_threadsafe(self._done, batches, then, fault, lost)
 
     def _try(
-        self, batches: Sequence[Batch], put: Put | None
+        self, batches: Sequence[Batch], put: PutResult | None
     ) -> tuple[Exception | None, frozenset[int]]:
         """Ends a transaction, of which all rows are there if they were `put`; gives the logs of
         which it has nothing, or what kept it from being: that is told to the coordinator, which
@@ -191,7 +191,11 @@ class Writer:
         return None, lost
 
     def _done(
-        self, batches: Sequence[Batch], then: CommitCallback, fault: Exception | None, lost: frozenset[int]
+        self,
+        batches: Sequence[Batch],
+        then: CommitCallback,
+        fault: Exception | None,
+        lost: frozenset[int],
     ) -> None:
         self._lent = False
         then(batches, fault, lost)
@@ -202,7 +206,7 @@ class Writer:
         """
         return None if self._lent else self._db
 
-    def _put(self, batches: Sequence[Batch], patient: bool) -> Put:
+    def _put(self, batches: Sequence[Batch], patient: bool) -> PutResult:
         """Begins a transaction, and puts the rows of all into it. `patient`: it waits for
         another program's commit.
         """
@@ -217,7 +221,7 @@ class Writer:
 
     def _put_those_that_may(
         self, batches: Sequence[Batch], patient: bool, error: sqlite3.IntegrityError
-    ) -> Put:
+    ) -> PutResult:
         """Begins anew, with the rows of all logs but those that guessed wrong (`Batch.guessed`),
         or have an attempt that a worker reported otherwise (`Rare.settled`)."""
         try:
@@ -287,15 +291,15 @@ class Writer:
             opened = [row for batch in batches for row in batch.opened]
             results = [row for batch in batches for row in batch.results]
             ended = [row for batch in batches for row in batch.ended]
-            logs: dict[int, list[Batch]] = {}
+            shards: dict[int, list[Batch]] = {}
             for batch in batches:
-                logs.setdefault(batch.log, []).append(batch)
-            for of in logs.values():
+                shards.setdefault(batch.log, []).append(batch)
+            for of in shards.values():
                 self._put_lines(of, events)
         if opened:
-            self._lots(statements.OPENED, 8, opened)
+            self._batcher(statements.OPENED, 8, opened)
         if results:
-            self._lots(statements.RESULTS, 7, results)
+            self._batcher(statements.RESULTS, 7, results)
         if ended:
             self._put_ended(ended)
         for batch in batches:
@@ -308,21 +312,23 @@ class Writer:
         """Writes the lines of batches of one log, as one row; how many events it has then goes
         into `events`.
         """
-        log = batches[0].log
-        had = has = self.events.get(log, 0)
+        shard = batches[0].log
+        had = has = self.events.get(shard, 0)
         for batch in batches:
             if batch.born:
                 name, defined = batch.born
-                statements.define(self._db, [(log, defined)])
-                self._execute("INSERT OR IGNORE INTO shards(shard, name) VALUES(?, ?)", (log, name))
+                statements.define(self._db, [(shard, defined)])
+                self._execute(
+                    "INSERT OR IGNORE INTO shards(shard, name) VALUES(?, ?)", (shard, name)
+                )
             if batch.text:
                 if batch.first != has:
-                    raise Gap(f"shard {log}: event {batch.first} behind {has}")
+                    raise Gap(f"shard {shard}: event {batch.first} behind {has}")
                 has += batch.text.count("\n")
         if has > had:
             text = batch.text if len(batches) == 1 else "".join([batch.text for batch in batches])
-            self._execute(statements.LINES, (log, had, batch.at, text))
-            events[log] = has
+            self._execute(statements.LINES, (shard, had, batch.at, text))
+            events[shard] = has
 
     def _put_ended(self, rows: Sequence[Ended]) -> None:
         """Most of them ended in the same way, and at the same time."""
@@ -333,13 +339,13 @@ class Writer:
         for row in rows:
             ways.setdefault(row[:-1], []).append((row[-1],))
         for way, ids in ways.items():
-            self._lots(statements.ENDED, 1, ids, way)
+            self._batcher(statements.ENDED, 1, ids, way)
 
     def _put_rare(self, rare: Sequence[tuple[int, Rare]]) -> None:
         """Of the logs with these numbers."""
         has = {part for _, of in rare for part in of.parts}
         if "defined" in has:
-            statements.define(self._db, ((log, of.defined) for log, of in rare))
+            statements.define(self._db, ((shard, of.defined) for shard, of in rare))
         for part, (statement, rows_of) in statements.PARTS.items():
             if part == "work" and part in has:
                 for _, of in rare:
@@ -349,27 +355,31 @@ class Writer:
                 for _, of in rare:
                     statements.withdraw(self._db, of.withdrawn)
             elif part in has:
-                self._many(statement, [rows_of(log, of) for log, of in rare])
+                self._many(statement, [rows_of(shard, of) for shard, of in rare])
 
     def _many(self, statement: str, lists: Iterable[Sequence[Sequence[Any]]]) -> None:
         rows = [row for rows in lists for row in rows]
         if rows:
             self._db.executemany(statement, rows)
 
-    def _lots(
-        self, statement: str, width: int, rows: Sequence[Sequence[Any]], words: Sequence[Any] = ()
+    def _batcher(
+        self,
+        statement: str,
+        width: int,
+        rows: Sequence[Sequence[Any]],
+        parameters: Sequence[Any] = (),
     ) -> None:
         """As `_many`, by a statement for many rows: one for each row takes longer, and gives up
-        the interpreter's lock each time. `words` stand before them.
+        the interpreter's lock each time. `parameters` stand before them.
         """
-        if len(rows) == 1 and not words:
+        if len(rows) == 1 and not parameters:
             self._execute(statements.of_rows(statement, width, 1), rows[0])
             return
-        place = 0
-        while place < len(rows):
-            count = ROWS[bisect.bisect_right(ROWS, len(rows) - place) - 1]
+        first = 0
+        while first < len(rows):
+            count = ROWS[bisect.bisect_right(ROWS, len(rows) - first) - 1]
             self._execute(
                 statements.of_rows(statement, width, count),
-                [*words, *itertools.chain.from_iterable(rows[place : place + count])],
+                [*parameters, *itertools.chain.from_iterable(rows[first : first + count])],
             )
-            place += count
+            first += count
