@@ -1,7 +1,6 @@
-"""Short-lived connections of the operator command.
+"""Short-lived connections to a store's file or database, for operator commands.
 
-What the operators' command reads and writes: a store's file, or its database, beside the programs
-that have it open.
+Other programs may have the store open at the same time.
 """
 
 from __future__ import annotations
@@ -31,7 +30,7 @@ INSERT INTO operator_commands(key, command, value, at)
 SELECT key, ?, ?, ? FROM sagas WHERE id = ? RETURNING id
 """
 PRUNE_LOCK = 5_777_002
-"""The advisory lock of who lets ended sagas go."""
+"""The advisory lock of the program that deletes ended sagas."""
 STARTS = """
 SELECT key, saga, version, at FROM pending_starts i
 WHERE NOT EXISTS (SELECT 1 FROM nodes n WHERE n.node = i.node AND n.lease > now()) ORDER BY id
@@ -45,7 +44,7 @@ STARTS_OF = "SELECT key FROM pending_starts WHERE node IS NULL AND labels @> CAS
 
 
 class Trouble(Exception):
-    """What ends the command with a line on standard error."""
+    """An error that ends the command with one line on standard error."""
 
     def __init__(self, text: str, status: int = 1) -> None:
         super().__init__(text)
@@ -53,74 +52,80 @@ class Trouble(Exception):
 
 
 class Source(Protocol):
-    """A connection. Queries are such as SQLite and PostgreSQL both understand, with `?` for each
-    word.
+    """A connection. SQLite and PostgreSQL both understand its queries.
+
+    A query has a `?` for each parameter.
     """
 
     name: str
-    """The store's in messages: the file's, or the URL without its password."""
+    """The store's name for messages: the file, or the URL without its password."""
 
     def begin(self) -> None:
-        """All that is asked from now on is of one moment."""
+        """Begin a snapshot: all queries from now on see the same moment."""
 
     def end(self) -> None:
-        """Ends what was begun, if anything was."""
+        """End the snapshot, if one was begun."""
 
     def transaction(self) -> contextlib.AbstractContextManager[object]:
-        """What is written within is written as a whole, or not at all."""
+        """Write all that is written within the block, or nothing."""
 
     def now(self) -> float:
-        """The time by the store's own clock, in seconds."""
+        """Return the time by the store's own clock, in seconds."""
 
     def take_prune_lock(self) -> bool:
-        """Whether no other connection has said this and is not closed yet."""
+        """Take the lock of the only program that deletes sagas. Return False if it is taken."""
 
     def ask(self, text: str, *parameters: Any) -> list[Row]:
-        """The rows of a question, or of a write that gives some."""
+        """Return the rows of a query, or of a statement that returns some."""
 
     def changed(self, text: str, *parameters: Any) -> int:
-        """Writes; gives how many rows that changed."""
+        """Execute a statement, and return the number of rows that it changed."""
 
     def notify(self, message: str) -> None:
-        """Wakes the programs that have the store open, where that can be."""
+        """Wake the programs that have the store open, if the database can do that."""
 
     def is_driven(self) -> bool:
         """Whether a program has the store open."""
 
     def missing_saga_error(self, key: str) -> Trouble:
-        """What is said where no saga has the key."""
+        """Return the error for a key that no saga has."""
 
     def starts(self) -> list[Row]:
-        """What clients started and no node has taken: key, saga, version, and since when."""
+        """Return the untaken starts of clients: key, saga, version and time of each."""
 
     def waiting_starts(self, filter: Filter) -> list[str]:
-        """The keys of clients' starts that no node has taken, of a filter."""
+        """Return the keys of the untaken starts of clients that a filter selects."""
 
     def withdraw(self, key: str) -> bool:
-        """Takes a start of a client back. False where there is none, or a node has taken it."""
+        """Withdraw a client's start.
+
+        Return False if there is none, or if a node has taken it.
+        """
 
     def start_of(self, key: str) -> int | None:
-        """The id of the client's start that has the key, and no log yet."""
+        """Return the id of the client's start that has the key and no shard yet."""
 
     def add_request(self, saga: int, command: str, value: str) -> int | None:
-        """Leaves a request for the saga with this id, or for a client's start, as of an id below 0.
-        Gives the request's id; None where what is asked is gone."""
+        """Add a request for a saga, or for a client's start (the negative of its id).
+
+        Return the request's id; None if the saga or start is gone.
+        """
 
     def answer(self, number: int, saga: int) -> tuple[bool, str | None]:
-        """Whether a request that was left is there still, and its answer."""
+        """Return whether a request still exists, and its answer."""
 
     def drop_definitions(self) -> None:
-        """Deletes the sets of definitions of which no shard is left."""
+        """Delete the definitions that no shard has any more."""
 
     def drop_refused(self, before: float) -> int:
-        """Deletes the starts that were refused before this time; gives how many these were."""
+        """Delete the starts that were refused before this time, and return their number."""
 
     def close(self) -> None:
-        """Ends the connection."""
+        """Close the connection."""
 
 
 class FileSource:
-    """A SQLite file; `mode` is `ro` or `rw`."""
+    """A connection to a SQLite file; `mode` is `ro` or `rw`."""
 
     def __init__(self, name: str, mode: str) -> None:
         self.name, self.path = name, pathlib.Path(name)
@@ -151,7 +156,7 @@ class FileSource:
             version = self._version(mode)
         except sqlite3.Error as error:
             self.connection.close()
-            message = store_file.describe_error(error)  # also who only reads writes into `-shm`
+            message = store_file.describe_error(error)  # a reader also writes to `-shm`
             raise Trouble(
                 f"{name}: {message}"
                 if message != str(error)
@@ -174,7 +179,7 @@ class FileSource:
         return int(version)
 
     def _run(self, text: str, parameters: tuple[Any, ...] = ()) -> sqlite3.Cursor:
-        """Raises `StoreUnavailable` where the file cannot be read or written."""
+        """Execute a statement. Raises `StoreUnavailable` if the file cannot be used."""
         try:
             return self.connection.execute(text, cleaned(parameters))
         except sqlite3.Error as error:
@@ -220,7 +225,7 @@ class FileSource:
         return self._run(text, parameters).rowcount
 
     def notify(self, message: str) -> None:
-        """The program looks by itself."""
+        """Do nothing: the program looks for changes of the file by itself."""
 
     def is_driven(self) -> bool:
         return store_file.is_held(self.path)
@@ -262,7 +267,7 @@ class FileSource:
 
 
 class DatabaseSource:
-    """A PostgreSQL database."""
+    """A connection to a PostgreSQL database."""
 
     def __init__(self, url: str, mode: str) -> None:
         try:
@@ -349,7 +354,7 @@ class DatabaseSource:
 
     def waiting_starts(self, filter: Filter) -> list[str]:
         text = STARTS_OF if filter.saga is None else f"{STARTS_OF} AND saga = ?"
-        rows = self.ask(text, json.dumps(dict(filter.labels)), *filter.saga_words)
+        rows = self.ask(text, json.dumps(dict(filter.labels)), *filter.saga_parameters)
         return [key for (key,) in rows]
 
     def withdraw(self, key: str) -> bool:
@@ -387,7 +392,7 @@ class DatabaseSource:
 
 
 def connect(name: str, mode: str = "ro") -> Source:
-    """A connection to a store. Raises `Trouble`, `StoreUnavailable`, `InvalidStore`."""
+    """Connect to a store. Raises `Trouble`, `StoreUnavailable`, `InvalidStore`."""
     factory.check_name(name)
     if factory.is_url(name):
         return DatabaseSource(name, mode)
@@ -396,7 +401,7 @@ def connect(name: str, mode: str = "ro") -> Source:
 
 @contextlib.contextmanager
 def writing(name: str) -> Iterator[Source]:
-    """A connection for a short write beside the programs."""
+    """Connect for a short write, in parallel with the programs that have the store open."""
     connection = connect(name, "rw")
     try:
         yield connection

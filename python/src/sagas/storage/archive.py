@@ -44,21 +44,27 @@ NAMES = {
 
 
 def write(connection: Source, shard: int, folder: pathlib.Path) -> pathlib.Path | None:
-    """Writes a log into a folder of its own, named as the log is, and syncs it; gives that
-    folder. One that is there is written anew. Where the store has no such log any more, nothing
-    is written, and what is there stays: another program has deleted the log.
+    """Write a shard into its own subfolder, and sync it.
 
-    - `shard`, `definition-00.toml` ..: what `sagas audit log definition-*.toml` reads;
-      `about.json` has what it said when the log was closed;
-    - `sagas.jsonl`: a line a saga: its number in the log, key, the key of its parent, input,
-      times, deadline, end, results, and what was asked of it;
-    - `plans.jsonl`: a line a plan that was adopted: the case and the answer, with its
-      certificate, as `sagas check` reads them.
+    The subfolder has the name of the shard. An existing one is replaced. If the store no longer has
+    the shard, nothing is written, and an existing subfolder stays: another program has deleted the
+    shard.
 
-    Raises `OSError`; then what is there is no whole folder of that name.
+    - `log`, `definition-00.toml` and so on: what `sagas audit log definition-*.toml` reads.
+      `about.json` has the verdict of the audit when the shard was closed.
+    - `sagas.jsonl`: one line for each saga: its number in the shard, its key, the key of its
+      parent, input, times, deadline, outcome, results and requests.
+    - `plans.jsonl`: one line for each adopted plan: the case and the answer with its certificate,
+      as `sagas check` reads them.
+
+    Returns:
+        The subfolder, or None if nothing was written.
+
+    Raises:
+        OSError: The subfolder could not be written. Then no complete one has that name.
     """
     folder.mkdir(parents=True, exist_ok=True)
-    with _locked(folder) as held:  # before it is read: what another program wrote is not undone
+    with _locked(folder) as held:  # before the read, so that no older state overwrites a newer one
         read = _read(connection, shard)
         if read is None:
             return None
@@ -76,7 +82,7 @@ def write(connection: Source, shard: int, folder: pathlib.Path) -> pathlib.Path 
 
 
 def _read(connection: Source, shard: int) -> tuple[str, dict[str, str]] | None:
-    """A log's name and its files, of one moment; None where it is not there."""
+    """Return a shard's name and its files, of one moment; None if there is no such shard."""
     connection.begin()
     try:
         rows = connection.ask(SHARD, shard)
@@ -130,14 +136,14 @@ def _sagas(connection: Source, shard: int, rows: list[Row]) -> Iterator[Json]:
             "note": note,
             "labels": queries.labels_of(labels),
         }
-        parsed = None if end is None else json.loads(end)  # of a damaged shard, it may be open
+        parsed = None if end is None else json.loads(end)  # an open saga of a damaged shard
         yield fields | {"end": parsed} | {
             part: by_saga.get(id, []) for part, by_saga in details.items()
         }
 
 
 def _parsed(fields: Json) -> Json:
-    """Values that are kept as JSON."""
+    """Parse the values that are stored as JSON."""
     return {
         name: json.loads(value) if name in ("value", "answer") and value is not None else value
         for name, value in fields.items()
@@ -159,7 +165,7 @@ def _plans(lines: str, rows: list[Row], texts: list[str]) -> Iterator[Json]:
 
 
 def _plans_of(lines: str, rows: list[Row], texts: list[str]) -> str:
-    """The plans; none of a log that cannot be read, as of a damaged shard."""
+    """Return the plans; none of a log that cannot be read, as of a damaged shard."""
     try:
         return _jsonl(_plans(lines, rows, texts))
     except (ValueError, LookupError, TypeError):
@@ -172,13 +178,13 @@ def _jsonl(rows: Iterator[Json]) -> str:
 
 @contextmanager
 def _locked(folder: pathlib.Path) -> Iterator[int]:
-    """One program at a time writes into a folder."""
+    """Lock a folder: one program at a time writes into it."""
     held = os.open(folder, os.O_RDONLY | os.O_DIRECTORY | os.O_CLOEXEC)
     try:
         fcntl.flock(held, fcntl.LOCK_EX)
         yield held
     finally:
-        fcntl.flock(held, fcntl.LOCK_UN)  # also where a process that was just forked still has it
+        fcntl.flock(held, fcntl.LOCK_UN)  # a forked process may still have it open
         os.close(held)
 
 

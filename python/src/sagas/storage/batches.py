@@ -1,8 +1,9 @@
-"""Commands to many sagas, for example all of a filter: at most 1,000 a transaction.
+"""Commands to many sagas, for example to all of a filter: at most 1,000 per transaction.
 
-A command is left in the store for each saga, as for one (`operator_requests`): it is carried out by
-the program that drives the saga, also by a later one. So a batch that is interrupted has done its
-last transaction or has not begun the next one. The same abort again goes on with the rest.
+A command is stored for each saga, as a command to one saga is (`operator_requests`). The program
+that drives the saga executes it, or a later program does. If a batch is interrupted, its last
+transaction is complete, or the next one has not begun. The same abort can be repeated, and
+continues with the rest.
 """
 
 from __future__ import annotations
@@ -22,13 +23,13 @@ from sagas.storage.queries import PHASES, RESOLVABLE, RESOLVE, UNDOES_CHILD, UND
 
 T = TypeVar("T")
 MOST = 1000
-"""Sagas of one transaction."""
+"""Maximum number of sagas per transaction."""
 LOOK = 0.02, 0.25
-"""Seconds between two looks for answers: at first, and at most."""
+"""Seconds between two polls for answers: the first pause, and the longest."""
 ABORTABLE = f"""{PHASES["open"]} AND NOT {UNDOES_CHILD} AND NOT EXISTS (
 SELECT 1 FROM operator_commands r
 WHERE r.key = s.key AND r.command = 'abort' AND (r.answer IS NULL OR r.answer = 'true'))"""
-"""The sagas that are open, that undo no child, and of which no abort was asked by a command."""
+"""The sagas that are open, that undo no child, and that no command has aborted."""
 UNDOING = f"{PHASES['open']} AND {UNDOES_CHILD}"
 TO_RESOLVE = f"{RESOLVABLE} AND note IS NULL"
 NOTED = """
@@ -38,15 +39,15 @@ INSERT INTO operator_commands(key, command, value, at, answer) VALUES(?, 'resolv
 
 @dataclasses.dataclass(slots=True)
 class BatchResult:
-    """What a command to many sagas came to.
+    """The result of a command to many sagas.
 
     Attributes:
-        done: The keys of the sagas for which it is carried out.
+        done: The keys of the sagas for which it is executed.
         refused: Why it was refused, by key.
-        waiting: The keys of those that have no answer yet: it is carried out once their program
-            comes to it.
-        undoing: The keys of those that an abort left out, because each undoes a child.
-        warnings: What may be misspelt, if the filter selects nothing: labels that no saga has.
+        waiting: The keys of the sagas without an answer: their program will execute it later.
+        undoing: The keys of the sagas that an abort left out, because each undoes a child.
+        warnings: What may be misspelled, if the filter selects nothing: labels that no saga
+            has.
     """
 
     done: list[str] = dataclasses.field(default_factory=list)
@@ -57,8 +58,10 @@ class BatchResult:
 
 
 def resolve_one(connection: Source, key: str, note: str, by: str | None = None) -> bool:
-    """Mark one saga as looked after, in a transaction of the caller. False where it is not one
-    that waits for this."""
+    """Mark one saga as resolved, in a transaction of the caller.
+
+    Return False if the saga is not one that waits for this.
+    """
     if not connection.changed(RESOLVE, note, key):
         return False
     connection.changed(NOTED, key, json.dumps({"by": by, "note": clean(note)}), connection.now())
@@ -66,7 +69,7 @@ def resolve_one(connection: Source, key: str, note: str, by: str | None = None) 
 
 
 class Batch:
-    """A command to the sagas of a filter, over a connection of its own. For a thread."""
+    """A command to the sagas of a filter, over its own connection. For a thread."""
 
     def __init__(
         self, connection: Source, filter: Filter, stop: threading.Event | None = None
@@ -75,36 +78,36 @@ class Batch:
         self._result = BatchResult()
 
     def abort_count(self) -> int:
-        """How many sagas `abort` is for now."""
+        """Return how many sagas `abort` would abort now."""
         waiting = len(self._connection.waiting_starts(self._filter))
         return self._count(ABORTABLE, UNDOING_KEYS) + waiting
 
     def undoing_count(self) -> int:
-        """How many sagas `abort` leaves out now, because they undo children."""
+        """Return how many sagas `abort` would leave out, because they undo children."""
         return self._count(UNDOING, UNDOING_KEYS)
 
     def resolve_count(self) -> int:
-        """How many sagas `resolve` is for now."""
+        """Return how many sagas `resolve` would mark now."""
         return self._count(TO_RESOLVE)
 
     def abort(
-        self, value_to_store: dict[str, Any] | None, timeout: float | None = None
+        self, command: dict[str, Any] | None, timeout: float | None = None
     ) -> BatchResult:
-        """Ask to abort them, and wait for the answers.
+        """Request to abort the sagas, and wait for the answers.
 
         Args:
-            told: What is kept of the command.
-            timeout: Seconds to wait at most for the answers; None: as long as a program has the
-                store.
+            command: What is stored of the command.
+            timeout: Maximum number of seconds to wait for the answers. With None, wait as long
+                as a program has the store open.
         """
-        value, after, requests = json.dumps(value_to_store), -1, dict[int, str]()
+        value, after, requests = json.dumps(command), -1, dict[int, str]()
         for key in self._connection.waiting_starts(self._filter):
             if self._connection.withdraw(key):
                 self._result.done.append(key)
         until = None if timeout is None else time.monotonic() + timeout
         while not self._stop.is_set():
             with self._connection.transaction():
-                rows = self._lot(ABORTABLE, after, UNDOING_KEYS)
+                rows = self._next_rows(ABORTABLE, after, UNDOING_KEYS)
                 left = [(self._connection.add_request(id, "abort", value), key) for id, key in rows]
             if not rows:
                 break
@@ -116,23 +119,23 @@ class Batch:
         return self._result
 
     def _undoing(self) -> Iterator[str]:
-        """The keys of the sagas that `abort` leaves out."""
+        """Return the keys of the sagas that `abort` leaves out."""
         after = -1
-        while not self._stop.is_set() and (rows := self._lot(UNDOING, after, UNDOING_KEYS)):
+        while not self._stop.is_set() and (rows := self._next_rows(UNDOING, after, UNDOING_KEYS)):
             yield from (key for _, key in rows)
             after = rows[-1][0]
 
     def ask(self, command: str, values: Sequence[tuple[int, Any]], timeout: float) -> list[Any]:
-        """Ask something of sagas: of all of them first, and then wait for the answers.
+        """Send a request to each of some sagas, and then wait for all answers.
 
         Args:
-            what: The command.
-            told: The ids of the sagas, each with what is kept of the command.
-            timeout: Seconds to wait at most for all answers.
+            command: The command.
+            values: The ids of the sagas, each with what is stored of the command.
+            timeout: Maximum number of seconds to wait for all answers.
 
         Returns:
-            The answers, in the same order: None where none has come yet, False where the saga is
-            gone.
+            The answers, in the same order: None if there is no answer yet, and False if the
+                saga does not exist any more.
         """
         answers: list[Any] = [None] * len(values)
         requests_of_batches: list[dict[int, int]] = []
@@ -152,15 +155,15 @@ class Batch:
         return answers
 
     def resolve(self, note: str, by: str | None) -> BatchResult:
-        """Mark them as looked after.
+        """Mark the sagas as resolved.
 
         Args:
             note: What was done about them.
-            by: Who did it.
+            by: The operator who did it.
         """
         while not self._stop.is_set():
             with self._connection.transaction():
-                rows = self._lot(TO_RESOLVE, -1)
+                rows = self._next_rows(TO_RESOLVE, -1)
                 for _, key in rows:
                     resolve_one(self._connection, key, note, by)
             if not rows:
@@ -173,8 +176,8 @@ class Batch:
         query = f"SELECT count(*) FROM sagas s WHERE {condition} AND {matches}"
         return int(self._connection.ask(query, *condition_parameters, *parameters)[0][0])
 
-    def _lot(self, condition: str, after: int, *condition_parameters: Any) -> Sequence[Row]:
-        """The next sagas of the filter. `condition_parameters`: the words of the condition."""
+    def _next_rows(self, condition: str, after: int, *condition_parameters: Any) -> Sequence[Row]:
+        """Return the next sagas of the filter. `condition_parameters`: those of the condition."""
         matches, parameters = self._filter.where()
         query = f"""SELECT id, key FROM sagas s WHERE {condition} AND {matches} AND id > ?
         ORDER BY id LIMIT {MOST}"""
@@ -183,10 +186,12 @@ class Batch:
     def _await(
         self, requests: dict[int, T], until: float | None, answered: Callable[[T, Any], None]
     ) -> dict[int, T]:
-        """Wait for answers; return what has none, as far as nobody has the store, or in time.
+        """Wait for answers, and return the requests that have none.
 
-        Of a request that is gone, the answer is False."""
-        pause, most = LOOK
+        It stops when no program has the store open, and at the deadline. If a request does not
+        exist any more, its answer is False.
+        """
+        pause, longest = LOOK
         while requests and not self._stop.is_set():
             marks = ", ".join("?" * len(requests))
             query = f"SELECT id, answer FROM operator_commands WHERE id IN ({marks})"
@@ -199,7 +204,7 @@ class Batch:
             if not requests or is_late or not self._connection.is_driven():
                 break
             self._stop.wait(pause)
-            pause = min(most, 2 * pause)
+            pause = min(longest, 2 * pause)
         return requests
 
     def _answered(self, key: str, answer: Any) -> None:

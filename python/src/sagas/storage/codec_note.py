@@ -1,7 +1,7 @@
 """The note in a store that its values are encoded.
 
-A program with a codec makes it when it opens the store. From then on the store is neither opened
-nor written without one.
+A program with a codec writes the note when it opens the store. From then on, no program without a
+codec opens the store or writes to it.
 """
 
 from __future__ import annotations
@@ -19,7 +19,7 @@ NOTE = "INSERT INTO secrets(name, value) VALUES('codec', 'noted') ON CONFLICT DO
 
 
 def missing(where: str) -> MissingCodec:
-    """Return what a program without a codec meets."""
+    """Return the error for a program without a codec."""
     return MissingCodec(
         f"{where}: the values of this store are encoded, and this program has no codec. Give it "
         "codec=, or --app MODULE:NAME to a command"
@@ -27,7 +27,7 @@ def missing(where: str) -> MissingCodec:
 
 
 def check(connection: Source, payloads: Payloads) -> None:
-    """Check that a value may be written over a connection.
+    """Check that this program may write a value over a connection.
 
     Raises:
         MissingCodec: The store's values are encoded, and this program has no codec.

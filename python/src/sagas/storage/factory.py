@@ -1,4 +1,4 @@
-"""The database that a store's name means."""
+"""The database that a store's name selects."""
 
 from __future__ import annotations
 
@@ -21,17 +21,19 @@ NO_FILE = re.compile(
     r"|(?:host|hostaddr|port|dbname|user|password|passfile|service)\s*=|\w+\s*=.*\s\w+\s*=",
     re.IGNORECASE | re.DOTALL,
 )
-"""What is meant for a database, and is no URL of one."""
+"""Names that are meant for a database, and are not a valid URL of one."""
 
 
 def is_url(name: str) -> bool:
-    """Whether it names a PostgreSQL database, and not a file."""
+    """Whether a name is that of a PostgreSQL database, and not of a file."""
     return name.startswith(SCHEMES)
 
 
 def check_name(name: str) -> None:
-    """Raises `InvalidStore`, with what to give instead, where it is neither a file's nor the URL
-    of a PostgreSQL database. What may have a password is not repeated.
+    """Check that a name is the path of a file, or the URL of a PostgreSQL database.
+
+    Raises `InvalidStore`, which says what to write instead. It repeats no text that may have a
+    password.
     """
     if is_url(name):
         return
@@ -54,8 +56,8 @@ def check_name(name: str) -> None:
 
 
 def missing(error: ImportError) -> InvalidStore:
-    """What to do where PostgreSQL's client is not installed."""
-    if error.name is None:  # psycopg is there, and finds no libpq
+    """Return the error for a missing PostgreSQL client, with what to install."""
+    if error.name is None:  # psycopg is installed, but does not find libpq
         return InvalidStore(
             f"PostgreSQL: {str(error).splitlines()[0]} psycopg needs libpq: apt-get install "
             "libpq5, or pip install 'psycopg[binary]'"
@@ -75,10 +77,12 @@ def make(
     transactions: Callable[..., Any],
     record: str | None = None,
 ) -> Database:
-    """The database of that name, not yet opened. `transactions` and `record`: as of `PostgreSQL`;
-    without the latter the environment says it.
+    """Return the database of that name, not yet opened.
 
-    Raises `InvalidStore` where what it needs is not installed, and `DefinitionError`.
+    `transactions` and `record` are those of `PostgreSQL`. Without `record`, the environment names
+    the file.
+
+    Raises `InvalidStore` if something that it needs is not installed, and `DefinitionError`.
     """
     check_name(name)
     if not is_url(name):

@@ -1,6 +1,6 @@
-"""One transaction for all that is asked while the database is at work on the one before.
+"""One statement for all requests that arrive while the database executes the one before.
 
-Callers that ask at the same time share a transaction, as those of a commit do.
+Concurrent callers share a transaction, as the batches of a commit do.
 """
 
 from __future__ import annotations
@@ -17,7 +17,10 @@ Answer = TypeVar("Answer")
 
 
 class Batcher(Generic[Item, Answer]):
-    """Asks for lots, one after the other. The items of a lot are of one group, or of none."""
+    """Sends requests in batches, one batch after the other.
+
+    The items of a batch have the same group, or no group.
+    """
 
     def __init__(
         self,
@@ -26,20 +29,21 @@ class Batcher(Generic[Item, Answer]):
         dropped: Callable[[Item, Answer], object],
         group: Callable[[Item], Hashable] = lambda _: None,
     ) -> None:
-        """Make one.
+        """Create a batcher.
 
         Args:
-            ask: Gives the answers to a lot, in its order.
-            most: Maximum number in a lot.
-            dropped: Called with an item and its answer if its caller was cancelled meanwhile.
-            group: Gives the group of an item, or None (default: no item has a group).
+            ask: Returns the answers to a batch, in its order.
+            most: Maximum number of items in a batch.
+            dropped: Called with an item and its answer if its caller was cancelled before the
+                answer.
+            group: Returns the group of an item, or None (default: no item has a group).
         """
         self._ask, self._most, self._dropped, self._group = ask, most, dropped, group
         self._waiting: deque[tuple[Item, asyncio.Future[Answer]]] = deque()
         self._job: asyncio.Task[None] | None = None
 
     async def ask(self, item: Item) -> Answer:
-        """Return the answer. Raises what the statement of its lot raises."""
+        """Return the answer to an item. Raises what the statement of its batch raises."""
         loop = asyncio.get_running_loop()
         future: asyncio.Future[Answer] = loop.create_future()
         self._waiting.append((item, future))
@@ -53,8 +57,9 @@ class Batcher(Generic[Item, Answer]):
             raise
 
     def _next(self) -> list[tuple[Item, asyncio.Future[Answer]]]:
-        """The next lot: it has what has waited longest, and what may be asked with that. What was
-        cancelled meanwhile is not asked; where all was, the lot is empty.
+        """Return the next batch: the item that has waited longest, and those that fit its group.
+
+        Cancelled items are left out. If all are cancelled, the batch is empty.
         """
         batch: list[tuple[Item, asyncio.Future[Answer]]] = []
         left: deque[tuple[Item, asyncio.Future[Answer]]] = deque()
