@@ -90,9 +90,7 @@ class Batch:
         """Return how many sagas `resolve` would mark now."""
         return self._count(TO_RESOLVE)
 
-    def abort(
-        self, command: dict[str, Any] | None, timeout: float | None = None
-    ) -> BatchResult:
+    def abort(self, command: dict[str, Any] | None, timeout: float | None = None) -> BatchResult:
         """Request to abort the sagas, and wait for the answers.
 
         Args:

@@ -235,7 +235,7 @@ def for_postgresql(query: str, mark: str = "%s") -> str:
     """Return a query for psycopg and PostgreSQL, with a mark for each parameter."""
     query = query.replace(IN_OPEN_LOGS, "").replace("json_group_object", "json_object_agg")
     query = query.replace(SORTED_AT, "s.at").replace("instr(", "strpos(")
-    return query.replace("?", mark).replace(ERROR, ERROR_IN_POSTGRESQL)  # that text has ? of its own
+    return query.replace("?", mark).replace(ERROR, ERROR_IN_POSTGRESQL)  # it contains ?, too
 
 
 def labels_of(text: str | None) -> dict[str, str]:

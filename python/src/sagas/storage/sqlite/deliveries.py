@@ -1,4 +1,4 @@
-"""Deliveries of webhooks in the file: each change goes into the next transaction."""
+"""Deliveries of webhooks in a file: each change goes into the next transaction."""
 
 from __future__ import annotations
 
@@ -15,10 +15,10 @@ VALUES(?, ?, ?, ?, ?, ?, ?)
 
 
 class SqliteDeliveries:
-    """As `Deliveries`, of the only program. `write` puts a batch into the next transaction."""
+    """See `Deliveries`. This is the only program that has the file open."""
 
     def begin(self, write: Callable[[Batch], Awaitable[None]], clock: Callable[[], float]) -> None:
-        """`write`: puts a batch into the next transaction."""
+        """Start the use of the table. `write` adds a batch to the next transaction."""
         self._write, self._clock = write, clock
 
     async def change(self, text: str, **parameters: Any) -> list[tuple[Any, ...]]:

@@ -1,7 +1,6 @@
-"""External attempts in the file: claims and reports of many in one go.
+"""External attempts in a store's file.
 
-Work done elsewhere, in a store's file: what is asked goes into the next transaction of the
-program that has it open.
+Claims and reports go into the next transaction of the program that has the file open.
 """
 
 from __future__ import annotations
@@ -33,7 +32,7 @@ from sagas.storage.sqlite.deliveries import SqliteDeliveries
 from sagas.storage.sqlite.statements import SPANS
 
 MOST = 200
-"""Claims and reports in one transaction."""
+"""Maximum number of claims and reports in one transaction."""
 HELD = f"SELECT count(*) FROM external_attempts WHERE task = ? AND {OPEN} AND until > ?"
 BOUND = f"""
 SELECT concurrency FROM external_attempts
@@ -76,7 +75,10 @@ FROM external_attempts WHERE attempt = ?
 
 
 def _answers(db: sqlite3.Connection, requests: Sequence[ExternalRequest], now: float) -> list[Any]:
-    """Keeps reports, and then claims: by then what was reported is not counted as held."""
+    """Store reports, and then claim attempts.
+
+    By then a reported attempt does not count as leased.
+    """
     claims: dict[tuple[str, ...], list[ClaimRequest]] = {}
     shards_of_reports: list[int | None] = []
     for request in requests:
@@ -96,8 +98,9 @@ def _answers(db: sqlite3.Connection, requests: Sequence[ExternalRequest], now: f
 
 
 def _reported(db: sqlite3.Connection, report: ReportRequest) -> int | None:
-    """Keeps a report; gives the attempt's shard, or None if it does not count."""
-    if not db.execute(REPORT, report._asdict()).rowcount:  # `RETURNING` would make a table for it
+    """Store a report. Return the attempt's shard, or None if the report does not count."""
+    # `RETURNING` would create a temporary table
+    if not db.execute(REPORT, report._asdict()).rowcount:
         return None
     ((shard,),) = db.execute(SHARD, (report.attempt,)).fetchall()
     return int(shard)
@@ -106,8 +109,9 @@ def _reported(db: sqlite3.Connection, report: ReportRequest) -> int | None:
 def _claimed(
     db: sqlite3.Connection, tasks: Sequence[str], claims: Sequence[ClaimRequest], now: float
 ) -> list[list[Claim]]:
-    """The leases of each claim of these tasks: those that came first have those that have waited
-    longest.
+    """Return the leases of each claim of these tasks.
+
+    The claims that came first have the attempts that have waited longest.
     """
     most = sum(claim.most for claim in claims)
     candidates: list[tuple[Any, ...]] = []
@@ -125,7 +129,7 @@ def _claimed(
 
 
 def _leased(db: sqlite3.Connection, claim: ClaimRequest, row: tuple[Any, ...], now: float) -> Claim:
-    """Leases what was found."""
+    """Lease the attempt of a row."""
     _, attempt, lease, given_back, id, step, action, cancelled, *earlier_lease = row
     count, earlier_worker, since, until = earlier_lease
     number = max(int(now * 1000), (lease or 0) + 1)
@@ -138,8 +142,7 @@ def _leased(db: sqlite3.Connection, claim: ClaimRequest, row: tuple[Any, ...], n
 
 
 class SqliteExternalAttempts:
-    """As `ExternalAttempts`, of the only program. `write` puts a batch into the next
-    transaction."""
+    """See `ExternalAttempts`. This is the only program that has the file open."""
 
     def __init__(self, rows: Callable[..., list[tuple[Any, ...]]]) -> None:
         self._rows = rows
@@ -156,7 +159,7 @@ class SqliteExternalAttempts:
         self.deliveries.begin(write, clock)
 
     async def _within(self, work: Callable[[sqlite3.Connection], Any]) -> Any:
-        """What this gives, of a transaction that is in the file."""
+        """Return the result of a function, once its transaction is in the file."""
         batch = Batch(-1, self.clock())
         result: list[Any] = []
 
@@ -175,7 +178,7 @@ class SqliteExternalAttempts:
         return claims
 
     async def _ask_all(self, requests: Sequence[ExternalRequest]) -> list[Any]:
-        """The answers to claims, each with its rows, and to reports, each with its shard."""
+        """Return the claims' leases and the reports' shards."""
         tasks = {
             task
             for request in requests
@@ -194,7 +197,7 @@ class SqliteExternalAttempts:
             self._unwanted(answer)
 
     def _has_any(self, tasks: Iterable[str]) -> bool:
-        """Whether something waits for a worker: else nothing need be written."""
+        """Whether an attempt waits for a worker. Otherwise nothing need be written."""
         now = self.clock()
         return any(self._rows(CLAIMABLE, task, now, 1) for task in tasks)
 
@@ -238,4 +241,4 @@ class SqliteExternalAttempts:
         return [QueueState(*row) for row in self._rows(WAITING, self.clock())]
 
     async def notify_owners(self) -> None:
-        """There is nobody else."""
+        """Do nothing: there are no other nodes."""

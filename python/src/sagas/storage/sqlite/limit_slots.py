@@ -1,7 +1,6 @@
-"""Slots of rate limits.
+"""Slots of rate limits in a store's file.
 
-Places of steps with a rate, in a store's file, so that a program that starts again does not begin
-to count again.
+They are stored, so that a restarted program does not begin to count again.
 """
 
 from __future__ import annotations
@@ -23,7 +22,7 @@ SOON = (
 
 
 def free(limit: int, want: int, have: Sequence[int]) -> list[int]:
-    """The places of a limit that nobody has: one program is the whole fleet of a file."""
+    """Return the free slots of a limit. One program is the only node of a file."""
     taken = set(have)
     return [slot for slot in range(1, limit + 1) if slot not in taken][:want]
 
@@ -36,7 +35,11 @@ def take(
     want: int,
     now: float,
 ) -> tuple[int, float]:
-    """How many calls may begin now, and in how many seconds more may. For a thread."""
+    """Take slots for calls that begin now. For a thread.
+
+    Returns:
+        The number of calls that may begin now, and the seconds until more may begin.
+    """
     calls, seconds = rate
     try:
         with contextlib.closing(connect()) as db:

@@ -47,7 +47,9 @@ SETTLED = """
 UPDATE external_attempts SET outcome = 'settled', value = NULL,
 shard = CASE WHEN outcome IS NOT 'succeeded' OR ?2 = 'succeeded' THEN shard END WHERE attempt = ?1
 """
-"""A worker's *done* gives way to nothing else: its shard would be null, which is refused."""
+"""If a worker reported a success, and the commit says otherwise, the shard is null, which is
+refused.
+"""
 DONE = "SELECT 1 FROM external_attempts WHERE attempt = ? AND outcome = 'succeeded'"
 
 HELD = "INSERT OR REPLACE INTO suspensions VALUES(?, ?, ?, ?, ?, ?, ?, ?, ?)"
@@ -61,7 +63,7 @@ WHERE id = ? AND step = ? AND action = 'run' AND number = 0 AND reason = 'early_
 CLOSED = "UPDATE shards SET closed = ?, audit = ? WHERE shard = ?"
 SET_ASIDE = "UPDATE shards SET audit = ? WHERE shard = ? AND closed = 0"
 RowsOf = Callable[[int, Rare], Sequence[Sequence[Any]]]
-"""The words of a part of a batch, by the number of its log."""
+"""The parameters of a part of a batch, by the number of its shard."""
 PARTS: dict[str, tuple[str, RowsOf]] = {
     "held": (HELD, lambda shard, rare: [cleaned(row) for row in rare.held]),
     "freed": (FREED, lambda shard, rare: rare.freed),
@@ -87,12 +89,14 @@ PARTS: dict[str, tuple[str, RowsOf]] = {
         lambda shard, rare: [(*rare.set_aside, shard)] if rare.set_aside else (),
     ),
 }
-"""The statement of each part of a batch, in their order. `work` and `withdrawn` are done by
-themselves; definitions are written before all (`define`)."""
+"""The statement of each part of a batch, in order.
+
+`work` and `withdrawn` are handled separately. Definitions are written before all others (`define`).
+"""
 
 
 def define(db: sqlite3.Connection, shards: Iterable[tuple[int, Sequence[Defined]]]) -> None:
-    """Writes definitions of logs, as far as they are not there."""
+    """Insert the definitions of shards that are not stored yet."""
     rows = [(shard, *row) for shard, defined in shards for row in defined]
     if rows:
         db.executemany(DEFINITION, [row[2:] for row in rows])
@@ -100,13 +104,13 @@ def define(db: sqlite3.Connection, shards: Iterable[tuple[int, Sequence[Defined]
 
 
 def withdraw(db: sqlite3.Connection, withdrawals: Iterable[Withdrawal]) -> None:
-    """Withdraws attempts, as far as no worker has them."""
+    """Withdraw the attempts that no worker has."""
     for withdrawal in withdrawals:
         withdrawal.is_done = db.execute(WITHDRAWN, (withdrawal.attempt,)).rowcount > 0
 
 
 @functools.lru_cache(maxsize=256)
 def of_rows(statement: str, width: int, count: int) -> str:
-    """A statement with marks for so many rows."""
+    """Return a statement with marks for this number of rows."""
     row = "?" if width == 1 else f"({', '.join('?' * width)})"
     return statement.format(", ".join([row] * count))

@@ -1,4 +1,4 @@
-"""The file, its lock and its reads."""
+"""A store in a file: its lock and its reads."""
 
 from __future__ import annotations
 
@@ -50,13 +50,14 @@ from sagas.storage.sqlite.store_file import (
 )
 from sagas.storage.sqlite.writer import Writer
 
-LOOK = 0.2  # seconds: another program's commit makes no event here
+LOOK = 0.2  # seconds: there is no notification of another program's commit
 MOST_LOOK = 30.0
 
 
 def migrate_file(path: str) -> str:
-    """Migrates a file that no program has open; says from which version. Raises `StoreLocked`,
-    `StoreSchemaTooNew`, `InvalidStore`, `StoreUnavailable`.
+    """Migrate a file that no program has open, and return a text with both versions.
+
+    Raises `StoreLocked`, `StoreSchemaTooNew`, `InvalidStore`, `StoreUnavailable`.
     """
     if not os.path.isfile(path):
         raise InvalidStore(f"{path}: it is not there")
@@ -72,8 +73,10 @@ def migrate_file(path: str) -> str:
 
 
 class Sqlite(queries.Questions, queries.Rows):
-    """The file and its lock. Short reads happen in the loop, long ones in a thread; a `Writer`
-    writes."""
+    """The file and its lock.
+
+    Short reads happen in the loop, and long ones in a thread. A `Writer` writes.
+    """
 
     shared = False
     commit_seconds = 0.0
@@ -83,36 +86,34 @@ class Sqlite(queries.Questions, queries.Rows):
     record: RecordFile | None = None
 
     def __init__(self, path: str | os.PathLike[str], encodes: bool = False) -> None:
-        """`encodes`: whether there is a codec."""
+        """Create a store that is not open yet. `encodes`: whether there is a codec."""
         self.path, self._encodes = os.fspath(path), encodes
         self.file = os.path.abspath(path)
         self._lock: int | None = None
-        self._there: dict[str, tuple[int, int]] = {}  # its files, as they were at the opening
+        self._identities: dict[str, tuple[int, int]] = {}  # of its files when it was opened
         self._timer: asyncio.Handle | None = None
         self._faults = threading.Lock()
         self._next_log = 0
         self.external: ExternalAttempts = SqliteExternalAttempts(self.rows)
         self._writer = writer = Writer(self._check_files)
-        self.commit, self.finish_commit = (
-            writer.commit,
-            writer.finish_commit,
-        )
+        self.commit, self.finish_commit = writer.commit, writer.finish_commit
 
     @property
     def commits(self) -> int:
-        """How many transactions were written."""
+        """The number of transactions that were written."""
         return self._writer.commits
 
     # -- opening and closing
 
     async def open(self, check_functions: FunctionCheck) -> list[LogRow]:
-        """Takes the lock and makes the tables. Raises `StoreLocked`, `StoreUnavailable`,
-        `InvalidStore` or `MissingStep`.
+        """Take the lock and create the tables.
+
+        Raises `StoreLocked`, `StoreUnavailable`, `InvalidStore` or `MissingStep`.
         """
         self._take_lock()
         self._make()
         lengthen(self._db)
-        self._there = {name: file_identity(name) for name in (self.file, f"{self.file}-wal")}
+        self._identities = {name: file_identity(name) for name in (self.file, f"{self.file}-wal")}
         self._writer.open(self._db)
         self._note_codec()
         self._next_log = int(self.rows("SELECT coalesce(max(shard) + 1, 0) FROM shards")[0][0])
@@ -134,7 +135,7 @@ class Sqlite(queries.Questions, queries.Rows):
         return rows
 
     def _make(self) -> int:
-        """Makes the tables; returns their version before."""
+        """Create the tables, and return their version before."""
         try:
             self._db = connect(self.file)
             self._db.execute("PRAGMA journal_mode=WAL")
@@ -151,8 +152,10 @@ class Sqlite(queries.Questions, queries.Rows):
             raise
 
     def _note_codec(self) -> None:
-        """Notes that values are encoded. Raises `MissingCodec` where they are, and there is no
-        codec."""
+        """Store that values are encoded.
+
+        Raises `MissingCodec` if they are encoded, and there is no codec.
+        """
         try:
             is_noted = bool(self._db.execute(codec_note.NOTED).fetchall())
             if self._encodes and not is_noted:
@@ -174,7 +177,7 @@ class Sqlite(queries.Questions, queries.Rows):
                 else f"another program{f' (process {holder})' if holder else ''}"
             )
             raise StoreLocked(f"{self.path}: {who} has this store open. Close it first")
-        with contextlib.suppress(OSError):  # it is only told
+        with contextlib.suppress(OSError):  # the process id is only for messages
             os.ftruncate(self._lock, 0)
             os.pwrite(self._lock, str(os.getpid()).encode(), 0)
 
@@ -184,7 +187,7 @@ class Sqlite(queries.Questions, queries.Rows):
             self._lock = None
 
     async def secret(self) -> bytes:
-        """As `Database.secret`. No commit may be under way."""
+        """See `Database.secret`. No commit may be under way."""
         try:
             self._db.execute(
                 "INSERT OR IGNORE INTO secrets VALUES ('leases', ?)", (secrets.token_hex(32),)
@@ -194,10 +197,10 @@ class Sqlite(queries.Questions, queries.Rows):
         return bytes.fromhex(self.rows("SELECT value FROM secrets WHERE name = 'leases'")[0][0])
 
     def peers(self) -> None:
-        """There are no others."""
+        """Return None: a file has no other nodes."""
 
     def watch(self, watcher: Watcher) -> None:
-        """Looks for requests that other programs left, where the file has changed."""
+        """Look for requests of other programs whenever the file has changed."""
         loop, version = asyncio.get_running_loop(), -1
 
         def look() -> None:
@@ -215,10 +218,12 @@ class Sqlite(queries.Questions, queries.Rows):
         self._timer = loop.call_soon(look)
 
     def _check_files(self) -> None:
-        """Where one was deleted or replaced, SQLite would write on into what nobody will find:
-        from then on nothing is. Raises `StoreUnavailable`.
+        """Check that no file of the store was deleted or replaced.
+
+        SQLite would continue to write into the deleted file, and the data would be lost. So nothing
+        is written from then on. Raises `StoreUnavailable`.
         """
-        for name, identity in self._there.items():
+        for name, identity in self._identities.items():
             if file_identity(name) != identity:
                 remedy = (
                     "nothing is written any more. Close the store, restore the file (a copy with "
@@ -232,7 +237,10 @@ class Sqlite(queries.Questions, queries.Rows):
             raise self._writer.fault
 
     def _look_for_lock(self) -> None:
-        """Where it was deleted another program could open the store: it is made again."""
+        """Create the lock file again if it was deleted.
+
+        Without it another program could open the store.
+        """
         lock = self._lock
         if lock is None or file_identity(lock_of(self.file)) == file_identity(lock):
             return
@@ -247,7 +255,10 @@ class Sqlite(queries.Questions, queries.Rows):
             os.close(lock)
 
     def _give_up(self, reason: str) -> None:
-        """The first reason stays. Either thread may see it."""
+        """Write nothing any more, for this reason.
+
+        The first reason stays. Both threads call this.
+        """
         with self._faults:
             if self._writer.fault:
                 return
@@ -255,7 +266,7 @@ class Sqlite(queries.Questions, queries.Rows):
         logger.critical("%s", reason)
 
     async def close(self) -> None:
-        """Ends the writer behind what it was given."""
+        """Close after the commits that were given to the writer."""
         if self._timer:
             self._timer.cancel()
         if self._lock is None:
@@ -269,27 +280,26 @@ class Sqlite(queries.Questions, queries.Rows):
     # -- writing
 
     def new_shard(self) -> int:
-        """The number of a log that is to be born."""
+        """Return the number of a shard that is about to be created."""
         self._next_log += 1
         return self._next_log - 1
 
     @property
     def timeline(self) -> str:
-        """A file has none."""
+        """A file has no timeline."""
         return ""
 
     def holds(self) -> bool:
-        """The lock is held until the end."""
+        """Return True: the lock is held until the end."""
         return True
 
     async def admit(self, name: str, bounds: Bounds, want: int, have: Sequence[int]) -> Grant:
-        """Places of a step: this program is the fleet."""
+        """Take slots of a step: this program is the only node."""
         places = limit_slots.free(bounds.concurrency, want, have) if bounds.concurrency else []
         count, pause = len(places) if bounds.concurrency else want, MOST_LOOK
         if bounds.rate_limit and count:
-            connected = functools.partial(
-                connect, self.file, "NORMAL"
-            )  # a program that is killed has counted
+            # a killed program has counted its calls, since only a crash of the machine loses them
+            connected = functools.partial(connect, self.file, "NORMAL")
             count, pause = await asyncio.to_thread(
                 limit_slots.take, connected, self.path, name, bounds.rate_limit, count, time.time()
             )
@@ -298,7 +308,10 @@ class Sqlite(queries.Questions, queries.Rows):
     # -- reading
 
     def rows(self, query: str, *parameters: Any) -> list[tuple[Any, ...]]:
-        """Rows of the reader. Raises `StoreUnavailable` where the file cannot be read."""
+        """Return the rows of a query on the reading connection.
+
+        Raises `StoreUnavailable` if the file cannot be read.
+        """
         return self._read(self._reader, query, cleaned(parameters))
 
     def _read(
@@ -310,13 +323,13 @@ class Sqlite(queries.Questions, queries.Rows):
             raise StoreUnavailable(f"{self.path}: {error}") from error
 
     def find_many(self, keys: Sequence[str]) -> dict[str, SagaRow]:
-        """The sagas with these keys, by key, as far as they are there."""
+        """Return the sagas that have these keys, by key."""
         return self.find_in_batches(
             keys, functools.partial(self._read, self._writer.reader() or self._reader)
         )
 
     async def read(self, query: str, *parameters: Any) -> list[tuple[Any, ...]]:
-        """As `rows`: the file is at hand."""
+        """See `rows`: the file can be read at once."""
         return self.rows(query, *parameters)
 
     async def read_long(self, query: str, *parameters: Any) -> list[tuple[Any, ...]]:
@@ -328,24 +341,26 @@ class Sqlite(queries.Questions, queries.Rows):
             return reader.rows(query, *parameters)
 
     def reader(self) -> Reader:
-        """Another connection, for a thread that only reads."""
+        """Return another connection, for a thread that only reads."""
         return Reader(self.file)
 
     def forget(self, shard: int) -> None:
-        """Nothing is known but what is read."""
+        """Do nothing: all that is known was just read."""
 
     async def spare(self, shard: int) -> bool:
-        """There is nobody else."""
+        """Return False: there are no other nodes."""
         return False
 
     async def take_up(self, shard: int, epoch: int) -> tuple[str, int]:
-        """A log's lines and how many events they are, for who will write behind it: nobody else
-        writes this file. No lines of it may be on their way."""
+        """Return a shard's event log and its number of events. See `Database.take_up`.
+
+        No commit of the shard may be on its way.
+        """
         text, self._writer.events[shard] = queries.joined(self.rows(queries.LINES, shard))
         return text, self._writer.events[shard]
 
     async def load(self, shard: int, epoch: int, born: Born | None) -> Loaded:
-        """A log as a pump takes it up. No batch of it may be on its way."""
+        """Load a shard. No batch of it may be on its way."""
         within = queries.bounds(shard)
         text, events = await self.take_up(shard, epoch)
         opened = self.rows(queries.COUNT, *within)[0][0]
@@ -359,33 +374,39 @@ class Sqlite(queries.Questions, queries.Rows):
         return loaded
 
     async def find(self, key: str) -> SagaRow | None:
-        """The saga with this key."""
+        """Return the saga with this key."""
         return self.find_now(key)
 
     async def requests(self, after: int, limit: int) -> list[Request]:
-        """What was asked and has no answer."""
+        """Return the requests without an answer."""
         return self.rows(queries.REQUESTS, after, limit)  # type: ignore[return-value]
 
     async def starts(
         self, limit: int, under_way: Sequence[int] | None, left: Sequence[int] = ()
     ) -> list[Start]:
-        """None: who starts a saga has the store open."""
+        """Return no starts: a program that starts a saga has the store open."""
         return []
 
     async def give_back(self, start: int, reason: str | None) -> None:
-        """There are none."""
+        """A file has no starts of clients."""
         raise NotImplementedError
 
     async def ask(self, row: SagaRow, command: str, value: str, payloads: Payloads) -> Any:
-        """Nobody else has the sagas of a file, so the shard of this one is set aside."""
+        """Raise `OwnerUnavailable`: the shard of this saga is set aside.
+
+        No other node could own the sagas of a file.
+        """
         raise OwnerUnavailable(
             f"saga {row.key!r} is not executed, because its shard is damaged. Repair the shard, or "
             "delete it: `sagas store STORE attention` lists its sagas"
         )
 
     async def replicated(self) -> None:
-        """A file has no standby."""
+        """Return at once: a file has no standby."""
 
     async def wait_for_end(self, id: int, turn: int) -> None:
-        """A saga ends when its shard, which is set aside, is repaired: that is seldom."""
+        """Pause: the saga ends when its shard is repaired.
+
+        The shard is set aside, so that seldom happens.
+        """
         await asyncio.sleep(min(MOST_LOOK, LOOK * 2 ** min(turn, 10)))
