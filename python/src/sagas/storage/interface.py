@@ -97,7 +97,10 @@ class Peers(Protocol):
         """Return the node that owns the shard with this name, if that node answers."""
 
     async def call(self, node: str, command: str, payload: Any) -> Any:
-        """Call another node, and return its answer. Raises `OwnerUnavailable`, `StoreUnavailable`."""
+        """Call another node, and return its answer.
+
+        Raises `OwnerUnavailable`, `StoreUnavailable`.
+        """
 
     async def call_all(self, command: str) -> list[Any]:
         """Return the answers of all other nodes that answer."""

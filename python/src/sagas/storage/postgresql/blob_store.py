@@ -15,23 +15,23 @@ if TYPE_CHECKING:
 
 TABLE = re.compile(r"[a-z_][a-z0-9_]{0,62}")
 LIMITED = "SET statement_timeout = '300s'"
-"""A value may have 1 GB."""
+"""The timeout of a statement: a value may have 1 GB."""
 
 
 class PostgresBlobStore:
     """Keep large values in a table of a PostgreSQL database.
 
     The database may be the store's own. The table has a column of type `bytea`: large objects would
-    need rights on each object, and would be left behind where a row is deleted by hand. A value has
-    at most 1 GB.
+    need rights on each object, and would remain if a row is deleted by hand. A value has at most 1
+    GB.
     """
 
     def __init__(self, url: str, *, table: str = "sagas_blobs") -> None:
-        """Take a database. The table is made with the first value, if it is not there.
+        """Use a database. If the table does not exist, it is created with the first value.
 
         Args:
             url: The database: `postgresql://user@host/database`. With several hosts, the one
-                that takes writes is used.
+                that accepts writes is used.
             table: The table's name (default: `sagas_blobs`).
 
         Raises:
@@ -45,7 +45,7 @@ class PostgresBlobStore:
 
     @contextlib.contextmanager
     def _connection(self) -> Iterator[psycopg.Connection[Any]]:
-        """A connection, which is kept for the next call unless this one fails."""
+        """Return a connection. It is kept for the next call, unless the block fails."""
         with self._lock:
             connection = self._idle.pop() if self._idle else None
         if connection is None or connection.closed:
@@ -78,15 +78,17 @@ class PostgresBlobStore:
                     )
                 except psycopg.errors.InsufficientPrivilege as error:
                     raise InvalidStore(
-                        f"the table {self._table} is not there, and this role may not create it. "
+                        f"the table {self._table} does not exist, and this role may not create it. "
                         "Create it as the owner of the database"
                     ) from error
             self._is_made = True
         return connection
 
     def _do(self, text: str, *parameters: Any) -> list[tuple[Any, ...]]:
-        """A statement; once more over a new connection where the server has ended the old one, or
-        takes no writes any more.
+        """Execute a statement.
+
+        If the server has closed the connection, or no longer accepts writes, the statement is
+        executed again over a new connection.
         """
         import psycopg
 
@@ -104,7 +106,7 @@ class PostgresBlobStore:
     def put(self, key: str, data: bytes, /) -> None:
         """Store a value. See `BlobStore.put`."""
         text = "INSERT INTO {}(key, data) VALUES(%s, %s) ON CONFLICT (key) DO UPDATE SET data = "
-        self._do(text + "excluded.data", key, data)  # also the second time it waits for a standby
+        self._do(text + "excluded.data", key, data)  # the second write waits for a standby, too
 
     def get(self, key: str, /) -> bytes:
         """Return a value. See `BlobStore.get`."""
@@ -123,7 +125,7 @@ class PostgresBlobStore:
         return iter([key for (key,) in self._do(text, prefix, before)])
 
     def close(self) -> None:
-        """Close the connections that nobody uses now."""
+        """Close the idle connections."""
         with self._lock:
             idle, self._idle = self._idle, []
         for connection in idle:

@@ -7,18 +7,21 @@ from sagas.storage.codec_note import NOTE, NOTED, missing
 from sagas.storage.postgresql.connections import Asker, translate_errors
 
 ALLOWS = "(%(encodes)s OR NOT EXISTS (SELECT 1 FROM secrets WHERE name = 'codec'))"
-"""Whether a node that encodes values, or does not, may have a lease."""
+"""Whether a node may have a lease, by whether it encodes values."""
 ALONE = "LOCK TABLE nodes IN SHARE ROW EXCLUSIVE MODE"
-"""No node gets or renews a lease until the transaction ends; each sees the note afterwards."""
+"""Locks the leases.
+
+No node gets or renews a lease until the transaction ends. Each sees the note afterwards.
+"""
 PLAIN = "SELECT name FROM nodes WHERE lease > now() ORDER BY 1"
-"""The nodes that have the store open. Without a note, none of them has a codec."""
+"""The nodes that have the store open. If there is no note, none of them has a codec."""
 
 
 async def agree(asker: Asker, encodes: bool) -> None:
-    """Note that values are encoded, or check that they are not.
+    """Store the note that values are encoded, or check that there is none.
 
     Raises:
-        MissingCodec: They are, and this program has no codec.
+        MissingCodec: The values are encoded, and this program has no codec.
         StoreLocked: A node without a codec has the store open.
     """
     if await asker.read(NOTED):

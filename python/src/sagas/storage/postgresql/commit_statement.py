@@ -1,12 +1,12 @@
 """One fenced statement for all that a commit writes.
 
-All rows go as one JSON text, each as a list; where no part has more than one, each value is a
-word of its own instead, which takes the server some four fifths of the time. Parts without rows
-are left out, and each form of the statement is prepared once.
+All rows go as one JSON text, each as a list. If no part has more than one row, each value is a
+parameter of its own instead, which takes the server about four fifths of the time. Parts without
+rows are left out, and each form of the statement is prepared once.
 
-A log that was opened a saga in whose key nobody has looked for (`Batch.guessed`) counts as
-another's where that key is taken: of it nothing is written, and no row is refused, which would
-end the whole transaction.
+A shard may open a saga without a lookup of its key (`Batch.guessed`). If the key is taken, nothing
+of the shard is written, as if another node owned it. So no row is refused, which would end the
+whole transaction.
 """
 
 from __future__ import annotations
@@ -30,18 +30,25 @@ MOVED = """
 moved AS (INSERT INTO operator_commands(id, key, command, value, at, saga) OVERRIDING SYSTEM VALUE
   SELECT (one ->> 0)::bigint, key, one ->> 1, one ->> 2, (one ->> 3)::double precision, saga
   FROM begun_, jsonb_array_elements(commands) one WHERE saga IS NOT NULL RETURNING id)"""
-"""What was asked of a start is asked of its saga. As the row that goes away has it in the end: a
-part of the statement that looked for rows would not see what was asked since it began."""
+"""Moves the requests for a start to its saga.
+
+It uses the row that is deleted, in its last version. A part of the statement that looked for rows
+would not see requests that were added since the statement began.
+"""
 HAS_MOVED = -1
-"""A row of the answer, in place of a shard's number: requests moved, of which the nodes are told
-behind the commit."""
+"""A row of the reply in place of a shard's number: requests moved.
+
+The nodes are notified of them after the commit.
+"""
 KEPT = "SELECT shard FROM shards WHERE {mine}{free} FOR SHARE"
 CONTINUED = (
     "({first} IS NULL OR EXISTS (SELECT 1 FROM event_log e WHERE e.shard = {shard} "
     "AND e.first_seq = {first} AND e.committed_at = {at}))"
 )
-"""Whether a log's last chunk is there, as far as this node knows of one: a database that was
-restored from a backup may lack it, and has the same owner and epoch."""
+"""Whether a shard's last chunk exists, if this node knows one.
+
+A database that was restored from a backup may not have it, with the same owner and epoch.
+"""
 ALONE = "shard = $3::bigint AND owner = $2 AND epoch = $4::bigint AND " + CONTINUED.format(
     shard="$3::bigint", first="$5::integer", at="$6::double precision"
 )
@@ -53,8 +60,10 @@ LISTED = (
     first="($5::integer[])[array_position($3, shards.shard)]",
     at="($6::double precision[])[array_position($3, shards.shard)]",
 )
-"""Whether a log is this node's still, and goes on from what this node knows: the only one of a
-commit, or one of several."""
+"""Whether this node still owns a shard, and the shard continues from what this node knows.
+
+`ALONE` is for the only shard of a commit, and `LISTED` for one of several.
+"""
 BORN = (
     "INSERT INTO shards(shard, name, owner, epoch) SELECT v.shard, v.name, $2, 1 "
     "FROM {rows}{free} ON CONFLICT DO NOTHING RETURNING shard, epoch"
@@ -64,29 +73,33 @@ TAKEN = (
     "SELECT v.shard FROM {rows} JOIN sagas s ON s.key = v.key UNION ALL SELECT v.shard FROM {rows} "
     "JOIN pending_starts i ON i.key = v.key"
 )
-"""The logs whose guess was wrong: a saga has the key, or a client's start that no log has yet.
-(`EXISTS .. OR EXISTS ..` may be planned as a look at all sagas.)
+"""The shards that guessed wrong: a saga has the key, or a client's start without a shard.
+
+Two conditions with `EXISTS` and `OR` may be planned as a scan of all sagas.
 """
 WITHDRAWN = ", (SELECT json_agg(attempt)::text FROM withdrawn_)"
-"""Which attempts were withdrawn."""
+"""The attempts that were withdrawn."""
 MOST = 100 << 20
-"""Bytes of rows that PostgreSQL takes apart at once: more than some 200 MiB it does only piece
-by piece, which takes longer.
+"""Bytes of rows that PostgreSQL parses at once.
+
+It parses more than about 200 MiB only piece by piece, which takes longer.
 """
 dumps = json.JSONEncoder(separators=(",", ":"), check_circular=False).encode
 
 
 SINGLE_ROWS = "words"
-"""The form of a statement of one row of each part."""
+"""The form of a statement with one row of each part."""
 
 
 @functools.lru_cache(maxsize=None)
 def statement(parts: tuple[str, ...], form: str = "jsonb", alone: bool = False) -> str:
-    """The statement with these parts. $1: the rows of each, by its name; $2: the node; $3 to $6:
-    its logs, their epochs and the two parts of their tails, or where it is `alone` those of the
-    log, which the server looks up in less time.
+    """Return the statement with these parts.
 
-    As words, where each part has one row: $1, $7 and so on are the values, part by part.
+    $1 has the rows of each part, by its name. $2 is the node. $3 to $6 are the node's shards, their
+    epochs and the two parts of their tails. If the statement is `alone`, they are those of the only
+    shard, which the server looks up in less time.
+
+    In the form of single rows, $1, $7 and so on are the values, part by part.
     """
     rows = _rows_of_parameters(parts) if form == SINGLE_ROWS else _rows_of_json(form)
     guessed, texts = "guessed" in parts, []
@@ -105,7 +118,7 @@ def statement(parts: tuple[str, ...], form: str = "jsonb", alone: bool = False) 
     ]
     if "begun" in parts:
         texts.append(MOVED)
-    condition = "" if parts else f" WHERE $1::{form} IS NOT NULL"  # each word has a type
+    condition = "" if parts else f" WHERE $1::{form} IS NOT NULL"  # each parameter has a type
     withdrawn = WITHDRAWN if "withdrawn" in parts else ""
     moved = ""
     if "begun" in parts:
@@ -114,12 +127,12 @@ def statement(parts: tuple[str, ...], form: str = "jsonb", alone: bool = False) 
 
 
 def _free(name: str) -> str:
-    """Whether no guess of that log was wrong."""
+    """Return the condition that no guess of that shard was wrong."""
     return f"NOT EXISTS (SELECT 1 FROM taken WHERE taken.shard = {name}.shard)"
 
 
 def _attempts(rare: Rare, part: str) -> Sequence[Sequence[Any]]:
-    """The rows of a part, each of which is about an attempt that others do."""
+    """Return the rows of a part, each of which is about an external attempt."""
     if part not in EXTERNAL:
         return ()
     if part == "withdrawn":
@@ -129,13 +142,13 @@ def _attempts(rare: Rare, part: str) -> Sequence[Sequence[Any]]:
 
 
 def _undone(row: HeldRow) -> HeldRow:
-    """The row of a report of which nothing is left to be undone."""
+    """Return the row of a report for which nothing is left to be undone."""
     is_report = row[3] == 0 and row[4] == EarlyReason.RESULT
     return (*row[:4], EarlyReason.UNDONE.value, *row[5:]) if is_report else row
 
 
 def _saga_of(shard: int, attempt: str) -> int:
-    """The id of the saga of an attempt."""
+    """Return the id of the saga of an attempt."""
     name = tokens.parse(attempt)
     return shard * SHARD_CAPACITY + name.number if name else -1
 
@@ -161,8 +174,10 @@ def _rows_of_parameters(parts: tuple[str, ...]) -> Callable[[str], str]:
 
 
 EXTERNAL = ("offers", "suspended", "withdrawn", "settled")
-"""The parts of what others do, each row of which is about one attempt: the last one counts, since a
-statement changes a row once, whatever the order of its parts. `settled` is always the last.
+"""The parts about external attempts. Each of their rows is about one attempt.
+
+Only the last row of an attempt counts, since a statement changes a row once, whatever the order of
+its parts. `settled` is always the last.
 """
 PLAIN: dict[str, Callable[[int, Rare], Iterable[Any]]] = {
     "shapes": lambda shard, rare: rare.shapes,
@@ -178,21 +193,22 @@ PLAIN: dict[str, Callable[[int, Rare], Iterable[Any]]] = {
     "closed": lambda shard, rare: [(shard, *rare.closed)] if rare.closed else [],
     "set_aside": lambda shard, rare: [(shard, *rare.set_aside)] if rare.set_aside else [],
 }
-"""The rows of parts that stand by themselves, by the number of the log."""
+"""The rows of independent parts, by the number of the shard."""
 
 
 class Commit:
-    """All that a list of batches writes, with what becomes of a row that more than one of them
-    touches.
+    """All that a list of batches writes.
+
+    If several batches change the same row, it has the final state of the row.
 
     Attributes:
         batches: The batches.
-        epochs: The epoch of each log.
-        events: How many events each log has after it that gains some.
-        tails: The last chunk of each log before it, where the log has any.
+        epochs: The epoch of each shard.
+        events: The number of events after the commit, of each shard that gains some.
+        tails: The last chunk before the commit, of each shard that has one.
         parts: The rows of each part that has any.
-        rare: What most batches have nothing of, with the log.
-        has_moved: Whether requests moved from starts to sagas, once it is answered.
+        rare: What most batches do not have, with the shard.
+        has_moved: Whether requests moved from starts to sagas, once the reply is there.
     """
 
     def __init__(
@@ -212,7 +228,7 @@ class Commit:
             self._put_many(batches)
 
     def answer(self, withdrawn: str | bytes | None) -> None:
-        """Tell each withdrawal whether it was done."""
+        """Set of each withdrawal whether it was done."""
         attempts = set(json.loads(withdrawn or "[]"))
         for _, rare in self.rare:
             if "withdrawn" in rare.parts:
@@ -226,7 +242,7 @@ class Commit:
         return ended + [row[0] for row in self.rows("opened_over")]
 
     def rows(self, part: str) -> Sequence[Sequence[Any]]:
-        """The rows of a part."""
+        """Return the rows of a part."""
         return self.parts.get(part, ())
 
     def _put_one(self, batch: Batch) -> None:
@@ -294,16 +310,16 @@ class Commit:
             self.parts["ended"] = [(*row[:2], *row[4:]) for row in rows]
 
     def _lines(self, batch: Batch) -> int:
-        """How many events its log has before it."""
+        """Return the number of events of its shard before it."""
         shard = batch.log
         had = self.events[shard] if shard in self.events else self._before(shard)
         if batch.first != had:
-            raise ValueError(f"shard {shard}: event {batch.first} behind {had}")
+            raise ValueError(f"shard {shard}: event {batch.first} follows event {had}")
         self.events[shard] = had + batch.text.count("\n")
         return had
 
     def _held(self) -> None:
-        """The last word of each held attempt."""
+        """Put the last state of each suspended attempt."""
         held: dict[tuple[int, int, str], dict[int, HeldRow]] = {}
         freed: dict[tuple[int, int, str], int] = {}
         for _, rare in self.rare:
@@ -319,7 +335,7 @@ class Commit:
                 }
         some = [rare.undone for _, rare in self.rare if "undone" in rare.parts]
         undone = {(*one, "run") for of in some for one in of}
-        for at in undone & held.keys():  # that part does not see rows of this one
+        for at in undone & held.keys():  # the part `undone` does not see rows of this commit
             held[at] = {number: _undone(row) for number, row in held[at].items()}
         rows = [row for of in held.values() for row in of.values()]
         if rows:
@@ -328,7 +344,7 @@ class Commit:
             self.parts["freed"] = [(*at, attempt) for at, attempt in freed.items()]
 
     def _others(self) -> None:
-        """What most commits have nothing of."""
+        """Put what most commits do not have."""
         has = {part for _, rare in self.rare for part in rare.parts}
         if "held" in has or "freed" in has:
             self._held()
@@ -352,12 +368,12 @@ class Commit:
         self._put("born", [(shard, name) for shard, (name, _) in born.items()])
         defined = {(shard, *one) for shard, (_, of) in born.items() for one in of}
         defined |= {(shard, *one) for shard, rare in self.rare for one in rare.defined}
-        # in order, so that two commits that make the same wait for one another and never crosswise
+        # in order, so that two commits with the same definitions cannot deadlock
         self._put("definitions", sorted({row[2:] for row in defined}))
         self._put("defined", sorted({row[:3] for row in defined}))
 
     def _external(self) -> None:
-        """What becomes of attempts that others do."""
+        """Put the last change of each external attempt."""
         last: dict[str, tuple[str, Any]] = {}
         others: dict[int, list[str]] = {}
         for shard, rare in self.rare:
@@ -379,7 +395,7 @@ class Commit:
         self._put("cancelled", [*cancelled])
 
     def parameters(self, node: bytes) -> tuple[str, list[bytes | None]]:
-        """The statement and its words."""
+        """Return the statement and its parameters."""
         parts, alone = tuple(sorted(self.parts)), len(self.epochs) == 1
         mine: list[bytes | None]
         if alone:
@@ -401,8 +417,10 @@ class Commit:
         return statement(parts, "jsonb" if len(rows) < MOST else "json", alone), [rows, *mine]
 
     def _cells(self, parts: Iterable[str]) -> list[bytes | None] | None:
-        """The cells of one row of each part. None where one would be cut, at a zero, or there is
-        too much of them: the other form has that refused, or takes it.
+        """Return the cells of one row of each part.
+
+        Return None if a cell contains a NUL, or if they are too long. The other form then fails on
+        the NUL, or can be that long.
         """
         cells = [*itertools.chain.from_iterable([self.parts[part][0] for part in parts])]
         text = "\0".join(map(str, cells)).encode()

@@ -25,19 +25,21 @@ from sagas.storage.postgresql.replication import (
 )
 
 PATIENCE = 20.0
-"""Seconds that a statement may take: what takes longer is given up, and what it did is looked
-up.
+"""Seconds that a statement may take.
+
+If it takes longer, it is given up, and its effect is looked up.
 """
 CONNECT = 5
 LOGIN_TIMEOUT = 2.0
-"""Seconds that a server has for its answer to a first connection."""
+"""Seconds that a server has to accept a first connection."""
 FINAL = re.compile(
     r"authentication failed|no password supplied|pg_hba\.conf|not permitted to log in|permission "
     r"denied for database"
     r"|(role|database) \".*\" does not exist|no such (user|database)"
 )
-"""What is said, in English alone, to who will never be let in so. There is no code with it:
-libpq keeps that to itself.
+"""The messages of a server that will never accept the login. They are only in English.
+
+There is no code for it: libpq does not return one.
 """
 DEFAULTS: dict[str, Any] = {
     "connect_timeout": CONNECT,
@@ -52,32 +54,38 @@ DURABLE = (
     "SELECT set_config('synchronous_commit', 'on', false) WHERE "
     "current_setting('synchronous_commit') IN ('off', 'local')"
 )
-"""What is committed is on the disk, and on a synchronous standby where there is one, whatever
-the database's own setting says.
+"""Makes a commit wait for the disk, and for a synchronous standby if there is one.
+
+The database's own setting is ignored.
 """
 SETTINGS = (
     "SET client_encoding = 'UTF8'; SET search_path = sagas; SET jit = off; SET enable_seqscan = "
     f"off; SET enable_hashjoin = off; SET enable_mergejoin = off; {DURABLE}"
 )
-"""Plans are made once, for tables that were empty then and are full later: let them be by
+"""The settings of a connection.
+
+Plans are made once, for tables that are empty then and full later. So the planner has to use
 indexes.
 """
 
 LIMITED = f"SET statement_timeout = '{int(PATIENCE)}s'"
 ABANDONED = f"SET idle_in_transaction_session_timeout = '{int(PATIENCE)}s'"
-"""A machine that is gone in the middle of a transaction keeps nobody from what it has locked: the
-server may hear of that only hours later.
+"""The timeout of a transaction that is idle.
+
+If a machine fails during a transaction, its locks are released soon. The server may notice the
+failure only hours later.
 """
 REPEATED = f"SET plan_cache_mode = force_generic_plan; {SETTINGS}"
-"""For statements whose plan has nothing to do with their words: else some are planned anew each
-time.
+"""The settings for statements whose plan does not depend on their parameters.
+
+Without them some statements would be planned each time.
 """
 
 RIGHTS = "have the owner of the database run `sagas store URL init --role {role}`"
-"""What helps a role that may not."""
+"""The remedy for a role without the needed rights."""
 
 CLIENT_ERRORS = (psycopg.Error, PoolTimeout, OSError, TimeoutError)
-"""What is raised where the server does not answer as it should."""
+"""The errors of a server that does not answer as it should."""
 
 LINE = hosts.LINE
 TAKEOVER = (
@@ -85,11 +93,15 @@ TAKEOVER = (
     f"SELECT shard, epoch, {{node}}, {{last}}, {LINE} FROM {{taken}}"
 )
 READ = TAKEOVER.format(node="%(node)s", last="last_seq(shard)", taken="mine")
-"""Notes who raised the epochs of the shards `mine`: a part of the statement that did, and that
-reads these shards.
+"""Records the new epochs of the shards `mine`.
+
+It is a part of a statement that raises the epochs, and reads these shards.
 """
 RAISED = TAKEOVER.format(node="%(node)s", last="NULL::integer", taken="mine")
-"""The same of a statement that reads none, and so does not wait until others let it."""
+"""The same for a statement that does not read the shards.
+
+So it does not wait for other transactions.
+"""
 
 ESCAPED = (
     "with % and two hex digits for what is special in a password, "
@@ -97,7 +109,10 @@ ESCAPED = (
 )
 
 CUT = ("08", "57P0")
-"""How the codes begin that say that a connection is over; an error without a code says so too."""
+"""The prefixes of the codes of a closed connection.
+
+An error without a code counts, too.
+"""
 
 T = TypeVar("T")
 Row = tuple[Any, ...]
@@ -105,8 +120,10 @@ Link = StoreConnection
 
 
 def read(url: str) -> dict[str, Any]:
-    """What a URL says. Raises `InvalidStore` where it is none, or most likely none; the text has
-    no part of a password.
+    """Return the parameters of a URL.
+
+    Raises `InvalidStore` if it is not a valid URL, or most likely not one. The message has no part
+    of a password.
     """
     if not is_url(url):
         raise InvalidStore(f"this is not a URL of a PostgreSQL database. Write {FORM}")
@@ -118,7 +135,7 @@ def read(url: str) -> dict[str, Any]:
         problem = str(error).strip()
         if (
             not problem.startswith("invalid URI query parameter") or "@" in url.partition("?")[2]
-        ):  # else it may show a part of the password
+        ):  # another message may have a part of the password
             problem = (
                 "two slashes are missing"
                 if problem.startswith('missing "="')
@@ -133,24 +150,27 @@ def read(url: str) -> dict[str, Any]:
 
 
 def invalid_url(why: str) -> InvalidStore:
-    """What is said of a URL that cannot be read."""
+    """Return the error for a URL that cannot be read."""
     return InvalidStore(f"the URL of the store cannot be read ({why}). Write {FORM}, {ESCAPED}")
 
 
 def has_unescaped_at(url: str) -> bool:
-    """Whether an @ would be taken for a part of the host or of the database's name, as it is
-    where a password has @ or / as they are.
+    """Whether an @ would be read as a part of the host or of the database's name.
+
+    That happens if a password has an unescaped @ or /.
     """
     rest = url.partition("://")[2]
     user, _, after_user = rest.partition("@")
-    if "/" in user:  # what stands before it is taken for the host
+    if "/" in user:  # the text before the slash is read as the host
         after_user = rest
     return "@" in after_user.partition("?")[0]
 
 
 def address(url: str) -> str:
-    """The URL with what it leaves open: how soon a dead connection is noticed, and that the
-    server has to take writes. Of `Hosts` in the order in which they are tried.
+    """Return the URL with defaults for what it leaves open.
+
+    The defaults say how soon a dead connection is noticed, and that the server must accept writes.
+    A URL of `Hosts` has the hosts in the order in which they are tried.
     """
     parameters = read(url)
     defaults = {word: value for word, value in DEFAULTS.items() if word not in parameters}
@@ -160,13 +180,13 @@ def address(url: str) -> str:
 
 
 def hosts_of(url: str) -> Hosts:
-    """The URL, whose hosts are tried in an order of this program's own. Raises `InvalidStore`."""
+    """Return the URL with its hosts in this program's own order. Raises `InvalidStore`."""
     read(url)
     return Hosts(url)
 
 
 def named(url: str) -> str:
-    """The URL for messages: without its password."""
+    """Return the URL for messages: without its password."""
     parameters = read(url)
     pairs = zip(
         str(parameters.get("host", "")).split(","),
@@ -179,8 +199,10 @@ def named(url: str) -> str:
 
 @contextlib.contextmanager
 def translate_errors(where: str) -> Iterator[None]:
-    """What PostgreSQL and its connections raise, as `StoreUnavailable`; that they are a pooler's,
-    as `InvalidStore`."""
+    """Raise errors of PostgreSQL and of its connections as `StoreUnavailable`.
+
+    If the connection is that of a pooler that pools transactions, it raises `InvalidStore`.
+    """
     try:
         yield
     except pooler.TransactionPooled as error:
@@ -190,7 +212,7 @@ def translate_errors(where: str) -> Iterator[None]:
 
 
 def store_unavailable(where: str, error: Exception) -> StoreUnavailable:
-    """What was raised, as `StoreUnavailable`, which has it for its cause."""
+    """Return an error as `StoreUnavailable`, with the error as its cause."""
     message = str(error).strip().splitlines()[0] if str(error).strip() else type(error).__name__
     if isinstance(error, errors.InsufficientPrivilege):
         message += f": {RIGHTS.format(role='NAME')}"
@@ -200,7 +222,7 @@ def store_unavailable(where: str, error: Exception) -> StoreUnavailable:
 
 
 async def tried(ask: Callable[[], Awaitable[T]]) -> T:
-    """What may be asked twice: connections that broke unnoticed are tried past."""
+    """Repeat a query that may be executed twice, if its connection broke unnoticed."""
     for turn in range(5):
         try:
             return await ask()
@@ -213,8 +235,10 @@ async def tried(ask: Callable[[], Awaitable[T]]) -> T:
 
 
 def was_cut(error: StoreUnavailable) -> bool:
-    """Whether a connection had ended, as all do where the server starts again: another one may
-    do."""
+    """Whether the connection had ended, as all do if the server restarts.
+
+    Another connection may then work.
+    """
     cause = error.__cause__
     if not isinstance(cause, psycopg.OperationalError) or isinstance(cause, NotReplicated):
         return False
@@ -222,7 +246,7 @@ def was_cut(error: StoreUnavailable) -> bool:
 
 
 async def connect(url: str, settings: str = SETTINGS) -> Link:
-    """A connection of the store's own, that commits each statement."""
+    """Return a connection of the store's own, which commits each statement."""
     connection = await Link.connect(address(url), autocommit=True, prepare_threshold=1)
     assert isinstance(connection, Link)
     try:
@@ -235,8 +259,9 @@ async def connect(url: str, settings: str = SETTINGS) -> Link:
 
 
 async def check_access(url: str, where: str) -> None:
-    """Raises `StoreUnavailable` where the server says for good that it lets nobody in so. A pool
-    would try on, and whatever else it is may pass.
+    """Raise `StoreUnavailable` if the server permanently refuses the login.
+
+    A pool would retry. Any other error may be temporary.
     """
     try:
         async with asyncio.timeout(LOGIN_TIMEOUT):
@@ -244,9 +269,8 @@ async def check_access(url: str, where: str) -> None:
     except pooler.TransactionPooled as error:
         raise InvalidStore(f"{where}: {error}") from error
     except CLIENT_ERRORS as error:
-        if (
-            isinstance(error, psycopg.Error) and error.pgconn
-        ):  # who has the error keeps it open, and the server would wait for a password
+        # otherwise the error keeps the connection open, and the server waits for a password
+        if isinstance(error, psycopg.Error) and error.pgconn:
             with contextlib.suppress(psycopg.Error):
                 error.pgconn.finish()
         if FINAL.search(str(error)):
@@ -254,13 +278,13 @@ async def check_access(url: str, where: str) -> None:
 
 
 async def timeline_of(connection: Link) -> str:
-    """The timeline of the server that it is connected to."""
+    """Return the timeline of the server to which it is connected."""
     rows = await (await connection.execute(f"SELECT {LINE}", prepare=False)).fetchall()
     return str(rows[0][0])
 
 
 def connect_now(url: str, settings: str = f"{SETTINGS}; {LIMITED}") -> PlainStoreConnection:
-    """As `connect`, for who waits where he stands."""
+    """See `connect`, for a connection of a thread."""
     connection = PlainStoreConnection.connect(address(url), autocommit=True)
     assert isinstance(connection, PlainStoreConnection)
     try:
@@ -278,11 +302,14 @@ async def _configure(address: str, connection: psycopg.AsyncConnection[Any]) -> 
 
 
 def pool(url: str, max_size: int) -> AsyncConnectionPool:
-    """Connections for short statements, each a transaction of its own; not yet open.
+    """Return a pool for short statements, each a transaction of its own.
 
-    Who waits for one gives up by the pool's own time: a waiter that is cancelled keeps its
-    place, and the connection that it gets is lost (psycopg_pool 3.1). And the pool gives up to
-    connect soon, so that who asks next makes it try at once, however long the server was away.
+    It is not open yet.
+
+    A caller that waits for a connection gives up by the pool's own timeout. A waiter that is
+    cancelled would keep its position, and the connection that it gets would be lost (psycopg_pool
+    3.1). The pool gives up connecting soon, so that the next caller makes it retry at once, for any
+    duration of the outage.
     """
     arguments = {"autocommit": True, "prepare_threshold": 2}
     return AsyncConnectionPool(
@@ -306,11 +333,11 @@ class Attached(Protocol):
         """End it at once. The next one is made when it is needed."""
 
     async def finish(self) -> None:
-        """End it permanently, after what is under way, unless that takes long."""
+        """End it permanently, after the statements under way, unless they take long."""
 
 
 class Asker:
-    """Short statements over a pool."""
+    """Executes short statements over a pool."""
 
     def __init__(self, url: str, where: str, max_size: int) -> None:
         self.where, self._url, self._most = where, url, max_size
@@ -320,15 +347,15 @@ class Asker:
         self._used: set[Link] = set()
         self._barrier = replication.Barrier(self.ask)
         self.late: Callable[[], object] = lambda: None
-        """Called where a statement took too long, as at a server that was replaced."""
+        """Called if a statement took too long, as at a server that was replaced."""
 
     async def open(self) -> None:
-        """Connects. Raises `StoreUnavailable`."""
+        """Connect. Raises `StoreUnavailable`."""
         with translate_errors(self.where):
             try:
                 await self.pool.open(wait=True, timeout=2 * CONNECT)
             except PoolTimeout:
-                await (await connect(self._url)).close()  # raises what the pool keeps to itself
+                await (await connect(self._url)).close()  # raises the error that the pool hides
                 raise
 
     def attach(self, *some: Attached) -> None:
@@ -336,9 +363,10 @@ class Asker:
         self._attached += some
 
     async def renew(self, cuts: bool = False) -> None:
-        """Connect again, since another server has taken over. Attached connections end at once, and
-        those of the pool after what is under way; with `cuts` at once too, since the server before
-        may never answer.
+        """Connect again, since another server has taken over.
+
+        Attached connections end at once, and those of the pool after their statements. With `cuts`
+        the latter end at once too, since the former server may never answer.
         """
         for attached in self._attached:
             attached.cut()
@@ -357,24 +385,30 @@ class Asker:
         await self.pool.close(timeout=CONNECT)
 
     async def ask(self, text: str, **parameters: Any) -> list[Row]:
-        """A statement's rows. Raises `StoreUnavailable`; then nobody knows whether it was done.
+        """Return a statement's rows.
 
-        Who is cancelled leaves the statement to its end: a connection in the middle of one is of
-        no use.
+        Raises `StoreUnavailable`. Then it is unknown whether the statement was executed.
+
+        If the caller is cancelled, the statement continues to its end: a connection with an
+        unfinished statement is of no use.
         """
-        return await self._asked(text, parameters)
+        return await self._execute_whole(text, parameters)
 
-    async def _asked(self, text: str, parameters: Mapping[str, Any] | Sequence[Any]) -> list[Row]:
-        return await self.whole(self._ask(text, parameters))
+    async def _execute_whole(
+        self, text: str, parameters: Mapping[str, Any] | Sequence[Any]
+    ) -> list[Row]:
+        return await self.whole(self._execute(text, parameters))
 
     async def whole(self, work: Coroutine[Any, Any, T]) -> T:
-        """What comes of something that takes a connection of the pool. Who is cancelled leaves it
-        to its end: the pool loses the connection that comes to a caller who is gone.
+        """Return the result of a coroutine that takes a connection of the pool.
+
+        If the caller is cancelled, the coroutine continues to its end. Otherwise the pool would
+        lose the connection.
         """
         return await asyncio.shield(self.spawn(work))
 
     def spawn(self, work: Coroutine[Any, Any, T]) -> asyncio.Task[T]:
-        """As `whole`, for who does not wait; `close` does."""
+        """As `whole`, for a caller that does not wait. `close` waits."""
         job = asyncio.get_running_loop().create_task(work)
         self._under_way.add(job)
         job.add_done_callback(self._done)
@@ -383,18 +417,19 @@ class Asker:
     def _done(self, work: asyncio.Task[Any]) -> None:
         self._under_way.discard(work)
         if not work.cancelled():
-            work.exception()  # whoever asked, and was not cancelled, has it
+            work.exception()  # a caller that was not cancelled has the error
 
-    async def _ask(self, text: str, parameters: Mapping[str, Any] | Sequence[Any]) -> list[Row]:
+    async def _execute(self, text: str, parameters: Mapping[str, Any] | Sequence[Any]) -> list[Row]:
         async with self.connection() as connection:
             cursor = await connection.execute(text, parameters)
             return await cursor.fetchall() if cursor.pgresult and cursor.pgresult.nfields else []
 
     @contextlib.asynccontextmanager
     async def connection(self) -> AsyncIterator[Link]:
-        """A connection of the pool, for as long as a statement may take. Raises
-        `StoreUnavailable`; then nobody knows what was done. Only within what is a task of its own
-        (`whole`).
+        """Return a connection of the pool, for as long as a statement may take.
+
+        Raises `StoreUnavailable`. Then it is unknown what was executed. Use it only within a task
+        of its own (`whole`).
         """
         with translate_errors(self.where):
             async with self.pool.connection() as connection:
@@ -403,7 +438,7 @@ class Asker:
                 try:
                     async with replication.limited(connection, PATIENCE + 1):
                         yield connection
-                except (TimeoutError, errors.QueryCanceled):  # or it waits for one that is late
+                except (TimeoutError, errors.QueryCanceled):  # or another statement is late
                     self.late()
                     raise
                 finally:
@@ -414,11 +449,9 @@ class Asker:
         await self._barrier.passed()
 
     async def read(self, text: str, **parameters: Any) -> list[Row]:
-        """As `ask`, for what may be asked twice: connections that broke unnoticed are tried
-        past.
-        """
-        return await tried(lambda: self._asked(text, parameters))
+        """As `ask`, for a query that may be executed twice, if its connection broke unnoticed."""
+        return await tried(lambda: self._execute_whole(text, parameters))
 
     async def rows(self, text: str, *parameters: Any) -> list[Row]:
-        """As `read`, of a question with a `%s` for each word."""
-        return await tried(lambda: self._asked(text, parameters))
+        """As `read`, for a query with a `%s` for each parameter."""
+        return await tried(lambda: self._execute_whole(text, parameters))

@@ -1,7 +1,7 @@
-"""Notices commits that the database has lost.
+"""Detects commits that the database has lost.
 
-That is so where a backup was restored under a running node: the timeline, the owner of each log
-and its epoch are as before.
+That happens if a backup is restored under a running node: the timeline, the owner of each shard and
+its epoch are as before.
 """
 
 from __future__ import annotations
@@ -30,8 +30,8 @@ HAS = (
 class Continuity:
     """Compares what the database has with what it acknowledged.
 
-    A commit is refused where the chunk before it is missing. So a log is compared when it is read
-    again, and the last commit is looked for while there is no other.
+    A commit is refused if the chunk before it is missing. So a shard is compared when it is read
+    again. The last commit is looked up while there is no new one.
     """
 
     def __init__(
@@ -42,31 +42,41 @@ class Continuity:
         shards: Callable[[], Collection[int]],
         begin_again: Callable[[], object],
     ) -> None:
-        """`questions`: for a look that may wait. `shards`: those that this node drives.
-        `begin_again`: called where commits are missing.
+        """Create the check.
+
+        Args:
+            asker: The connections for short statements.
+            questions: The connection for a lookup that may wait.
+            writer: The writer, which knows what was acknowledged.
+            shards: Returns the shards that this node drives.
+            begin_again: Called if commits are missing.
         """
         self._asker, self._questions, self._writer = asker, questions, writer
         self._logs, self._begin_again = shards, begin_again
-        self._commits = -1  # at the last look
+        self._commits = -1  # the number at the last look
         self._is_looking = False
 
     def lacks(self, shard: int, events: int) -> bool:
-        """Whether so many events of a log are fewer than were written."""
+        """Whether the database has fewer events of a shard than were written."""
         return events < self._writer.events.get(shard, 0)
 
     async def compare(self, shard: int, events: int | None) -> None:
-        """Compare how many events the database has of a log, None if it is not this node's, with
-        those that were written."""
+        """Compare the number of events that the database has of a shard with the written one.
+
+        `events` is None if this node does not own the shard.
+        """
         written = self._writer.events.get(shard, 0)
         if events is not None:
             if events < written:
-                self._tell(shard, f"has {events} events, and {written} were written")
+                self._report(shard, f"has {events} events, and {written} were written")
         elif written and not (await self._asker.read(IS_THERE, shard=shard))[0][0]:
-            self._tell(shard, f"is not there, and {written} of its events were written")
+            self._report(shard, f"is not there, and {written} of its events were written")
 
     async def look(self) -> None:
-        """Look for the last commit if there was none since the last look. This is no part of a
-        beat, which waits for no table."""
+        """Look for the last commit if there was none since the last look.
+
+        This is no part of a heartbeat, because a heartbeat waits for no table.
+        """
         is_quiet, self._commits = self._writer.commits == self._commits, self._writer.commits
         last = self._writer.latest(self._logs()) if is_quiet and not self._is_looking else None
         if last is None:
@@ -80,13 +90,15 @@ class Continuity:
             self._is_looking = False
         shard, tail = last
         is_last = self._writer.latest([shard]) == last and shard in self._logs()
-        if is_last and not has_it:  # it was not read again meanwhile, and is this node's
-            self._tell(shard, f"has no commit at event {tail.first_seq}")
+        if is_last and not has_it:  # this node still owns the shard, and has not read it again
+            self._report(shard, f"has no commit at event {tail.first_seq}")
             self._writer.cut()
 
     async def _has(self, shard: int, tail: Tail) -> bool:
-        """Whether a log has this chunk. Raises `StoreUnavailable` if another program has locked the
-        table."""
+        """Whether a shard has this chunk.
+
+        Raises `StoreUnavailable` if another program has locked the table.
+        """
         parameters = {
             "shard": shard,
             "first_seq": tail.first_seq,
@@ -97,7 +109,7 @@ class Continuity:
                 await connection.execute(IMPATIENT)
                 return await (await connection.execute(HAS, parameters)).fetchone() == (True,)
 
-    def _tell(self, shard: int, why: str) -> None:
+    def _report(self, shard: int, why: str) -> None:
         logger.error(
             "%s: %s: shard %d %s. %s", self._asker.where, COMMITS_MISSING, shard, why, REMEDY
         )

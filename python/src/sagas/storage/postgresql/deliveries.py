@@ -14,13 +14,13 @@ CASTS = {"status": "::integer", "pause": "::float8", "error": "::text", "state":
 
 
 class PostgreSQLDeliveries:
-    """As `Deliveries`, by a node's connections."""
+    """See `Deliveries`. It uses a node's connections."""
 
     def __init__(self, asker: Asker) -> None:
         self._asker = asker
 
     def begin(self, *_: object) -> None:
-        """Each call is a statement of its own."""
+        """Do nothing: each call is a statement of its own."""
 
     async def change(self, text: str, **parameters: Any) -> list[connections.Row]:
         return await self._asker.ask(form(text), **parameters)
@@ -30,6 +30,6 @@ class PostgreSQLDeliveries:
 
 
 def form(text: str) -> str:
-    """A statement as psycopg takes it."""
+    """Return a statement for psycopg."""
     named = PARAMETER.sub(lambda match: f"%({match[1]})s{CASTS.get(match[1], '')}", text)
     return named.format(now=NOW, locked=" FOR UPDATE SKIP LOCKED")

@@ -34,7 +34,7 @@ from sagas.storage.postgresql.deliveries import PostgreSQLDeliveries
 
 CHANNEL = "sagas_reports"
 MOST = 200
-"""Claims and reports in one statement."""
+"""Maximum number of claims and reports in one statement."""
 CLOCK = "clock AS MATERIALIZED (SELECT extract(epoch FROM clock_timestamp())::float8 AS now)"
 HELD = (
     f"SELECT count(*) FROM external_attempts t WHERE t.task = {{}} AND t.{OPEN} AND t.until > "
@@ -46,18 +46,20 @@ BOUND = (
 )
 
 
-def _claimed(lapsed: str) -> str:
-    """For many claims of the same tasks: a worker and its seconds for each that may be claimed.
-    `lapsed`: which of those may be that had a lease.
+def _claimed(expired: str) -> str:
+    """Return the statement parts of many claims of the same tasks.
+
+    There is a worker and its seconds for each attempt that may be claimed. `expired` is the
+    condition for attempts that had a lease.
     """
     return f"""
-found AS MATERIALIZED (
+candidates AS MATERIALIZED (
   SELECT x.* FROM unnest(%(tasks)s::text[]) AS w(task), clock,
   LATERAL (SELECT {BOUND} AS bound) b, LATERAL (
     SELECT e.attempt, e.offered_at, e.lease IS NOT NULL AND NOT e.given_back AS is_takeover,
       e.since, e.worker, e.lease, e.until
     FROM external_attempts e
-    WHERE e.task = w.task AND e.{OPEN} AND (e.until IS NULL OR {lapsed})
+    WHERE e.task = w.task AND e.{OPEN} AND (e.until IS NULL OR {expired})
     ORDER BY e.offered_at
     LIMIT CASE WHEN b.bound IS NULL THEN %(most)s::bigint
       ELSE greatest(0, least(%(most)s::bigint, b.bound - ({HELD.format("w.task")}))) END
@@ -67,7 +69,7 @@ taken AS (
   UPDATE external_attempts e SET worker = s.worker, since = clock.now,
     until = clock.now + s.seconds, given_back = false,
     lease = greatest((clock.now * 1000)::bigint, coalesce(e.lease, 0) + 1)
-  FROM (SELECT *, row_number() OVER (ORDER BY offered_at, attempt) AS place FROM found) f
+  FROM (SELECT *, row_number() OVER (ORDER BY offered_at, attempt) AS place FROM candidates) f
   JOIN unnest(%(workers)s::text[], %(seconds)s::float8[]) WITH ORDINALITY
     AS s(worker, seconds, place) USING (place), clock
   WHERE e.attempt = f.attempt
@@ -78,25 +80,26 @@ taken AS (
 
 CLAIMED = _claimed("e.until <= clock.now")
 UNREPORTED = _claimed("e.until <= clock.now AND e.attempt <> ALL(%(attempts)s::text[])")
-"""For claims in a statement that also has reports: it does not claim what it reports, because a
-statement changes a row once.
+"""For claims in a statement that also has reports.
+
+It does not claim the attempts that it reports, because a statement changes a row once.
 """
 ROWS = """
 json_agg(json_build_array(attempt, lease, seconds, id, step, action, cancelled, is_takeover, place,
   number, since, worker, had, until) ORDER BY place)::text
 """
-"""All rows as one text, which is read in less time than several cells of each."""
+"""All rows as one text, which is read faster than several cells of each."""
 CLAIM = f"WITH {CLOCK}, {CLAIMED} SELECT {ROWS} FROM taken"
 EARLIER = """
 INSERT INTO attempt_spans VALUES(%(id)s, %(step)s, %(action)s, %(number)s, %(at)s, %(spans)s)
 ON CONFLICT DO NOTHING RETURNING 1
 """
-"""What an earlier lease was, whose place is taken: for people alone."""
+"""Stores the span of an earlier lease. Only people read it."""
 LOCK = """
 SELECT pg_advisory_xact_lock(hashtextextended(task, 5777002))
 FROM (SELECT task FROM unnest(%(limited)s::text[]) AS l(task) ORDER BY task) l
 """
-"""Claims of a task with a concurrency count one behind the other."""
+"""Claims of a task with a concurrency limit are counted one after the other."""
 HEARTBEAT = f"""
 WITH {CLOCK}
 UPDATE external_attempts e SET until = clock.now + %(seconds)s, given_back = clock.now + %(seconds)s
@@ -114,17 +117,19 @@ RETURNING shard
 REPORTED = f"""
 r AS MATERIALIZED (
   SELECT * FROM unnest(%(attempts)s::text[], %(leases)s::bigint[], %(outcomes)s::text[],
-    %(values)s::text[]) AS r(attempt, number, came, told)),
+    %(values)s::text[]) AS r(attempt, number, came, reported_value)),
 free AS MATERIALIZED (
   SELECT e.attempt FROM external_attempts e JOIN r USING (attempt) FOR UPDATE OF e SKIP LOCKED),
 kept AS (
-  UPDATE external_attempts SET outcome = r.came, value = r.told, reported = r.number
+  UPDATE external_attempts SET outcome = r.came, value = r.reported_value, reported = r.number
   FROM free JOIN r USING (attempt) WHERE external_attempts.attempt = free.attempt
     AND {TAKES.format(lease="r.number", outcome="r.came")}
   RETURNING free.attempt, shard)
 """
-"""Each attempt once. One whose row another transaction has is passed over: who waits for several
-rows may wait for somebody who waits for this one.
+"""Stores reports, each attempt once.
+
+An attempt whose row another transaction has locked is skipped. A statement that waited for several
+rows could deadlock.
 """
 SHARDS = "json_object_agg(attempt, shard)::text"
 CLAIM_PARAMETERS = ("tasks", "most", "workers", "seconds")
@@ -141,7 +146,7 @@ BOTH_WIRED = prepared.numbered(
     *CLAIM_PARAMETERS,
     *REPORT_PARAMETERS,
 )
-"""The rows of claims, and the shards of the reports that count."""
+"""Returns the rows of claims, and the shards of the reports that count."""
 FIND = "SELECT lease, outcome, value, reported FROM external_attempts WHERE attempt = %(attempt)s"
 OUTCOMES = (
     "SELECT attempt, outcome FROM external_attempts WHERE attempt = ANY(%(attempts)s::text[])"
@@ -167,22 +172,28 @@ NOTIFY_REPORTED = notifications.notify_statement(CHANNEL).replace("%(messages)s"
 
 
 _Answer = Union[list[list[Any]], Optional[int]]
-"""The rows of a claim; the shard of a report, or None if it does not count."""
+"""The rows of a claim; or the shard of a report, or None if it does not count."""
 
 
 def _group(request: ExternalRequest) -> tuple[str, ...] | None:
-    """Claims of the same tasks are made by one statement; any reports go with them."""
+    """Return the tasks of a claim: one statement makes claims of the same tasks.
+
+    Reports have no group.
+    """
     return request.tasks if isinstance(request, ClaimRequest) else None
 
 
 def rows_of(text: str | bytes | None) -> list[list[Any]]:
-    """The rows of `CLAIM`, from its text."""
+    """Return the rows of `CLAIM`, from its text."""
     rows: list[list[Any]] = json.loads(text) if text else []
     return rows
 
 
 def _divided(claims: Sequence[ClaimRequest], rows: Sequence[list[Any]]) -> list[list[list[Any]]]:
-    """The rows of each claim: those that came first have those that have waited longest."""
+    """Return the rows of each claim.
+
+    The claims that came first have the attempts that have waited longest.
+    """
     by_number = {row[8]: row for row in rows}
     rows_of_claims, taken = [], 0
     for claim in claims:
@@ -193,21 +204,22 @@ def _divided(claims: Sequence[ClaimRequest], rows: Sequence[list[Any]]) -> list[
 
 
 class PostgreSQLExternalAttempts:
-    """As `ExternalAttempts`, by a node's connections.
+    """See `ExternalAttempts`. It uses a node's connections.
 
     Claims and reports share a connection of their own, which is made with the first of them and
-    repeats prepared statements. Those that come while it is at work go into its next statement.
-    Claims of tasks with a concurrency use the pool, and so do all others while the server has no
-    connection to spare. Measured on 2026-11-28 in lots of ten, on a busy machine: a claim takes
-    33 us to 48 us of the node's processor in place of 121 us by the pool, and a report 30 us to
-    37 us in place of 81 us to 90 us.
+    repeats prepared statements. Those that arrive while a statement is executed go into the next
+    one. Claims of tasks with a concurrency limit use the pool. All others use the pool too while
+    the server has no spare connection. Measured on 2026-11-28 in batches of ten, on a busy machine:
+    a claim takes 33 us to 48 us of the node's processor instead of 121 us by the pool, and a report
+    30 us to 37 us instead of 81 us to 90 us.
     """
 
     def __init__(self, url: str, asker: Asker) -> None:
         self._asker = asker
         self._own = prepared.ReconnectingWire(url, asker.where)
         asker.attach(self._own)
-        self._locking = asyncio.Lock()  # claims that wait for other nodes hold one of the pool
+        # claims that wait for other nodes hold a connection of the pool
+        self._locking = asyncio.Lock()
         self._batcher: Batcher[ExternalRequest, Any] = Batcher(
             self._ask_all, MOST, self._dropped, _group
         )
@@ -220,7 +232,7 @@ class PostgreSQLExternalAttempts:
         clock: Callable[[], float],
         unwanted: Callable[[Sequence[Claim]], object],
     ) -> None:
-        """Each call is a statement of its own."""
+        """Start the use of the table: each call is a statement of its own."""
         self._unwanted = unwanted
 
     async def claim(
@@ -241,7 +253,7 @@ class PostgreSQLExternalAttempts:
         return claims
 
     async def _note_earlier(self, rows: Sequence[list[Any]]) -> None:
-        """Note the earlier leases of what was claimed."""
+        """Store the earlier leases of claimed attempts."""
         for _, _, _, id, step, action, _, _, _, number, since, had, lease, until in rows:
             if since is not None:
                 span = {"at": since, "spans": earlier(since, had, lease, until)}
@@ -254,7 +266,7 @@ class PostgreSQLExternalAttempts:
             self._unwanted([Claim(*row[:8]) for row in answer])
 
     async def _ask_all(self, requests: Sequence[ExternalRequest]) -> list[_Answer]:
-        """The answers to claims of the same tasks, and to reports."""
+        """Return the rows of claims of the same tasks, and the shards of reports."""
         claims = [request for request in requests if isinstance(request, ClaimRequest)]
         reports = {
             request.attempt: request
@@ -264,7 +276,7 @@ class PostgreSQLExternalAttempts:
         if self._own.is_open or await self._has_own():
             rows, shards = await self._ask_own(claims, [*reports.values()])
         else:
-            rows, shards = await self._claim_all(claims), {}  # each report goes alone
+            rows, shards = await self._claim_all(claims), {}  # each report is executed alone
         answers = iter(_divided(claims, rows))
         return [
             next(answers)
@@ -292,7 +304,7 @@ class PostgreSQLExternalAttempts:
         return rows_of(rows), json.loads(shards) if shards else {}
 
     async def _claim_all(self, claims: Sequence[ClaimRequest]) -> list[list[Any]]:
-        """The rows of claims of the same tasks, by the pool."""
+        """Return the rows of claims of the same tasks, by the pool."""
         if not claims:
             return []
         each = [claim for claim in claims for _ in range(claim.most)]
@@ -305,7 +317,7 @@ class PostgreSQLExternalAttempts:
         return rows_of(text)
 
     async def _has_own(self) -> bool:
-        """Connect, if the server has a connection to spare."""
+        """Connect, if the server has a spare connection."""
         try:
             await self._own.open()
         except StoreUnavailable:
@@ -313,7 +325,10 @@ class PostgreSQLExternalAttempts:
         return True
 
     async def _alone(self, limited: Sequence[str], wanted: ClaimRequest) -> list[list[Any]]:
-        """A claim of tasks with a concurrency. It continues if its caller is cancelled."""
+        """Claim tasks with a concurrency limit.
+
+        The claim continues if its caller is cancelled.
+        """
         claiming = asyncio.get_running_loop().create_task(self._claim_limited(limited, wanted))
         try:
             return await asyncio.shield(claiming)
@@ -326,7 +341,10 @@ class PostgreSQLExternalAttempts:
             self._dropped(wanted, claiming.result())
 
     async def _claim_limited(self, limited: Sequence[str], wanted: ClaimRequest) -> list[list[Any]]:
-        """The rows of a claim of tasks with a concurrency. No other node claims them meanwhile."""
+        """Return the rows of a claim of tasks with a concurrency limit.
+
+        No other node claims them at the same time.
+        """
         workers = [wanted.worker] * wanted.most
         parameters = {"tasks": [*wanted.tasks], "most": wanted.most, "workers": workers}
         async with self._locking, self._asker.connection() as connection, connection.transaction():
@@ -346,7 +364,7 @@ class PostgreSQLExternalAttempts:
     async def report(self, attempt: str, lease: int, outcome: str, value: str) -> int | None:
         request = ReportRequest(attempt, lease, outcome, value)
         shard: int | None = await self._batcher.ask(request)
-        if shard is None:  # it does not count, or somebody has its row
+        if shard is None:  # it does not count, or another transaction has locked its row
             rows = await self._asker.ask(REPORT, **request._asdict())
             shard = int(rows[0][0]) if rows else None
         return shard

@@ -1,4 +1,4 @@
-"""Looks for sagas by their keys, many at once."""
+"""Looks up sagas by their keys, many at once."""
 
 from __future__ import annotations
 
@@ -24,8 +24,10 @@ FIND_ONE = FIND.replace(KEYS, "key = $1")
 
 
 class KeyFinder:
-    """Has a connection of its own. What is wanted while the server is asked is for the next
-    question."""
+    """Looks up keys over its own connection.
+
+    Keys that are wanted during a query go into the next query.
+    """
 
     def __init__(
         self, url: str, where: str, spawn: Callable[[Coroutine[Any, Any, None]], object]
@@ -37,28 +39,30 @@ class KeyFinder:
         )
         self._wanted: dict[str, list[asyncio.Future[SagaRow | None]]] = {}
         self._is_finding = False
-        self._seeking = 0  # keys that the server is asked for
+        self._seeking = 0  # keys of the query under way
 
     @property
     def pending_lookups(self) -> int:
-        """How many keys are looked for."""
+        """The number of keys that are being looked up."""
         return len(self._wanted) + self._seeking
 
     async def open(self) -> None:
-        """Connects. Raises `StoreUnavailable`."""
+        """Connect. Raises `StoreUnavailable`."""
         await self._connection.open()
 
     def cut(self) -> None:
-        """The connection is to a server of before."""
+        """End the connection: it is to a former server."""
         self._connection.cut()
 
     def close(self) -> None:
-        """Ends the connection."""
+        """Close the connection."""
         self._connection.close()
 
     async def find(self, key: str) -> SagaRow | None:
-        """The saga with this key; with an id below 0 one that a client started and no log has
-        yet. No saga has a key that is not a text.
+        """Return the saga with this key.
+
+        An id below 0 is that of a client's start that no shard has yet. No saga has a key that is
+        not a text.
         """
         if not isinstance(key, str):
             return None
@@ -71,7 +75,7 @@ class KeyFinder:
         return await future
 
     def _find(self) -> None:
-        """Looks for all keys that are wanted at once."""
+        """Look up all keys that are wanted, in one query."""
         wanted, self._wanted = self._wanted, {}
         self._seeking = len(wanted)
         keys = [clean(key) for key in wanted]
@@ -93,7 +97,7 @@ class KeyFinder:
     async def _find_after_connecting(
         self, wanted: dict[str, list[asyncio.Future[SagaRow | None]]], query: str, parameter: bytes
     ) -> None:
-        """As `_find`, over a connection that is made first."""
+        """As `_find`, over a new connection."""
         try:
             rows = await self._connection.read(query, parameter)
         except StoreUnavailable as fault:
@@ -112,7 +116,7 @@ class KeyFinder:
         rows: list[prepared.Values],
         fault: SagasError | None = None,
     ) -> None:
-        """Tells who wanted to know, and looks for what is wanted by now."""
+        """Answer the callers of a query, and look up the keys that are wanted by now."""
         sagas: dict[str, SagaRow] = {}
         for row in map(saga_row, rows):
             if row.key not in sagas or row.id >= 0:
@@ -127,7 +131,7 @@ class KeyFinder:
 
 
 def saga_row(values: prepared.Values) -> SagaRow:
-    """A row of `FIND_WIRED`."""
+    """Return a row of `FIND_WIRED`."""
     id, key, saga, definition_index, input, at, phase, end, ended, note = (
         None if value is None else value.decode() for value in values
     )

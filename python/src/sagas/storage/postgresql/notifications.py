@@ -1,7 +1,6 @@
-"""LISTEN with reconnect, and who waits for what.
+"""LISTEN with reconnection, and the callers that wait for notifications.
 
-What PostgreSQL tells as it happens, and who waits for it. Whoever waits also looks by himself: a
-word may be lost with its connection.
+Callers that wait also look by themselves, because a notification may be lost with its connection.
 """
 
 from __future__ import annotations
@@ -18,28 +17,31 @@ from sagas.storage.postgresql.prepared import Wire
 
 CHANNEL = "sagas_nodes"
 STARTS = "starts"
-"""The word that there are starts of clients."""
+"""The message that there are starts of clients."""
 AT_ONCE = "set_config('synchronous_commit', 'off', true)"
-"""A commit that tells holds a lock over the whole server until it is over. So it waits for no disk
-and no standby, and nothing is written with it: a crash forgets who listened."""
+"""A setting for transactions with a notification, so that they wait for no disk and no standby.
+
+Such a transaction holds a lock over the whole server until it ends. It writes nothing else: after a
+crash no connection listens.
+"""
 
 
 def notify_statement(channel: str) -> str:
-    """The statement that tells `messages` to all that listen on a channel."""
+    """Return the statement that sends `messages` to all listeners of a channel."""
     return f"SELECT {AT_ONCE}, pg_notify('{channel}', v) FROM unnest(%(messages)s::text[]) AS v"
 
 
 NOTIFY = notify_statement(CHANNEL)
 NOTIFY_WIRED = NOTIFY.replace("%(messages)s", "$1")
-"""The same over a wire, to which `array_of` gives the words."""
-MOST = 400  # ids a word: PostgreSQL takes 8,000 bytes
+"""The same for a wire. `array_of` returns its parameter."""
+MOST = 400  # ids per message: PostgreSQL accepts 8,000 bytes
 FIRST_LOOK, MOST_LOOK = 0.5, 30.0  # seconds
 RECENT = 10_000
 FIRST_PAUSE, MOST_PAUSE = 0.1, 2.0  # seconds
 
 
 def payloads(event: str, ids: Iterable[int]) -> list[str]:
-    """Words that tell of these ids."""
+    """Return the messages that report an event of these ids."""
     texts = [str(id) for id in ids]
     return [
         f"{event} {' '.join(texts[first : first + MOST])}" for first in range(0, len(texts), MOST)
@@ -47,14 +49,16 @@ def payloads(event: str, ids: Iterable[int]) -> list[str]:
 
 
 def array_of(messages: Iterable[str]) -> bytes:
-    """Words as an array of PostgreSQL's: there are letters, digits and blanks in them."""
+    """Return messages as a PostgreSQL array. They have only letters, digits and blanks."""
     return ('{"' + '","'.join(messages) + '"}').encode()
 
 
 class Listener:
-    """A connection that listens on channels, and is made anew where it breaks. `heard` is called
-    with each word, and `listens` whenever it has begun to listen: words may have been missed
-    before."""
+    """A connection that listens on channels, and connects again if it breaks.
+
+    `heard` is called with each message. `listens` is called whenever it has begun to listen:
+    messages may have been missed before.
+    """
 
     def __init__(
         self,
@@ -68,15 +72,15 @@ class Listener:
         self.ready = asyncio.Event()
 
     def cut(self) -> None:
-        """Connects again, since another server has taken over."""
+        """Connect again, since another server has taken over."""
         if self.wire:
             self.wire.close()
 
     async def finish(self) -> None:
-        """As `Attached`: `run` ends it where it is cancelled."""
+        """See `Attached.finish`. `run` ends the connection when it is cancelled."""
 
     async def run(self) -> None:
-        """Listens until it is cancelled."""
+        """Listen until it is cancelled."""
         pause = FIRST_PAUSE
         while True:
             try:
@@ -97,8 +101,9 @@ class Listener:
 
 
 class Notifications:
-    """Listens on a connection of its own. `look` is called for each word that is of no id, and
-    whenever words may have been missed.
+    """Listens on a connection of its own.
+
+    `look` is called for each message without an id, and whenever messages may have been missed.
     """
 
     def __init__(
@@ -111,22 +116,23 @@ class Notifications:
         self._job = asyncio.get_running_loop().create_task(self.listener.run())
 
     async def close(self, messages: Sequence[str] = ()) -> None:
-        """Says a last thing, and listens no more. Callers that wait look once more."""
+        """Send the last messages, and stop. Callers that wait look once more."""
         if messages:
             sent = asyncio.Event()
             self.say(messages, sent.set)
             with contextlib.suppress(TimeoutError):
                 async with asyncio.timeout(connections.CONNECT):
                     await sent.wait()
-        while not self._job.done():  # a connection that is being made may swallow the first word
+        while not self._job.done():  # a connection attempt may swallow the first cancellation
             self._job.cancel()
             await asyncio.wait([self._job], timeout=0.2)
         for futures in self._waiting.values():
             _wake(futures)
 
     def say(self, messages: Sequence[str], then: Callable[[], object]) -> None:
-        """Tells the others, if they can be told now: whoever waits also looks by himself. `then`
-        is called behind that.
+        """Send messages, if the connection works now. Call `then` afterwards.
+
+        All nodes that wait also look by themselves.
         """
         wire = self.listener.wire
         if messages and wire and not wire.closed:
@@ -135,7 +141,7 @@ class Notifications:
             then()
 
     def _missed(self) -> None:
-        self._recent.clear()  # another server may not know of these any more
+        self._recent.clear()  # another server may not have these commits
         for futures in self._waiting.values():
             _wake(futures)
         self._look("")
@@ -152,11 +158,14 @@ class Notifications:
             self._recent.popitem(last=False)
 
     async def of(self, id: int, turn: int) -> None:
-        """Waits for a saga's end; with an id below 0, for the log that takes it."""
+        """Wait for a saga's end.
+
+        An id below 0 is that of a start. Then it waits for the shard that takes the start.
+        """
         await self.wait(*(("ended", id) if id >= 0 else ("begun", -id)), turn)
 
     async def wait(self, event: str, id: int, turn: int) -> None:
-        """Returns when that was heard, or after a while, which is longer each turn."""
+        """Return when the event was reported, or after a pause, which grows with each turn."""
         event_and_id = event, id
         if event_and_id in self._recent:
             return

@@ -1,10 +1,10 @@
 """A connection that repeats prepared statements through libpq.
 
-A connection for the few statements that a node repeats all day: each is prepared once, and then
-done by libpq, as psycopg hands it out.
+It is for the few statements that a node repeats all the time: each is prepared once, and then
+executed by libpq, which psycopg exposes.
 
-A cursor of psycopg looks at each statement, each word and each row anew, which takes some four
-times as much of the processor as the rest.
+A cursor of psycopg handles each statement, each parameter and each row again. That takes about four
+times as much processor time as the rest.
 """
 
 from __future__ import annotations
@@ -24,23 +24,24 @@ if TYPE_CHECKING:
     from psycopg.pq.abc import PGresult
 
 Parameters = Sequence[Optional[bytes]]
-"""Of a statement, for $1 and so on, as PostgreSQL reads them."""
+"""The values of $1 and so on, in PostgreSQL's text format."""
 Values = tuple[Optional[bytes], ...]
-"""Of a row, as PostgreSQL writes them."""
+"""The values of a row, in PostgreSQL's text format."""
 ReplyCallback = Callable[[list[Values], Optional[Exception]], object]
-"""What is called with the rows, or with what was raised."""
+"""Called with the rows, or with the error."""
 MOST = 96
-"""Statements that are prepared at once: each takes the server some 270 kB."""
+"""Maximum number of prepared statements: each takes the server about 270 kB."""
 GOOD = (pq.ExecStatus.TUPLES_OK, pq.ExecStatus.COMMAND_OK)
 
 
 Job = tuple[str, Parameters, ReplyCallback]
-"""A statement that is under way, or waits for those before it, and what is told of it."""
+"""A statement that is being executed or waits, its parameters, and its callback."""
 
 
 class Wire:
-    """One statement at a time; who is told of it is called in the loop. Where the connection
-    breaks, or is late, it is closed.
+    """Executes one statement at a time, and calls the callback in the loop.
+
+    If the connection breaks, or a reply is late, the connection is closed.
     """
 
     def __init__(
@@ -49,8 +50,12 @@ class Wire:
         heard: Callable[[str], object] | None = None,
         patience: float | None = None,
     ) -> None:
-        """`heard` is called with each word of a channel that it listens on. `patience`: seconds
-        that an answer may take (default: `connections.PATIENCE`).
+        """Take over a connection.
+
+        Args:
+            connection: The connection.
+            heard: Called with each notification of a channel on which the connection listens.
+            patience: Maximum number of seconds for a reply (default: `connections.PATIENCE`).
         """
         self._connection, self._pgconn, self._heard = connection, connection.pgconn, heard
         self._patience = connections.PATIENCE if patience is None else patience
@@ -59,30 +64,35 @@ class Wire:
         self._names: dict[str, bytes] = {}
         self._jobs: deque[Job] = deque()
         self._preparing: bytes | None = None
-        self._lets_go = False  # all that was prepared, before it begins
+        self._is_deallocating = False  # all prepared statements, before the next one
         self._result: PGresult | None = None
-        self._is_full = False  # more is to be sent than the socket takes
-        self._timer: asyncio.TimerHandle | None = (
-            None  # one for all statements: it looks at `_until` when it rings
-        )
+        self._is_full = False  # the socket accepts no more bytes now
+        # one timer for all statements, which checks `_until`
+        self._timer: asyncio.TimerHandle | None = None
         self._until = 0.0
         self.closed = False
         self.gone = asyncio.Event()
-        """It is closed."""
+        """Set when it is closed."""
         self._loop.add_reader(self._fd, self._readable)
 
     def ask(self, text: str, parameters: Parameters, then: ReplyCallback) -> None:
-        """Does a statement behind those before. `then` hears what psycopg raises, or a
-        `TimeoutError`.
+        """Execute a statement after those before.
+
+        `then` gets the rows, an error of psycopg, or a `TimeoutError`.
         """
         self._jobs.append((text, parameters, then))
         if self.closed:
-            self._loop.call_soon(self._tell, errors.OperationalError("the connection is closed"))
+            self._loop.call_soon(
+                self._fail_all, errors.OperationalError("the connection is closed")
+            )
         elif len(self._jobs) == 1:
-            self._go_on()
+            self._begin_next()
 
     async def rows(self, text: str, *parameters: bytes | None) -> list[Values]:
-        """As `ask`, for who waits; who is cancelled leaves the statement to its end."""
+        """Return a statement's rows.
+
+        If the caller is cancelled, the statement continues to its end.
+        """
         future: asyncio.Future[list[Values]] = self._loop.create_future()
 
         def then(rows: list[Values], fault: Exception | None) -> None:
@@ -93,7 +103,7 @@ class Wire:
         return await future
 
     async def rest(self) -> None:
-        """Wait until all that was asked so far is over."""
+        """Wait until all statements so far have ended."""
         if not self._jobs:
             return
         future: asyncio.Future[None] = self._loop.create_future()
@@ -108,13 +118,13 @@ class Wire:
         await future
 
     def close(self) -> None:
-        """Ends it; of what was under way nobody knows."""
+        """Close it. The outcome of the statement under way is unknown."""
         self._break(errors.OperationalError("the connection is closed"))
 
-    # -- there
+    # -- sending
 
-    def _go_on(self) -> None:
-        """The next one: it has its time from now on."""
+    def _begin_next(self) -> None:
+        """Begin the next statement, whose timeout starts now."""
         self._until = self._loop.time() + self._patience
         if self._timer is None:
             self._timer = self._loop.call_at(self._until, self._look)
@@ -125,7 +135,7 @@ class Wire:
         try:
             name = self._names.get(text)
             if name is None and len(self._names) >= MOST:
-                self._lets_go = True
+                self._is_deallocating = True
                 self._pgconn.send_query(b"DEALLOCATE ALL")
             elif name is None:
                 self._preparing = b"sagas%d" % len(self._names)
@@ -151,7 +161,7 @@ class Wire:
         except Exception as error:
             self._break(error)
 
-    # -- back
+    # -- receiving
 
     def _readable(self) -> None:
         try:
@@ -163,7 +173,7 @@ class Wire:
             self._over()
 
     def _receive(self) -> bool:
-        """Whether the server has said all of what it was asked last."""
+        """Return whether the server's reply to the last statement is complete."""
         self._pgconn.consume_input()
         while self._heard and (notification := self._pgconn.notifies()):
             self._loop.call_soon(self._heard, notification.extra.decode())
@@ -181,8 +191,8 @@ class Wire:
         fault = None if result.status in GOOD else errors.error_from_result(result)
         if fault is None and self._connection.warned:
             self._connection.warned, fault = False, NotReplicated()
-        lets_go, self._lets_go = self._lets_go, False
-        if lets_go and not fault:
+        is_deallocating, self._is_deallocating = self._is_deallocating, False
+        if is_deallocating and not fault:
             self._names.clear()
             self._begin()
             return
@@ -193,13 +203,13 @@ class Wire:
         _, _, then = self._jobs.popleft()
         rows = [] if fault else read(result)
         if self._jobs:
-            self._go_on()
+            self._begin_next()
         then(rows, fault)
 
-    # -- what goes wrong
+    # -- errors
 
     def _look(self) -> None:
-        """Whether the statement that is under way is late."""
+        """Check whether the statement under way is late."""
         self._timer = None
         if self._jobs and self._loop.time() >= self._until:
             self._break(TimeoutError(f"no answer in {self._patience:g} s"))
@@ -207,7 +217,7 @@ class Wire:
             self._timer = self._loop.call_at(self._until, self._look)
 
     def _break(self, error: Exception) -> None:
-        """It is of no use any more."""
+        """Close the connection after an error."""
         if not self.closed:
             self.closed = True
             self.gone.set()
@@ -217,16 +227,16 @@ class Wire:
             if self._timer:
                 self._timer.cancel()
             self._pgconn.finish()
-        self._tell(error)
+        self._fail_all(error)
 
-    def _tell(self, error: Exception) -> None:
+    def _fail_all(self, error: Exception) -> None:
         jobs, self._jobs = self._jobs, deque()
         for _, _, then in jobs:
             then([], error)
 
 
 def array(texts: Iterable[str]) -> bytes:
-    """Return an array of texts, as a word of a statement. They have no zero bytes."""
+    """Return an array of texts, as a parameter. The texts have no zero bytes."""
     escaped = [
         text.replace("\\", "\\\\").replace('"', '\\"') if '"' in text or "\\" in text else text
         for text in texts
@@ -242,18 +252,18 @@ def numbered(text: str, *names: str) -> str:
 
 
 def read(result: PGresult) -> list[Values]:
-    """Its rows."""
+    """Return the rows of a result."""
     count = result.ntuples
     if not count:
         return []
-    if count == 1 and result.nfields == 1:  # as of most commits
+    if count == 1 and result.nfields == 1:  # most commits have one cell
         return [(result.get_value(0, 0),)]
     columns = range(result.nfields)
     return [tuple([result.get_value(row, column) for column in columns]) for row in range(count)]
 
 
 class ReconnectingWire:
-    """A wire that is made again where it broke, for short statements."""
+    """A wire for short statements that is made again when it breaks."""
 
     def __init__(self, url: str, where: str) -> None:
         self._url, self._where = url, where
@@ -267,12 +277,15 @@ class ReconnectingWire:
         return self._wire is not None and not self._wire.closed
 
     async def open(self) -> None:
-        """Connects. Raises `StoreUnavailable`."""
+        """Connect. Raises `StoreUnavailable`."""
         with connections.translate_errors(self._where):
             await self._made()
 
     async def ask(self, text: str, *parameters: bytes | None) -> list[Values]:
-        """A statement's rows. Raises `StoreUnavailable`; then nobody knows whether it was done."""
+        """Return a statement's rows.
+
+        Raises `StoreUnavailable`. Then it is unknown whether the statement was executed.
+        """
         with connections.translate_errors(self._where):
             wire = self._wire
             if wire is None or wire.closed:
@@ -280,8 +293,9 @@ class ReconnectingWire:
             return await wire.rows(text, *parameters)
 
     def send(self, text: str, parameters: Parameters, then: ReplyCallback) -> bool:
-        """As `Wire.ask`, which takes the loop no turn of a task's; False where there is no
-        connection yet, or any more.
+        """As `Wire.ask`, without a task of the loop.
+
+        Return False if there is no connection.
         """
         if self._wire is None or self._wire.closed:
             return False
@@ -289,9 +303,7 @@ class ReconnectingWire:
         return True
 
     async def read(self, text: str, *parameters: bytes | None) -> list[Values]:
-        """As `ask`, for what may be asked twice: a connection that broke unnoticed is tried
-        past.
-        """
+        """As `ask`, for a query that may be executed twice, if its connection broke unnoticed."""
         return await connections.tried(lambda: self.ask(text, *parameters))
 
     async def _made(self) -> Wire:
@@ -302,21 +314,20 @@ class ReconnectingWire:
                 connection = await connections.connect(
                     self._url, f"{connections.REPEATED}; {connections.LIMITED}"
                 )
-                if self._is_over:  # meanwhile
+                if self._is_over:  # it was closed during the connect
                     await connection.close()
                     raise errors.OperationalError("the connection is closed")
-                self._wire = Wire(
-                    connection, patience=connections.PATIENCE + 1
-                )  # the server gives up first
+                # the server gives up first
+                self._wire = Wire(connection, patience=connections.PATIENCE + 1)
             return self._wire
 
     def cut(self) -> None:
-        """Ends it: the next one is made when it is wanted."""
+        """End it at once. The next one is made when it is needed."""
         if self._wire:
             self._wire.close()
 
     async def finish(self) -> None:
-        """End it permanently, after what is under way, unless that takes long."""
+        """End it permanently, after the statements under way, unless they take long."""
         self._is_over = True
         if self._wire:
             with contextlib.suppress(TimeoutError):

@@ -22,8 +22,10 @@ class Reader:
         self._turn = 0
 
     def rows(self, query: str, *parameters: Any) -> list[tuple[Any, ...]]:
-        """Rows of a query. A connection that broke unnoticed is made again. Raises
-        `StoreUnavailable` where the server does not answer.
+        """Return the rows of a query.
+
+        A connection that broke unnoticed is made again. Raises `StoreUnavailable` if the server
+        does not answer.
         """
         arguments = cleaned(parameters)
         for turn in (0, 1):
@@ -41,7 +43,7 @@ class Reader:
         raise AssertionError
 
     def _follow(self) -> None:
-        """Leaves a server that another one has replaced."""
+        """Leave a server that another one has replaced."""
         turn = self._url.turn if isinstance(self._url, Hosts) else 0
         if turn != self._turn:
             self._turn = turn

@@ -1,8 +1,8 @@
 """Connections that notice a commit which no synchronous standby has.
 
-A commit that waits for a standby has no limit at the server. If that wait is canceled, the server
-answers as if all was well, and only warns: the transaction is visible, and a standby that takes
-over may lack it. These connections raise `NotReplicated` then.
+The server has no time limit for a commit that waits for a standby. If that wait is canceled, the
+server reports a success, and only warns: the transaction is visible, and a standby that takes over
+may not have it. These connections raise `NotReplicated` then.
 """
 
 from __future__ import annotations
@@ -24,10 +24,15 @@ if TYPE_CHECKING:
 RV = TypeVar("RV")
 Row = tuple[Any, ...]
 CANCELED = "SyncRepWaitForLSN"
-"""The function of PostgreSQL that warns. The text of the warning is in the server's language."""
+"""The PostgreSQL function that warns.
+
+The text of the warning is in the server's language.
+"""
 REPLICATED = "SELECT pg_logical_emit_message(true, 'sagas', '')"
-"""A commit that changes nothing: once it is answered, a synchronous standby has all that this
-connection could see."""
+"""A commit that changes nothing.
+
+Once it is done, a synchronous standby has all that this connection could see.
+"""
 
 
 class NotReplicated(errors.OperationalError):
@@ -49,14 +54,14 @@ class StoreConnection(psycopg.AsyncConnection[Row]):
         _watch(self)
 
     async def wait(self, gen: PQGen[RV], *args: Any, **kwargs: Any) -> RV:
-        """All that psycopg does over a connection goes by here."""
+        """Check for the warning after each operation of psycopg."""
         value = await super().wait(gen, *args, **kwargs)
         check(self)
         return value
 
 
 class PlainStoreConnection(psycopg.Connection[Row]):
-    """The same for threads."""
+    """A connection of the store's own, for threads."""
 
     def __init__(self, *args: Any, **kwargs: Any) -> None:
         super().__init__(*args, **kwargs)
@@ -64,7 +69,7 @@ class PlainStoreConnection(psycopg.Connection[Row]):
         _watch(self)
 
     def wait(self, gen: PQGen[RV], *args: Any, **kwargs: Any) -> RV:
-        """All that psycopg does over a connection goes by here."""
+        """Check for the warning after each operation of psycopg."""
         value = super().wait(gen, *args, **kwargs)
         check(self)
         return value
@@ -74,7 +79,7 @@ Connection = Union[StoreConnection, PlainStoreConnection]
 
 
 def _watch(connection: Connection) -> None:
-    """Note the warning. psycopg keeps the handler, which therefore does not keep the connection."""
+    """Note the warning. psycopg keeps the handler, so the handler does not keep the connection."""
     reference = weakref.ref(connection)
 
     def note(notice: errors.Diagnostic) -> None:
@@ -86,7 +91,7 @@ def _watch(connection: Connection) -> None:
 
 
 def check(connection: Connection) -> None:
-    """Raises `NotReplicated` where the server warned since this was called last."""
+    """Raise `NotReplicated` if the server has warned since the last call."""
     if connection.warned:
         connection.warned = False
         raise NotReplicated
@@ -94,7 +99,7 @@ def check(connection: Connection) -> None:
 
 @contextlib.contextmanager
 def heeded(connection: psycopg.AsyncConnection[Any] | psycopg.Connection[Any]) -> Iterator[None]:
-    """The same of a connection that somebody else made: of what is committed within."""
+    """Raise `NotReplicated` if a commit of the block was warned of, on a caller's connection."""
     warned = False
 
     def note(notice: errors.Diagnostic) -> None:
@@ -111,7 +116,10 @@ def heeded(connection: psycopg.AsyncConnection[Any] | psycopg.Connection[Any]) -
 
 
 def shut(connection: StoreConnection) -> None:
-    """End it, so that psycopg hears of that; until then its descriptor is nobody else's."""
+    """Shut the socket down, so that psycopg notices it.
+
+    Until then no other file has its descriptor.
+    """
     with contextlib.suppress(OSError, psycopg.Error):
         with socket.socket(fileno=os.dup(connection.pgconn.socket)) as end:
             end.shutdown(socket.SHUT_RDWR)
@@ -119,10 +127,10 @@ def shut(connection: StoreConnection) -> None:
 
 @contextlib.asynccontextmanager
 async def limited(connection: StoreConnection, seconds: float) -> AsyncIterator[None]:
-    """Cuts the connection where what is done within takes longer. Raises `TimeoutError` then.
+    """Cut the connection if the block takes longer. Raises `TimeoutError` then.
 
-    Nothing is canceled at the server, as psycopg 3.2 does for a caller that is canceled: a commit
-    that waits for a standby is seen by nobody before the standby has it.
+    Nothing is canceled on the server, as psycopg 3.2 does for a cancelled caller. A commit that
+    waits for a standby must not become visible before the standby has it.
     """
     is_late = False
 
@@ -143,8 +151,9 @@ async def limited(connection: StoreConnection, seconds: float) -> AsyncIterator[
 
 
 class Barrier:
-    """Waits until the synchronous standbys have what is visible; one commit is for all that ask
-    before it is sent.
+    """Waits until the synchronous standbys have what is visible.
+
+    One commit serves all callers that ask before it is sent.
     """
 
     def __init__(self, ask: Callable[[str], Coroutine[Any, Any, object]]) -> None:
@@ -152,7 +161,7 @@ class Barrier:
         self._next: asyncio.Task[None] | None = None
 
     async def passed(self) -> None:
-        """Raises `StoreUnavailable`."""
+        """Wait for the standbys. Raises `StoreUnavailable`."""
         if self._next is None:
             self._next = asyncio.get_running_loop().create_task(self._pass())
             self._next.add_done_callback(lambda job: job.cancelled() or job.exception())

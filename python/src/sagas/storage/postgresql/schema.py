@@ -10,7 +10,7 @@ from sagas.base.logger import logger
 from sagas.storage.postgresql.connections import RIGHTS
 
 LOCK = 5_777_001
-"""The advisory lock under which tables are made and migrated."""
+"""The advisory lock under which tables are created and migrated."""
 
 SCHEMA = """
 -- Nodes: a node is one run of a program (its name, and a random suffix). It owns its shards until
@@ -213,12 +213,12 @@ CREATE TABLE sagas.secrets(name text PRIMARY KEY, value text NOT NULL);
 VERSION = 1
 
 STARTED = "CREATE INDEX IF NOT EXISTS sagas_started ON sagas.sagas(at, id)"
-"""Of tables that were made before lists were in the order of the starts."""
+"""For tables of older releases, which have no index of start times."""
 LACKS_STARTED = """
 SELECT to_regclass('sagas.sagas_started') IS NULL AND pg_has_role(relowner, 'USAGE')
 FROM pg_class WHERE oid = to_regclass('sagas.sagas')
 """
-"""Whether the index is missing, and this user may make it."""
+"""Whether the index is missing, and this user may create it."""
 REMEDY = "Run `CREATE INDEX CONCURRENTLY sagas_started ON sagas.sagas(at, id)`"
 
 TABLES = (
@@ -249,7 +249,7 @@ TABLES = (
 
 
 def version_of(connection: psycopg.Connection[tuple[object, ...]]) -> int:
-    """The version of the tables; 0 where there are none."""
+    """Return the version of the tables; 0 if there are none."""
     if connection.execute("SELECT to_regclass('sagas.store')").fetchone() == (None,):
         return 0
     row = connection.execute("SELECT version FROM sagas.store").fetchone()
@@ -257,7 +257,7 @@ def version_of(connection: psycopg.Connection[tuple[object, ...]]) -> int:
 
 
 def check(version: int, where: str) -> None:
-    """Raises `StoreSchemaTooNew` where the tables are of a later version."""
+    """Raise `StoreSchemaTooNew` if the tables are of a later version."""
     if version > VERSION:
         raise StoreSchemaTooNew(
             f"{where}: its tables have version {version}, and this program knows "
@@ -266,21 +266,20 @@ def check(version: int, where: str) -> None:
 
 
 def migrate(connection: psycopg.Connection[tuple[object, ...]], where: str) -> int:
-    """Makes the tables where there are none, in one transaction; gives the version that was there.
-    Of older tables it makes the index of the starts, where this user may.
+    """Create missing tables in one transaction, and return the version before.
 
-    The connection commits each statement. Raises `StoreSchemaTooNew`, or `InvalidStore` where this
-    user
-    may not.
+    Older tables get the index of start times, if this user may create it.
+
+    The connection commits each statement. Raises `StoreSchemaTooNew`, or `InvalidStore` if this
+    user may not create the tables.
     """
     try:
         version = version_of(connection)
         check(version, where)
         if version == VERSION and not _lacks_started(connection):
             return version
-        connection.execute(
-            "SELECT pg_advisory_lock(%s)", (LOCK,)
-        )  # before the transaction: one that waits within it may not see new tables
+        # before the transaction: one that waits for the lock may not see new tables
+        connection.execute("SELECT pg_advisory_lock(%s)", (LOCK,))
         try:
             version = version_of(connection)
             check(version, where)
@@ -303,7 +302,10 @@ def _lacks_started(connection: psycopg.Connection[tuple[object, ...]]) -> bool:
 
 
 def _add_started(connection: psycopg.Connection[tuple[object, ...]], where: str) -> None:
-    """Makes the index, unless that held up the other nodes for long: lists are slow without it."""
+    """Create the index, unless other nodes would have to wait for it for long.
+
+    Lists are slow without it.
+    """
     try:
         with connection.transaction():
             connection.execute("SET LOCAL lock_timeout = '5s'")
@@ -321,8 +323,9 @@ def _make(connection: psycopg.Connection[tuple[object, ...]]) -> None:
 
 
 def allow(connection: psycopg.Connection[tuple[object, ...]], role: str) -> None:
-    """Gives a role what a node and a client need, and no more: the rows of these tables. Raises
-    `InvalidStore` where this user cannot give that.
+    """Grant a role the rights that a node and a client need: only the rows of these tables.
+
+    Raises `InvalidStore` if this user cannot grant them.
     """
     name = sql.Identifier(role)
     with connection.transaction():
@@ -338,13 +341,15 @@ def allow(connection: psycopg.Connection[tuple[object, ...]], role: str) -> None
             sql.SQL("GRANT USAGE ON ALL SEQUENCES IN SCHEMA sagas TO {}").format(name)
         )
         connection.execute(sql.SQL("GRANT EXECUTE ON FUNCTION sagas.last_seq TO {}").format(name))
-        given = (
+        are_granted = (
             "has_schema_privilege(%(role)s, 'sagas', 'USAGE') "
             "AND has_table_privilege(%(role)s, 'sagas.shards', 'INSERT')"
         )
-        if connection.execute(f"SELECT {given}", {"role": role}).fetchone() != (
-            True,
-        ):  # PostgreSQL only warns where nothing was given
+        # PostgreSQL only warns if nothing was granted
+        (is_granted,) = connection.execute(f"SELECT {are_granted}", {"role": role}).fetchone() or (
+            False,
+        )
+        if is_granted is not True:
             raise InvalidStore(
                 f"{connection.info.user} cannot grant these rights to {role}. Run the command as "
                 "the owner of the schema `sagas`"

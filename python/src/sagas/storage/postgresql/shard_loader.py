@@ -1,7 +1,7 @@
 """Loads many shards in one round trip.
 
-How logs are taken up from PostgreSQL: those that are wanted at once go together, by one message
-to the server and its answer.
+Shards that are wanted at the same time are loaded together, by one message to the server and its
+reply.
 """
 
 from __future__ import annotations
@@ -21,7 +21,7 @@ from sagas.storage.postgresql import connections
 from sagas.storage.record_file import RecordFile
 
 MOST = 64
-"""Logs that are taken up at once."""
+"""Maximum number of shards that are loaded at once."""
 
 LOGS = "shard = ANY(%(shards)s::bigint[])"
 MINE = "owner = %(node)s AND closed = 0"
@@ -50,25 +50,28 @@ SELECT shard, {MINE},
     FROM event_log e WHERE e.shard = l.shard ORDER BY first_seq DESC LIMIT 1)::text,
   {connections.LINE} FROM shards l WHERE {LOGS}
 """
-"""One transaction: the second part sees all that was written under the epochs before, and
-meanwhile nothing is. A log of which a commit is under way is passed over. A log's sagas are one
-text, since psycopg takes longer for some thousand cells than the server for all.
+"""Loads shards in one transaction.
+
+The second part sees all that was written under the former epochs, and nothing is written in
+between. A shard with a commit under way is skipped. A shard's sagas are one text, since psycopg
+takes longer for a thousand cells than the server takes for all sagas.
 """
 NEW = connections.TAKEOVER.format(node="%(node)s", last="-1", taken="born")
 BORN = f"""
-WITH given AS (SELECT place, digest, text FROM unnest(%(places)s::integer[], %(digests)s::text[],
-    %(texts)s::text[]) AS of(place, digest, text)),
-new AS (INSERT INTO definitions SELECT DISTINCT digest, text FROM given ORDER BY 1
+WITH definition AS (SELECT place, digest, text
+  FROM unnest(%(places)s::integer[], %(digests)s::text[], %(texts)s::text[]) AS of(place, digest, text)),
+new AS (INSERT INTO definitions SELECT DISTINCT digest, text FROM definition ORDER BY 1
   ON CONFLICT DO NOTHING),
-new2 AS (INSERT INTO shard_definitions SELECT %(shard)s, place, digest FROM given
+new2 AS (INSERT INTO shard_definitions SELECT %(shard)s, place, digest FROM definition
   ON CONFLICT DO NOTHING),
 born AS (INSERT INTO shards(shard, name, owner, epoch)
   VALUES (%(shard)s, %(name)s, %(node)s, %(epoch)s) ON CONFLICT DO NOTHING
   RETURNING shard, epoch)
 {NEW}
 """
-"""A log that is not in the store, as far as this node knows: the commit that was to hold it may
-come late, and then meets it, of a later epoch.
+"""Creates a shard that is not in the store, as far as this node knows.
+
+The commit that was to create it may still arrive, and then finds a later epoch.
 """
 DEFINITIONS = "SELECT count(*) FROM shard_definitions WHERE shard = %(shard)s"
 ALONE = (
@@ -76,13 +79,14 @@ ALONE = (
     f"RETURNING shard, epoch), noted AS ({connections.READ}) "
     f"SELECT epoch, {connections.LINE} FROM mine"
 )
-"""Whatever its epoch is, here as above: this node may not have heard of the last one that it
-made.
+"""Loads one shard, whatever its epoch is.
+
+As above, this node may not know the last epoch that it began.
 """
 
 
 class LoadRequest(NamedTuple):
-    """A log that is to be taken up."""
+    """A shard that is to be loaded."""
 
     shard: int
     epoch: int
@@ -90,7 +94,7 @@ class LoadRequest(NamedTuple):
     loaded_shard: asyncio.Future[Loaded | None]
 
     def resolve(self, loaded: Loaded | None, fault: Exception | None = None) -> None:
-        """To who wants it, and waits for it still."""
+        """Answer the caller, if it still waits."""
         if not self.loaded_shard.done():
             self.loaded_shard.set_exception(fault) if fault else self.loaded_shard.set_result(
                 loaded
@@ -100,10 +104,12 @@ class LoadRequest(NamedTuple):
 WAKE = """
 SELECT NOT EXISTS (SELECT 1 FROM shards WHERE shard = %(shard)s AND (owner IS DISTINCT FROM %(node)s
 OR epoch <> %(epoch)s OR closed <> 0)), l.first_seq, l.committed_at, l.text
-FROM (SELECT) one LEFT JOIN event_log l ON l.shard = %(shard)s ORDER BY l.first_seq
+FROM (SELECT) single LEFT JOIN event_log l ON l.shard = %(shard)s ORDER BY l.first_seq
 """
-"""Beside each chunk of a log, whether the log is this node's under this epoch, or is not born
-yet: as of one moment.
+"""Returns each chunk of a shard's log.
+
+The first column says, as of the same moment, whether this node owns the shard under this epoch, or
+the shard does not exist yet.
 """
 
 
@@ -115,7 +121,7 @@ class EventLog(NamedTuple):
 
     Attributes:
         text: Its lines.
-        events: How many they are.
+        events: The number of lines.
         tail: Its last chunk, if it has any.
     """
 
@@ -125,13 +131,13 @@ class EventLog(NamedTuple):
 
     @classmethod
     def of(cls, chunks: Sequence[tuple[int, float, str]]) -> EventLog:
-        """Join its chunks."""
+        """Join the chunks of a log."""
         text, events = queries.joined([(first, text) for first, _, text in chunks])
         return cls(text, events, Tail(*chunks[-1][:2]) if chunks else None)
 
 
 class ShardLoader:
-    """Takes up logs for one node."""
+    """Loads shards for one node."""
 
     def __init__(
         self,
@@ -144,11 +150,11 @@ class ShardLoader:
         self._asker, self._node, self._spawn = asker, node, spawn
         self._wanted: list[LoadRequest] = []
         self._is_loading = False
-        # shards that are locked go one by one: each may hold for long a connection that others need
+        # locked shards are loaded one by one: each may need a connection for a long time
         self._one = asyncio.Lock()
 
     async def take_up(self, shard: int, epoch: int, line: str) -> EventLog | None:
-        """As `Database.take_up`, from a server of this timeline."""
+        """See `Database.take_up`. The server has this timeline."""
         rows = await self._asker.read(WAKE, shard=shard, node=self._node, epoch=epoch)
         if not rows[0][0]:
             return None
@@ -158,7 +164,7 @@ class ShardLoader:
         return read
 
     async def load(self, shard: int, epoch: int, born: Born | None) -> Loaded | None:
-        """As `Database.load`."""
+        """See `Database.load`."""
         request = LoadRequest(shard, epoch, born, asyncio.get_running_loop().create_future())
         if born:
             self._spawn(self._load_alone(request))
@@ -173,7 +179,7 @@ class ShardLoader:
         return loaded
 
     async def _load(self) -> None:
-        """All that is wanted, one lot behind the other."""
+        """Load all shards that are wanted, one batch after the other."""
         try:
             while self._wanted:
                 batch, self._wanted = self._wanted[:MOST], self._wanted[MOST:]
@@ -182,14 +188,16 @@ class ShardLoader:
             self._is_loading = False
 
     async def _load_batch(self, batch: Sequence[LoadRequest]) -> None:
-        """Tells who wants them. One of which a commit is under way comes alone; and so does each
-        where the server refused, which may be because of one.
+        """Load a batch, and answer the callers.
+
+        A shard with a commit under way is loaded alone. If the server refused the batch, each shard
+        is loaded alone, since one of them may be the reason.
         """
         try:
             rest = await self._together(batch)
         except Exception as fault:
             rest = [request for request in batch if not request.loaded_shard.done()]
-            if not _was_heard(fault):
+            if not _was_answered(fault):
                 for request in rest:
                     request.resolve(None, fault)
                 return
@@ -206,8 +214,9 @@ class ShardLoader:
             request.resolve(loaded)
 
     async def _together(self, batch: Sequence[LoadRequest]) -> list[LoadRequest]:
-        """Tells of those that were taken up, one behind the other, so that others have their
-        turns; gives those that are locked.
+        """Load shards, and return the requests of those that are locked.
+
+        The callers are answered one after the other, so that others have their turns in the loop.
         """
         parameters = {
             "shards": f"{{{','.join(str(request.shard) for request in batch)}}}",
@@ -243,7 +252,7 @@ class ShardLoader:
         return locked
 
     async def _alone(self, request: LoadRequest) -> Loaded | None:
-        """Row by row, however large it is."""
+        """Load a shard row by row, for any size."""
         low, high = queries.bounds(request.shard)
         parameters = {
             "low": low,
@@ -282,20 +291,20 @@ class ShardLoader:
 
 
 def _born(born: Born) -> dict[str, Any]:
-    """A log's name and definitions, as `BORN` has them."""
+    """Return a shard's name and definitions as parameters of `BORN`."""
     name, defined = born
     places, digests, texts = zip(*defined) if defined else ((), (), ())
     return {"name": name, "places": [*places], "digests": [*digests], "texts": [*texts]}
 
 
-def _was_heard(fault: Exception) -> bool:
-    """Whether the server was there, and refused, or took too long."""
+def _was_answered(fault: Exception) -> bool:
+    """Whether the server answered with an error, or took too long."""
     cause = fault.__cause__ if isinstance(fault, StoreUnavailable) else fault
     return isinstance(cause, TimeoutError) or getattr(cause, "sqlstate", None) is not None
 
 
 def _loaded(text: str, opened: int, sagas: Sequence[Any]) -> Loaded:
-    """From its cells. Seconds are written as whole numbers there, where they are."""
+    """Return a shard from its cells. JSON may have whole numbers of seconds."""
     results: list[Result] = [
         (id, step, kind, attempt, outcome, value, float(at))
         for saga in sagas

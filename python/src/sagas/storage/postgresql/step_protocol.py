@@ -20,10 +20,11 @@ if TYPE_CHECKING:
 
 RV = TypeVar("RV")
 AS_MADE = "RESET ALL; RESET ROLE; RESET SESSION AUTHORIZATION"
-"""What a step set on its connection is not the next one's."""
+"""Resets a connection: the settings of a step must not affect the next one."""
 MAY_SET = re.compile(r"set_config|;\s*\S", re.IGNORECASE)
-"""In a statement: it may set something although the server has another word for it, as for the
-first of several statements in one text.
+"""Matches a statement that may change a setting, although the server reports another command.
+
+For example, the server reports only the first of several statements in one text.
 """
 FORBIDDEN = "Explicit {}() forbidden: the transaction is the step's, and ends with it"
 ENDED = (
@@ -36,15 +37,18 @@ BROKE = (
 )
 OPEN = (pq.TransactionStatus.INTRANS, pq.TransactionStatus.INERROR)
 JOINS = pq.version() >= 140000
-"""Whether libpq can send one statement behind another, without waiting."""
+"""Whether libpq can send one statement after another, without waiting."""
 LET_GO = "DEALLOCATE ALL"
-"""A statement, and the word that the server has for it; psycopg sends it behind a rollback."""
+"""A statement, and the server's report of it; psycopg sends it after a rollback."""
 FIRST_PAUSE, MOST_PAUSE = 1.0, 600.0
-"""Seconds without what is prepared, once a server did not know it: at first, and at most."""
+"""Seconds without prepared statements, once a server did not know them.
+
+The values are the first pause, and the longest.
+"""
 
 
 class Prepares:
-    """What is prepared over each connection, for the transaction's end."""
+    """The statements that are prepared on each connection, for the transaction's end."""
 
     def __init__(self, text: str) -> None:
         self.text = text
@@ -53,42 +57,48 @@ class Prepares:
 
     @property
     def works(self) -> bool:
-        """Whether it is used, as far as is known: not for a while once a server did not know it."""
+        """Whether to use them. They are not used for a while after a server did not know them."""
         return not self.until or time.monotonic() >= self.until
 
     def refused(self) -> None:
-        """A server did not know it: a function let it go, or a pooler changed the session."""
+        """Note that a server did not know them.
+
+        A function deallocated them, or a pooler changed the session.
+        """
         self.until = time.monotonic() + self._pause
         self._pause = min(MOST_PAUSE, 2 * self._pause)
 
 
 class Statements(enum.Enum):
-    """What became of that over a connection."""
+    """The state of the prepared statements on a connection."""
 
     NONE = "none"
-    """It was not prepared."""
+    """They were not prepared."""
     KEPT = "kept"
     LET_GO = "let go"
-    """psycopg let all go, and knows of it: it is prepared anew."""
+    """psycopg deallocated all statements, and knows it: they are prepared again."""
     LOST = "lost"
-    """A statement of the function's did, and psycopg does not know it: no step has it again."""
+    """A statement of the function deallocated them, and psycopg does not know it.
+
+    No other step gets the connection.
+    """
 
 
 def look_at(connection: AsyncStepLink | StepLink, command: object) -> None:
-    """psycopg is about to send this, of its own accord."""
+    """Note a command that psycopg is about to send by itself."""
     if command == LET_GO.encode() and connection.statements is Statements.KEPT:
         connection.statements = Statements.LET_GO
 
 
 def check_whole(connection: AsyncStepLink | StepLink) -> None:
-    """Whether the transaction is there to be ended; nothing of its end was sent. Raises what
-    psycopg raises where the connection broke, as while the function did something else, or where
-    the function ended the transaction.
+    """Check that the transaction can be ended; nothing of its end was sent.
+
+    Raises psycopg's error if the connection broke, for example while the function did something
+    else, or if the function ended the transaction.
     """
     try:
-        for _ in range(
-            2 if connection.is_unheard else 0
-        ):  # what the server said last, and that it is gone
+        # the server's last bytes, and the end of the connection
+        for _ in range(2 if connection.is_unheard else 0):
             if not connection.closed:
                 connection.pgconn.consume_input()
     except psycopg.Error as error:
@@ -100,9 +110,7 @@ def check_whole(connection: AsyncStepLink | StepLink) -> None:
 
 
 def note(cursor: Any) -> None:
-    """What a statement of the function's did to its connection, by the word that the server has
-    for it.
-    """
+    """Note the effect of a function's statement on its connection, by the server's report."""
     status = cursor.pgresult.command_status if cursor.pgresult else None
     if status == b"SET":
         cursor.connection.is_set = True
@@ -114,9 +122,10 @@ def note(cursor: Any) -> None:
 
 
 def joined(connection: Any, query: Any, params: Any, more: dict[str, Any]) -> dict[str, Any]:
-    """The words for psycopg. Where it is the first of a transaction, and goes to the server as
-    one statement with words, it is not prepared, so that it takes one trip and can go with the
-    begin.
+    """Return the arguments for psycopg.
+
+    The first statement of a transaction is not prepared if it is one statement with parameters. So
+    it takes one round trip, and can be sent together with BEGIN.
     """
     if MAY_SET.search(query if isinstance(query, str) else str(query)):
         connection.is_set = True
@@ -139,7 +148,7 @@ def joined(connection: Any, query: Any, params: Any, more: dict[str, Any]) -> di
 
 
 def continue_generator(gen: PQGen[RV], state: Any) -> PQGen[RV]:
-    """A generator that has said already what it waits for."""
+    """Continue a generator that has already returned what it waits for."""
     while True:
         ready = yield state
         try:
@@ -154,21 +163,25 @@ def raising(error: BaseException) -> PQGen[None]:
 
 
 def encoding_of(connection: Any) -> str:
-    """As psycopg writes texts: PostgreSQL's SQL_ASCII takes whatever it is given."""
+    """Return the encoding in which psycopg writes texts.
+
+    PostgreSQL's SQL_ASCII accepts any bytes.
+    """
     encoding: str = connection.info.encoding
     return "utf-8" if encoding == "ascii" else encoding
 
 
 def run_text(connection: Any, text: str, encoding: str) -> PQGen[None]:
-    """Statements in one text. Raises what the server says of the first that fails."""
+    """Execute statements in one text. Raises the server's error of the first that fails."""
     connection.pgconn.send_query(text.encode(encoding))
     yield from generators.send(connection.pgconn)
     raise_first(connection, (yield from fetched(connection.pgconn)))
 
 
 def fetched(pgconn: Any) -> PQGen[list[Any]]:
-    """What the server says of what was sent last: as `generators.fetch_many`, which asks twice
-    as much of libpq.
+    """Return the results of the last statements.
+
+    It is as `generators.fetch_many`, which calls libpq twice as often.
     """
     results: list[Any] = []
     while True:
@@ -190,7 +203,7 @@ def raise_first(connection: Any, results: Sequence[Any]) -> None:
 
 
 def after_begin(connection: Any, gen: PQGen[RV]) -> PQGen[RV]:
-    """The first thing that a function does over it, in a transaction."""
+    """Execute the function's first operation, in a transaction."""
     joins, connection.joins, connection.begun = connection.joins == threading.get_ident(), 0, True
     if joins and connection.pgconn.transaction_status == pq.TransactionStatus.IDLE:
         return (yield from with_begin(connection, gen))
@@ -199,15 +212,16 @@ def after_begin(connection: Any, gen: PQGen[RV]) -> PQGen[RV]:
 
 
 def with_begin(connection: Any, gen: PQGen[RV]) -> PQGen[RV]:
-    """The begin and one statement, sent at once: where the begin is refused, the server does
-    nothing of what is behind it.
+    """Send BEGIN and one statement at once.
+
+    If BEGIN is refused, the server does not execute the statement.
     """
     pgconn, fault, value = connection.pgconn, None, None
     connection.halfway = True
     pgconn.enter_pipeline_mode()
     pgconn.send_query_params(b"BEGIN", None)
     try:
-        next(gen)  # it is on its way
+        next(gen)  # the statement is sent
     except Exception as error:  # psycopg refused it
         fault = error
     pgconn.pipeline_sync()
@@ -217,10 +231,10 @@ def with_begin(connection: Any, gen: PQGen[RV]) -> PQGen[RV]:
         if fault is None:
             value = yield from resume(gen)
     except Exception as error:
-        if pgconn.status == pq.ConnStatus.BAD:  # nothing more comes
+        if pgconn.status == pq.ConnStatus.BAD:  # the server sends nothing more
             raise
         fault = error
-    yield from fetched(pgconn)  # where both end
+    yield from fetched(pgconn)  # the end of both
     pgconn.exit_pipeline_mode()
     connection.halfway = False
     raise_first(connection, begun)
@@ -230,7 +244,7 @@ def with_begin(connection: Any, gen: PQGen[RV]) -> PQGen[RV]:
 
 
 def resume(gen: PQGen[RV]) -> PQGen[RV]:
-    """A generator that waits for an answer, which may be there."""
+    """Continue a generator that waits for a reply, which may have arrived."""
     try:
         state = gen.send(waiting.READY_R)
     except StopIteration as end:

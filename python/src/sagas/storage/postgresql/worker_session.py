@@ -1,7 +1,6 @@
-"""A worker's session: begin and report.
+"""A worker's session with a PostgreSQL store.
 
-A worker's session with a store's PostgreSQL: it reports wherever it is, and the node that drives
-the saga hears of it.
+A worker reports from any machine, and the node that drives the saga is notified.
 """
 
 from __future__ import annotations
@@ -33,16 +32,16 @@ WHERE attempt = %(attempt)s AND {TAKES.format(lease="%(lease)s", outcome="'succe
 RETURNING attempt
 """
 COMMIT = f"COMMIT; {AS_MADE}"
-"""In one text, so that a pooler gives both to one session."""
+"""In one text, so that a pooler uses one session for both."""
 
 
 class PostgreSQLWorkerSession:
-    """A worker's connection, for one thread."""
+    """A worker's connection to the database, for one thread."""
 
     def __init__(self, url: str) -> None:
         self.url, self.path = url, connections.named(url)
         self._connection: psycopg.Connection[connections.Row] | None = None
-        self._own: StepLink | None = None  # of functions that are transactions
+        self._for_functions: StepLink | None = None  # for functions that are transactions
 
     def _ask(self, text: str, parameters: Any) -> list[Any]:
         try:
@@ -56,8 +55,9 @@ class PostgreSQLWorkerSession:
             raise
 
     def begin(self, order: Order) -> Begun | None:
-        """The texts that the order does not carry; None where the attempt is settled. Raises
-        `WrongStore`, `StoreUnavailable`.
+        """Return the texts that the order does not contain.
+
+        Return None if the attempt is closed. Raises `WrongStore`, `StoreUnavailable`.
         """
         return fetched(
             order,
@@ -71,8 +71,9 @@ class PostgreSQLWorkerSession:
         return str(rows[0][0]) if rows and rows[0][0] is not None else "null"
 
     def report(self, order: Order, outcome: Outcome) -> None:
-        """Writes how it ended, in one statement, and tells the nodes behind it. Raises
-        `StoreUnavailable`.
+        """Store the outcome in one statement, and notify the nodes afterwards.
+
+        Raises `StoreUnavailable`.
         """
         parameters = {
             "attempt": order.token,
@@ -84,12 +85,14 @@ class PostgreSQLWorkerSession:
         self.say()
 
     def say(self) -> None:
-        """Tells the nodes that there is a report."""
-        with contextlib.suppress(StoreUnavailable):  # it is there, and is looked for
+        """Notify the nodes that there is a report."""
+        with contextlib.suppress(
+            StoreUnavailable
+        ):  # the report is stored, and the nodes look for it
             self._ask(NOTIFY_REPORTED, None)
 
     def within(self, order: Order, function: Function) -> Function:
-        """The function as a transaction, whose last statement is its report."""
+        """Return the function as a transaction, whose last statement is its report."""
 
         def record(connection: AsyncStepLink | StepLink, value: Any) -> dict[str, Any]:
             if connection.begun:
@@ -100,7 +103,7 @@ class PostgreSQLWorkerSession:
 
         def in_thread(task: Task[Any]) -> Any:
             try:
-                connection = self._own_link()
+                connection = self._function_connection()
                 task.enter(connection)
                 connection.begun = False
                 value = awaitables.whole_now(function(task))
@@ -109,7 +112,7 @@ class PostgreSQLWorkerSession:
                     raise Settled(order.token)
                 connection.end(COMMIT, _nothing)
                 connection.begun, connection.is_set = None, False
-            except BaseException as error:  # it may be anywhere in its transaction
+            except BaseException as error:  # the state of its transaction is unknown
                 self._drop()
                 if isinstance(error, psycopg.OperationalError):
                     raise Unknown(str(error)) from error
@@ -122,7 +125,7 @@ class PostgreSQLWorkerSession:
         async def in_loop(task: Task[Any]) -> Any:
             connection: AsyncStepLink | None = None
             try:
-                connection = await self._new_link()
+                connection = await self._new_connection()
                 task.enter(connection)
                 connection.begun = False
                 value = await awaitables.whole(await function(task))
@@ -143,30 +146,33 @@ class PostgreSQLWorkerSession:
 
         return in_loop if awaitables.is_async(function) else in_thread
 
-    def _own_link(self) -> StepLink:
-        if self._own is None or self._own.closed:
+    def _function_connection(self) -> StepLink:
+        if self._for_functions is None or self._for_functions.closed:
             made = StepLink.connect(connections.address(self.url))
             assert isinstance(made, StepLink)
-            self._own = made
-        return self._own
+            self._for_functions = made
+        return self._for_functions
 
-    async def _new_link(self) -> AsyncStepLink:
+    async def _new_connection(self) -> AsyncStepLink:
         made = await AsyncStepLink.connect(connections.address(self.url))
         assert isinstance(made, AsyncStepLink)
         return made
 
     def close(self) -> None:
-        """Drops the store's connection; that of functions is looked at when it is used."""
+        """Close the store's connection.
+
+        The connection of functions is checked when it is used.
+        """
         connection, self._connection = self._connection, None
         if connection is not None:
             connection.close()
 
     def _drop(self) -> None:
-        own, self._own = self._own, None
-        if own is not None:
-            own.begun = None
-            own.close()
+        connection, self._for_functions = self._for_functions, None
+        if connection is not None:
+            connection.begun = None
+            connection.close()
 
 
 def _nothing() -> None:
-    """Nobody is told that the commit is about to be sent."""
+    """Do nothing before the commit is sent."""

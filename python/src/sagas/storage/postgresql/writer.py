@@ -20,19 +20,23 @@ from sagas.storage.record_file import RecordFile
 
 NONE: frozenset[int] = frozenset()
 OF_ONE = (errors.UniqueViolation, errors.NotNullViolation)
-"""What the server refuses because of one log: another has one of its keys or wrote it before, or a
-worker has reported *done* of an attempt that came to something else."""
+"""The errors of the server that are because of one shard.
+
+Another shard has one of its keys or wrote it before, or a worker has reported a success of an
+attempt with another outcome.
+"""
 AnswerCallback = Callable[[frozenset[int], Optional[Exception]], object]
-"""What is called with the logs that are not this node's, or with what kept all from being
-written.
+"""Called with the shards that this node lost, or with the error that kept all from being written.
 """
 
 
 class Writer:
-    """`events`: how many each log has, by what the server said: the log that was read or written
-    last is the last one. `tails`: the last chunk of each log that has any. `check`: called with a
-    new connection, and raises where it is not to be used; `refused`: called where there is none to
-    be had. `record`: what is sent and heard is written to it.
+    """Writes commits, one after the other.
+
+    `events` has the number of events of each shard, as the server said. The shard that was read or
+    written last is the last one. `tails` has the last chunk of each shard that has one. `check` is
+    called with a new connection, and raises if it must not be used. `refused` is called if there is
+    no connection. Commits and replies are written to `record`.
     """
 
     def __init__(
@@ -49,10 +53,10 @@ class Writer:
         self._check, self._kept, self._refused = check, kept, refused
         self.record = record
         self.late: Callable[[], object] = lambda: None
-        """Called where a commit took too long."""
+        """Called if a commit took too long."""
         self.commits = 0
         self.commit_seconds = 0.0
-        """Seconds that a commit takes, in the middle of the last ones."""
+        """Seconds that a commit takes: a moving average of the last ones."""
         self.events: dict[int, int] = {}
         self.tails: dict[int, Tail] = {}
         self._wire: Wire | None = None
@@ -62,7 +66,7 @@ class Writer:
         self._is_over = False
 
     def commit(self, batches: Sequence[Batch], then: CommitCallback) -> None:
-        """As `Database.commit`."""
+        """See `CommitWriter.commit`."""
         self._rests.clear()
         if self._is_over:
             asyncio.get_running_loop().call_soon(self._over, batches, then, self._closed(), NONE)
@@ -72,7 +76,7 @@ class Writer:
             self._write(self._wire, batches, functools.partial(self._came, batches, then))
 
     def reached(self, shard: int, events: int, tail: Tail | None) -> None:
-        """A log was read, or written, to this chunk."""
+        """Note that a shard was read or written up to this chunk."""
         self.events.pop(shard, None)
         self.events[shard] = events
         if tail is not None:
@@ -81,25 +85,25 @@ class Writer:
             self.tails.pop(shard, None)
 
     def latest(self, shards: Collection[int]) -> tuple[int, Tail] | None:
-        """Return which of these logs was read or written last, and its tail."""
+        """Return which of these shards was read or written last, and its tail."""
         for shard in reversed(self.events):
             if shard in shards and shard in self.tails:
                 return shard, self.tails[shard]
         return None
 
     def forget(self, shard: int) -> None:
-        """What is known of a log does not count any more: it has a later epoch."""
+        """Forget what is known of a shard: it has a later epoch."""
         self.events.pop(shard, None)
         self.tails.pop(shard, None)
 
     def cut(self) -> None:
-        """What the connection was doing is over, or is fenced by the epoch that follows."""
+        """Close the connection: its statement is over, or the next epoch fences it."""
         wire, self._wire = self._wire, None
         if wire:
             wire.close()
 
     async def close(self) -> None:
-        """Ends behind what is under way, unless that takes long."""
+        """Close after the commit under way, unless that takes long."""
         with contextlib.suppress(TimeoutError):
             async with asyncio.timeout(connections.CONNECT):
                 await self._rests.wait()
@@ -155,7 +159,7 @@ class Writer:
         try:
             commit = Commit(batches, lambda shard: self.events.get(shard, 0), self.tails)
             text, parameters = commit.parameters(self._node)
-        except Exception as error:  # told to the coordinator, which begins again from the database
+        except Exception as error:  # the coordinator gets it, and loads its shards again
             asyncio.get_running_loop().call_soon(on_answer, NONE, error)
         else:
             if self.record is not None:
@@ -220,7 +224,7 @@ class Writer:
     # -- one statement for each log
 
     async def _one_by_one(self, batches: Sequence[Batch], then: CommitCallback) -> None:
-        """One of them cannot be written (`OF_ONE`): the others are."""
+        """Write each shard alone: one of them cannot be written (`OF_ONE`)."""
         lost: set[int] = set()
         fault: Exception | None = None
         try:
@@ -235,7 +239,7 @@ class Writer:
         self._over(batches, then, fault, NONE if fault else frozenset(lost))
 
     async def _written(self, shard: int, batches: Sequence[Batch]) -> frozenset[int]:
-        """Those of its log, unless it cannot be written."""
+        """Write the batches of a shard, unless it cannot be written."""
         if self._wire is None:
             raise StoreUnavailable(f"{self._where}: the connection is closed")
         future: asyncio.Future[
@@ -255,7 +259,7 @@ class Writer:
         raise self._translated(fault)
 
     def _translated(self, fault: Exception) -> Exception:
-        """What the coordinator hears."""
+        """Return the error for the coordinator."""
         return (
             connections.store_unavailable(self._where, fault)
             if isinstance(fault, connections.CLIENT_ERRORS)
