@@ -112,7 +112,7 @@ def test_all_that_are_wanted_go_together(url: str, logs: list[int]) -> None:
             )
             assert gone is None and is_whole(there, 2, 4) and born is None
             ((line,),) = (
-                psycopg.connect(url).execute(f"SELECT {connections.LINE}".encode()).fetchall()
+                psycopg.connect(url).execute(f"SELECT {connections.TIMELINE}".encode()).fetchall()
             )
             assert (
                 unborn == Loaded("", 0, 0, [], [], [], 8, line, 1) and there and there.line == line

@@ -69,20 +69,20 @@ def write(connection: Source, shard: int, folder: pathlib.Path) -> pathlib.Path 
         if read is None:
             return None
         name, files = read
-        part, whole = folder / f".{name}.part", folder / name
-        for old in (part, whole):
+        partial, final = folder / f".{name}.part", folder / name
+        for old in (partial, final):
             shutil.rmtree(old, ignore_errors=True)
-        part.mkdir()
+        partial.mkdir()
         for name, text in files.items():
-            _synced(part / name, text)
-        _sync(part)
-        part.rename(whole)
+            _synced(partial / name, text)
+        _sync(partial)
+        partial.rename(final)
         os.fsync(held)
-    return whole
+    return final
 
 
 def _read(connection: Source, shard: int) -> tuple[str, dict[str, str]] | None:
-    """Return a shard's name and its files, of one moment; None if there is no such shard."""
+    """Return a shard's name and its files, of one moment; None if the shard is gone."""
     connection.begin()
     try:
         rows = connection.ask(SHARD, shard)
@@ -114,12 +114,12 @@ def _files(connection: Source, shard: int, shard_name: str, audit: str | None) -
 
 def _sagas(connection: Source, shard: int, rows: list[Row]) -> Iterator[Json]:
     details: dict[str, dict[int, list[Json]]] = {}
-    for part, query in (("results", RESULTS), ("requests", REQUESTS)):
-        by_saga: dict[int, list[Json]] = details.setdefault(part, {})
+    for partial, query in (("results", RESULTS), ("requests", REQUESTS)):
+        by_saga: dict[int, list[Json]] = details.setdefault(partial, {})
         for id, *columns in connection.ask(
             query, shard * SHARD_CAPACITY, (shard + 1) * SHARD_CAPACITY
         ):
-            by_saga.setdefault(id, []).append(_parsed(dict(zip(NAMES[part], columns))))
+            by_saga.setdefault(id, []).append(_parsed(dict(zip(NAMES[partial], columns))))
     for id, key, saga, index, text, at, phase, end, ended, note, *others in rows:
         recovered, deadline, parent, labels = others
         fields = {
@@ -138,7 +138,7 @@ def _sagas(connection: Source, shard: int, rows: list[Row]) -> Iterator[Json]:
         }
         parsed = None if end is None else json.loads(end)  # an open saga of a damaged shard
         yield fields | {"end": parsed} | {
-            part: by_saga.get(id, []) for part, by_saga in details.items()
+            partial: by_saga.get(id, []) for partial, by_saga in details.items()
         }
 
 

@@ -132,8 +132,8 @@ class Batch:
             timeout: Maximum number of seconds to wait for all answers.
 
         Returns:
-            The answers, in the same order: None if there is no answer yet, and False if the
-                saga does not exist any more.
+            The answers, in the same order: None if an answer is missing, and False if the saga
+                does not exist any more.
         """
         answers: list[Any] = [None] * len(values)
         requests_of_batches: list[dict[int, int]] = []

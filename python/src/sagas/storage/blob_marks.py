@@ -120,7 +120,7 @@ class Marks:
         Raises:
             StoreUnavailable: The blob store or the database does not answer.
         """
-        here = await _in_thread(self._notes.location)
+        own_location = await _in_thread(self._notes.location)
         for turn in range(TURNS):
             if turn:
                 await asyncio.sleep(PAUSE)
@@ -128,26 +128,30 @@ class Marks:
             marks = await self._there()
             own = set(noted.split())
             others = [location for token, location in marks.items() if token not in own]
-            others += [location for location in marks.values() if location.id != here.id]
-            if not others and await self._replace(noted, [*own], here):
+            others += [location for location in marks.values() if location.id != own_location.id]
+            if not others and await self._replace(noted, [*own], own_location):
                 return None
         if not others:
-            raise StoreUnavailable(f"{here.name}: other nodes change the marks of the blob store")
+            raise StoreUnavailable(
+                f"{own_location.name}: other nodes change the marks of the blob store"
+            )
         if self._mine is not None and self._mine not in marks:
             # another store took the values of this one: neither deletes any from now on
-            await self._call(self._store.put, self._key(self._mine), here.written())
+            await self._call(self._store.put, self._key(self._mine), own_location.written())
         return others[0]
 
     async def take(self) -> None:
         """Replace all marks with one of this store."""
-        here = await _in_thread(self._notes.location)
+        own_location = await _in_thread(self._notes.location)
         for _ in range(TURNS):
             noted: str = await _in_thread(self._notes.tokens)
-            if await self._replace(noted, [*await self._there()], here):
+            if await self._replace(noted, [*await self._there()], own_location):
                 return
-        raise StoreUnavailable(f"{here.name}: other nodes change the marks of the blob store")
+        raise StoreUnavailable(
+            f"{own_location.name}: other nodes change the marks of the blob store"
+        )
 
-    async def _replace(self, noted: str, before: list[str], here: Location) -> bool:
+    async def _replace(self, noted: str, before: list[str], own_location: Location) -> bool:
         """Replace marks with a new one.
 
         Return False if another program changes the tokens, too.
@@ -156,7 +160,7 @@ class Marks:
         both = " ".join([*noted.split(), new])
         if not await _in_thread(self._notes.change, noted, both):
             return False
-        await self._call(self._store.put, self._key(new), here.written())
+        await self._call(self._store.put, self._key(new), own_location.written())
         for token in before:
             await self._call(self._store.delete, self._key(token))
         if not await _in_thread(self._notes.change, both, new):

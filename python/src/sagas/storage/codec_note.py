@@ -18,11 +18,11 @@ NOTED = "SELECT 1 FROM secrets WHERE name = 'codec'"
 NOTE = "INSERT INTO secrets(name, value) VALUES('codec', 'noted') ON CONFLICT DO NOTHING"
 
 
-def missing(where: str) -> MissingCodec:
+def missing(store_name: str) -> MissingCodec:
     """Return the error for a program without a codec."""
     return MissingCodec(
-        f"{where}: the values of this store are encoded, and this program has no codec. Give it "
-        "codec=, or --app MODULE:NAME to a command"
+        f"{store_name}: the values of this store are encoded, and this program has no codec. "
+        "Give it codec=, or --app MODULE:NAME to a command"
     )
 
 

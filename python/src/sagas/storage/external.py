@@ -42,7 +42,7 @@ WHERE e.outcome IS NULL OR e.outcome IN ('suspended', 'withdrawn') OR e.outcome 
 Its position in the queue and its lease stay, and so does a worker's report. The task may have a
 name that an older release gave it.
 """
-TAKES = """(
+REPORT_COUNTS = """(
   {outcome} = 'succeeded' AND lease >= {lease}
     AND (outcome IS NULL OR outcome IN ('unknown', 'suspended')
       OR outcome IN ('failed', 'failed_permanently'))
@@ -94,7 +94,7 @@ class ClaimRequest(NamedTuple):
     """
 
     tasks: tuple[str, ...]
-    most: int
+    limit: int
     seconds: float
     worker: str
 
@@ -175,7 +175,7 @@ class ExternalAttempts(Protocol):
         """
 
     async def claim(
-        self, tasks: Sequence[str], limited: Sequence[str], most: int, seconds: float, worker: str
+        self, tasks: Sequence[str], limited: Sequence[str], limit: int, seconds: float, worker: str
     ) -> list[Claim]:
         """Lease attempts that wait, the oldest first.
 

@@ -312,7 +312,7 @@ class Database(CommitWriter, StoreReader, Protocol):
         """Forget what is known of a shard: it is damaged, and an operator may delete it."""
 
     async def spare(self, shard: int) -> bool:
-        """Release a shard of which this program cannot read something.
+        """Release a shard that this program cannot read completely.
 
         Another node may take it. Return False if no node has come since the last try. Raises
         `StoreUnavailable`.

@@ -25,7 +25,7 @@ class Batcher(Generic[Item, Answer]):
     def __init__(
         self,
         ask: Callable[[Sequence[Item]], Awaitable[Sequence[Answer]]],
-        most: int,
+        limit: int,
         dropped: Callable[[Item, Answer], object],
         group: Callable[[Item], Hashable] = lambda _: None,
     ) -> None:
@@ -38,7 +38,7 @@ class Batcher(Generic[Item, Answer]):
                 answer.
             group: Returns the group of an item, or None (default: no item has a group).
         """
-        self._ask, self._most, self._dropped, self._group = ask, most, dropped, group
+        self._ask, self._most, self._dropped, self._group = ask, limit, dropped, group
         self._waiting: deque[tuple[Item, asyncio.Future[Answer]]] = deque()
         self._job: asyncio.Task[None] | None = None
 

@@ -20,8 +20,8 @@ SELECT 'answered ' || (request ->> 0) FROM gone, jsonb_array_elements(commands) 
 """Withdraw a client's start, with the requests for it.
 
 The rows are the messages to send afterwards (`notifications.NOTIFY`). They wake the callers that
-wait for the start or for a request. There is no row if no start has the key, or if a node has taken
-it.
+wait for the start or for a request. No row is returned if no start has the key, or if a node has
+taken it.
 
 If a node has taken the start, its saga may be in a shard a moment later, even if the node does not
 answer any more. Such a saga is aborted as a saga.
@@ -34,7 +34,7 @@ SELECT s.key, ?, ?, extract(epoch FROM now()), s.id
 FROM sagas s JOIN shards l ON l.shard = s.id / {SHARD_CAPACITY}
 WHERE s.id = ? FOR KEY SHARE OF l RETURNING id
 """
-"""Add a request for a saga. There is no row if the saga is gone.
+"""Add a request for a saga. No row is returned if the saga is gone.
 
 A program that deletes a saga deletes the row of its shard first, and then the requests.
 """
@@ -46,7 +46,7 @@ WHERE id = ? RETURNING (commands -> -1 ->> 0)::bigint
 """
 """Add a request for a client's start, in the row of the start.
 
-There is no row if the start is gone, or has become a saga.
+No row is returned if the start is gone, or has become a saga.
 """
 ANSWER = """
 SELECT r.id IS NOT NULL, r.answer, i.id IS NOT NULL, i.id IS NOT NULL AND i.node IS NULL
@@ -58,9 +58,9 @@ The columns are: whether the request is one for a saga, its answer, whether the 
 and whether no node has taken it. All are of one moment.
 """
 ERRORS = {
-    kind.__name__: kind
-    for kind in vars(errors).values()
-    if isinstance(kind, type) and issubclass(kind, SagasError)
+    error_type.__name__: error_type
+    for error_type in vars(errors).values()
+    if isinstance(error_type, type) and issubclass(error_type, SagasError)
 }
 """The errors that an answer may name.
 

@@ -296,7 +296,7 @@ class Rows:
 
     def places(self, shard: int) -> list[int]:
         """Return the indexes of the definitions of a shard's open sagas."""
-        return [place for (place,) in self.rows(PLACES, *bounds(shard))]
+        return [index for (index,) in self.rows(PLACES, *bounds(shard))]
 
     def completed_children(self) -> dict[int, list[CompletedChild]]:
         """Return the completed children below the open sagas of each shard."""
@@ -317,8 +317,8 @@ class Rows:
     ) -> dict[str, SagaRow]:
         """See `find_many`. `rows` returns the rows of a query."""
         sagas = {}
-        for place in range(0, len(keys), MOST_KEYS):
-            batch = [*keys[place : place + MOST_KEYS]]
+        for index in range(0, len(keys), MOST_KEYS):
+            batch = [*keys[index : index + MOST_KEYS]]
             count = COUNTS[bisect.bisect_left(COUNTS, len(batch))]
             batch += batch[:1] * (count - len(batch))
             for row in rows(FIND_MANY[count], batch):

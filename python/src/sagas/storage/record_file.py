@@ -29,7 +29,7 @@ DIGESTS = BEYOND - 1
 """The number of distinct digest numbers."""
 EDGES = "call", "wake", "reply", "read"
 """The points at which a program acknowledges something."""
-Line = tuple[int, int, str]
+Term = tuple[int, int, str]
 """Shard, epoch and timeline."""
 
 
@@ -44,13 +44,14 @@ class Session:
         present: The epoch if its server is the present one, else -1. It is valid only for the
             last session of a shard.
         fields: What each line has after its first word.
-        sends: A `sent` line, to be formatted with its numbers.
-        hears: A `heard` line, to be formatted with its number.
-        tells: A `told` line for each edge, to be formatted with its number.
-        wholes: A `sent`, a `heard` and a `told` line for each edge, to be formatted together.
+        sent_line: A `sent` line, to be formatted with its numbers.
+        heard_line: A `heard` line, to be formatted with its number.
+        told_lines: A `told` line for each edge, to be formatted with its number.
+        combined_lines: A `sent`, a `heard` and a `told` line for each edge, to be formatted
+            together.
         digest: The digest of the whole event log, by the last reply.
-        told: The number of events on which the last acknowledgement at each edge rests.
-        most: The maximum of these numbers.
+        acknowledged: The number of events on which the last acknowledgement at each edge rests.
+        max_acknowledged: The maximum of these numbers.
     """
 
     __slots__ = (
@@ -58,26 +59,28 @@ class Session:
         "timeline",
         "present",
         "fields",
-        "sends",
-        "hears",
-        "tells",
-        "wholes",
+        "sent_line",
+        "heard_line",
+        "told_lines",
+        "combined_lines",
         "digest",
-        "told",
-        "most",
+        "acknowledged",
+        "max_acknowledged",
     )
 
-    def __init__(self, run: str, line: Line, digest: int) -> None:
-        shard, self.epoch, self.timeline = line
+    def __init__(self, run: str, term: Term, digest: int) -> None:
+        shard, self.epoch, self.timeline = term
         self.present = -1
         self.fields = f" {run} {shard} {self.epoch} {self.timeline} ".encode()
         escaped = self.fields.replace(b"%", b"%%")
-        self.sends, self.hears = b"sent%b%%d %%d\n" % escaped, b"heard%b%%d\n" % escaped
-        self.tells = {edge: b"told%b%%d %b\n" % (escaped, edge.encode()) for edge in EDGES}
-        self.wholes = {edge: self.sends + self.hears + self.tells[edge] for edge in EDGES}
+        self.sent_line, self.heard_line = b"sent%b%%d %%d\n" % escaped, b"heard%b%%d\n" % escaped
+        self.told_lines = {edge: b"told%b%%d %b\n" % (escaped, edge.encode()) for edge in EDGES}
+        self.combined_lines = {
+            edge: self.sent_line + self.heard_line + self.told_lines[edge] for edge in EDGES
+        }
         self.digest = digest
-        self.told = dict.fromkeys(EDGES, -1)
-        self.most = -1
+        self.acknowledged = dict.fromkeys(EDGES, -1)
+        self.max_acknowledged = -1
 
 
 Rest = tuple[Session, int]
@@ -133,7 +136,7 @@ class RecordFile:
         self.path, self.run, self.timeline = path, run, ""
         self.sessions: dict[int, Session] = {}
         self._file = -1
-        self._others: dict[Line, Session] = {}  # sessions that have not begun
+        self._others: dict[Term, Session] = {}  # sessions that have not begun
         self._waiting: list[bytes] = []  # lines that are not written yet
         # what follows these lines: the last chunk with a reply, and then the commit that has none
         self._heard: Heard | None = None
@@ -204,44 +207,44 @@ class RecordFile:
         """
         return self._of((shard, epoch, self.timeline))
 
-    def _of(self, line: Line) -> Session:
-        session = self.sessions.get(line[0])
-        if session is not None and (session.epoch, session.timeline) == line[1:]:
+    def _of(self, term: Term) -> Session:
+        session = self.sessions.get(term[0])
+        if session is not None and (session.epoch, session.timeline) == term[1:]:
             return session
-        other = self._others.get(line)
+        other = self._others.get(term)
         if other is None:
             digest = 0 if session is None else session.digest
-            other = self._others[line] = Session(self.run, line, digest)
+            other = self._others[term] = Session(self.run, term, digest)
         return other
 
-    def _begin(self, line: Line, digest: int) -> Session:
-        session = self._others.pop(line, None) or Session(self.run, line, digest)
+    def _begin(self, term: Term, digest: int) -> Session:
+        session = self._others.pop(term, None) or Session(self.run, term, digest)
         session.digest = digest
         session.present = session.epoch if session.timeline == self.timeline else -1
-        self.sessions[line[0]] = session
+        self.sessions[term[0]] = session
         return session
 
     # -- replies
 
-    def took(self, line: Line, events: int, text: str) -> None:
+    def took(self, term: Term, events: int, text: str) -> None:
         """Note that a shard was loaded under a new epoch, with this number of events."""
         self._settle()
         digest = crc32(text.encode())
         digest_number = number(digest) if events else 0
-        fields = self._begin(line, digest).fields
+        fields = self._begin(term, digest).fields
         self._put(b"took%b%d %d\n" % (fields, events, digest_number))
 
-    def read(self, line: Line, events: int, text: str) -> None:
+    def read(self, term: Term, events: int, text: str) -> None:
         """Note that a shard was read under its present epoch, or for the first time.
 
         A late reply, after the shard was taken over again, is not a takeover.
         """
-        shard, epoch, timeline = line
+        shard, epoch, timeline = term
         known = self.sessions.get(shard)
         if known is not None and known.timeline == timeline and known.epoch >= epoch:
-            self.told((self._of(line), events), "read")
+            self.told((self._of(term), events), "read")
         else:
-            self.took(line, events, text)
+            self.took(term, events, text)
 
     def heard(self, commit: Commit, mine: Container[int]) -> None:
         """Note the server's reply to the commit: these shards belong to this node."""
@@ -266,7 +269,7 @@ class RecordFile:
                 digest_number = digest % DIGESTS + 1  # as `number`
                 self._heard = session, first, digest_number, commit.events[shard]
             else:
-                self._put(session.sends % (first, number(digest)))
+                self._put(session.sent_line % (first, number(digest)))
                 self._put(b"stale%b\n" % session.fields[:-1])
 
     def unanswered(self) -> None:
@@ -287,7 +290,7 @@ class RecordFile:
         for shard, session, digest in self._sent:
             if shard in mine:
                 session.digest = digest
-                self._put(session.hears % commit.events[shard])
+                self._put(session.heard_line % commit.events[shard])
             else:
                 self._put(b"stale%b\n" % session.fields[:-1])
 
@@ -306,13 +309,13 @@ class RecordFile:
                 session = self.session(shard, epoch)
                 digest = crc32(text.encode(), session.digest)
                 self._sent.append((shard, session, digest))
-                self._put(session.sends % (first, number(digest)))
+                self._put(session.sent_line % (first, number(digest)))
 
     def _put_heard(self) -> None:
         assert self._heard
         session, first, digest_number, events = self._heard
         self._heard = None
-        self._put((session.sends + session.hears) % (first, digest_number, events))
+        self._put((session.sent_line + session.heard_line) % (first, digest_number, events))
 
     def _births(self, commit: Commit) -> None:
         """Begin the sessions of the new shards of a commit."""
@@ -338,22 +341,22 @@ class RecordFile:
         record already has as many.
         """
         session, events = rest
-        if session.most >= events:
-            if session.told[edge] < events:
-                session.told[edge] = events
+        if session.max_acknowledged >= events:
+            if session.acknowledged[edge] < events:
+                session.acknowledged[edge] = events
                 if self._heard is not None or self.commit is not None:
                     self._settle()
-                self._waiting.append(session.tells[edge] % events)
+                self._waiting.append(session.told_lines[edge] % events)
             return
-        session.most = session.told[edge] = events
+        session.max_acknowledged = session.acknowledged[edge] = events
         heard = self._heard
         if heard is not None and heard[0] is session and heard[3] >= events:
             self._heard = None
-            line = session.wholes[edge] % (heard[1], heard[2], heard[3], events)
+            line = session.combined_lines[edge] % (heard[1], heard[2], heard[3], events)
         else:
             if heard is not None or self.commit is not None:
                 self._settle()
-            line = session.tells[edge] % events
+            line = session.told_lines[edge] % events
         if self._waiting:
             self._waiting.append(line)
             line = b"".join(self._waiting)
@@ -370,11 +373,11 @@ class RecordFile:
         self._waiting.append(f"seen {self.run} {saga} {edge}\n".encode())
         self._write()
 
-    def closed(self, line: Line) -> None:
+    def closed(self, term: Term) -> None:
         """Note that a shard is closed. Nothing more is recorded of it."""
         self._settle()
-        self._put(b"closed%b\n" % self._of(line).fields[:-1])
-        shard = line[0]
+        self._put(b"closed%b\n" % self._of(term).fields[:-1])
+        shard = term[0]
         self.sessions.pop(shard, None)
         for other in [other for other in self._others if other[0] == shard]:
             del self._others[other]

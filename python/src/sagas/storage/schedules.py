@@ -92,9 +92,9 @@ def of_row(row: Row) -> Schedule:
     """Return the schedule of a row."""
     name, saga, version, input, labels, cron, every, *rest = row
     timezone, policy, next_at, last_at, paused, error = rest
-    catch_up, most, overlap = policy_of(policy)
+    catch_up, max_missed, overlap = policy_of(policy)
     definition = json.loads(input), json.loads(labels), cron or None, every or None, timezone
-    state = catch_up.value, most, overlap.value, next_at, last_at
+    state = catch_up.value, max_missed, overlap.value, next_at, last_at
     return Schedule(name, saga, version, *definition, *state, bool(paused), error)
 
 

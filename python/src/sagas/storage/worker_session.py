@@ -65,13 +65,13 @@ def open_worker_session(store: str) -> WorkerSession:
 
 
 def fetched(
-    order: Order, rows: list[tuple[Any, ...]], read_text: Callable[..., str], where: str
+    order: Order, rows: list[tuple[Any, ...]], read_text: Callable[..., str], store_name: str
 ) -> Begun | None:
     """Return the result of `BEGIN`, with the texts that the order does not contain."""
     if not rows:
         raise WrongStore(
-            f"{where}: it has no shard {order.log}. The message of saga {order.key!r} came from "
-            "another store, or too late: the saga was deleted meanwhile. If no saga was deleted, "
+            f"{store_name}: it has no shard {order.log}. The message of saga {order.key!r} came "
+            "from another store, or too late: the saga was deleted meanwhile. If no saga was deleted, "
             "give the worker and the program the same store"
         )
     shard, attempt, outcome = rows[0]

@@ -67,10 +67,10 @@ class PostgresBlobStore:
         with self._lock:
             if self._is_made:
                 return connection
-            there = connection.execute(
+            exists = connection.execute(
                 "SELECT to_regclass(%s) IS NOT NULL", (self._table,)
             ).fetchone()
-            if there != (True,):
+            if exists != (True,):
                 try:
                     connection.execute(
                         f"CREATE TABLE IF NOT EXISTS {self._table}(key text PRIMARY KEY, "

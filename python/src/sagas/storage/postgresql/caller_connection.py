@@ -100,24 +100,24 @@ def translate_errors(connection: Given, path: str) -> Iterator[None]:
     try:
         yield
     except psycopg.errors.InFailedSqlTransaction as error:
-        told = (
+        problem = (
             "has an open transaction in which a statement failed. Nothing was written. "
             "Roll it back, and start the saga in the next one"
         )
-        raise StoreUnavailable(f"{path}: the given connection {told}") from error
+        raise StoreUnavailable(f"{path}: the given connection {problem}") from error
     except connections.CLIENT_ERRORS as error:
         raise connections.store_unavailable(f"{path}, by the given connection", error) from error
 
 
 def check_database(
-    connection: Given, there: list[connections.Row], store: list[connections.Row], path: str
+    connection: Given, connected: list[connections.Row], store: list[connections.Row], path: str
 ) -> None:
     """Check that the connection is to the store's database.
 
-    Raises `StoreUnavailable` otherwise. `there` and `store` are the rows of `HERE` for both; an
+    Raises `StoreUnavailable` otherwise. `connected` and `store` are the rows of `HERE` for both; an
     empty `store` means that it is unknown.
     """
-    if store and there != store:
+    if store and connected != store:
         info = connection.info
         other = f"database {info.dbname!r} at {info.host}:{info.port}"
         raise StoreUnavailable(

@@ -14,7 +14,7 @@ ALONE = "LOCK TABLE nodes IN SHARE ROW EXCLUSIVE MODE"
 No node gets or renews a lease until the transaction ends. Each sees the note afterwards.
 """
 PLAIN = "SELECT name FROM nodes WHERE lease > now() ORDER BY 1"
-"""The nodes that have the store open. If there is no note, none of them has a codec."""
+"""The nodes that have the store open. Without a note, none of them has a codec."""
 
 
 async def agree(asker: Asker, encodes: bool) -> None:
@@ -26,20 +26,20 @@ async def agree(asker: Asker, encodes: bool) -> None:
     """
     if await asker.read(NOTED):
         if not encodes:
-            raise missing(asker.where)
+            raise missing(asker.store_name)
     elif encodes:
         await asker.whole(_note(asker))
 
 
 async def _note(asker: Asker) -> None:
-    with translate_errors(asker.where):
+    with translate_errors(asker.store_name):
         async with asker.pool.connection() as connection, connection.transaction():
             await connection.execute(ALONE)
             nodes = await (await connection.execute(PLAIN)).fetchall()
             noted = await (await connection.execute(NOTED)).fetchall()
             if nodes and not noted:
                 raise StoreLocked(
-                    f"{asker.where}: node {nodes[0][0]} has this store open without a codec, or is "
-                    "of an earlier release. Stop all such nodes first"
+                    f"{asker.store_name}: node {nodes[0][0]} has this store open without a "
+                    "codec, or is of an earlier release. Stop all such nodes first"
                 )
             await connection.execute(NOTE)

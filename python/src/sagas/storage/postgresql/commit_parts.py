@@ -79,7 +79,8 @@ another part inserts.
 """
 COLUMNS = {
     part: [
-        (name, kind) for name, _, kind in (column.partition(" ") for column in columns.split(", "))
+        (name, sql_type)
+        for name, _, sql_type in (column.partition(" ") for column in columns.split(", "))
     ]
     for part, columns in ROWS.items()
 }

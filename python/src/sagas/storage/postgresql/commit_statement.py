@@ -156,8 +156,8 @@ def _saga_of(shard: int, attempt: str) -> int:
 def _rows_of_json(form: str) -> Callable[[str], str]:
     def rows(part: str) -> str:
         cells = (
-            f"(e ->> {index}){'' if kind == 'text' else f'::{kind}'} AS {name}"
-            for index, (name, kind) in enumerate(COLUMNS[part])
+            f"(e ->> {index}){'' if sql_type == 'text' else f'::{sql_type}'} AS {name}"
+            for index, (name, sql_type) in enumerate(COLUMNS[part])
         )
         return f"(SELECT {', '.join(cells)} FROM {form}_array_elements($1::{form} -> '{part}') e) v"
 
@@ -167,7 +167,9 @@ def _rows_of_json(form: str) -> Callable[[str], str]:
 def _rows_of_parameters(parts: tuple[str, ...]) -> Callable[[str], str]:
     numbers = itertools.chain([1], itertools.count(7))
     cells = {
-        part: ", ".join(f"${next(numbers)}::{kind} AS {name}" for name, kind in COLUMNS[part])
+        part: ", ".join(
+            f"${next(numbers)}::{sql_type} AS {name}" for name, sql_type in COLUMNS[part]
+        )
         for part in parts
     }
     return lambda part: f"(SELECT {cells[part]}) v"
@@ -327,21 +329,27 @@ class Commit:
                 held.setdefault(row[:3], {})[row[3]] = (
                     (*row[:8], clean(row[8])) if row[8] is not None else row
                 )
-            for id, step, kind, attempt in rare.freed:
-                at = id, step, kind
-                freed[at] = max(attempt, freed.get(at, 0))
-                held[at] = {
-                    number: row for number, row in held.get(at, {}).items() if number > attempt
+            for id, step, action, attempt in rare.freed:
+                attempt_key = id, step, action
+                freed[attempt_key] = max(attempt, freed.get(attempt_key, 0))
+                held[attempt_key] = {
+                    number: row
+                    for number, row in held.get(attempt_key, {}).items()
+                    if number > attempt
                 }
         some = [rare.undone for _, rare in self.rare if "undone" in rare.parts]
         undone = {(*one, "run") for of in some for one in of}
-        for at in undone & held.keys():  # the part `undone` does not see rows of this commit
-            held[at] = {number: _undone(row) for number, row in held[at].items()}
+        for attempt_key in (
+            undone & held.keys()
+        ):  # the part `undone` does not see rows of this commit
+            held[attempt_key] = {number: _undone(row) for number, row in held[attempt_key].items()}
         rows = [row for of in held.values() for row in of.values()]
         if rows:
             self.parts["held"] = rows
         if freed:
-            self.parts["freed"] = [(*at, attempt) for at, attempt in freed.items()]
+            self.parts["freed"] = [
+                (*attempt_key, attempt) for attempt_key, attempt in freed.items()
+            ]
 
     def _others(self) -> None:
         """Put what most commits do not have."""
@@ -383,7 +391,7 @@ class Commit:
                         others.setdefault(_saga_of(shard, row[0]), []).append(row[0])
                     if part == "settled" or last.get(row[0], ("",))[0] != "settled":
                         last[row[0]] = part, row
-        ended = {id: why for _, rare in self.rare for why, id in rare.cancelled}
+        ended = {id: reason for _, rare in self.rare for reason, id in rare.cancelled}
         for part in EXTERNAL:
             self._put(part, [row for of, row in last.values() if of == part])
         offers = [
@@ -391,7 +399,9 @@ class Commit:
             for row in self.rows("offers")
         ]
         self._put("offers", offers)
-        cancelled = ((why, id, array(others.get(id, ())).decode()) for id, why in ended.items())
+        cancelled = (
+            (reason, id, array(others.get(id, ())).decode()) for id, reason in ended.items()
+        )
         self._put("cancelled", [*cancelled])
 
     def parameters(self, node: bytes) -> tuple[str, list[bytes | None]]:

@@ -39,7 +39,7 @@ FINAL = re.compile(
 )
 """The messages of a server that will never accept the login. They are only in English.
 
-There is no code for it: libpq does not return one.
+libpq does not return a code for them.
 """
 DEFAULTS: dict[str, Any] = {
     "connect_timeout": CONNECT,
@@ -87,10 +87,10 @@ RIGHTS = "have the owner of the database run `sagas store URL init --role {role}
 CLIENT_ERRORS = (psycopg.Error, PoolTimeout, OSError, TimeoutError)
 """The errors of a server that does not answer as it should."""
 
-LINE = hosts.LINE
+TIMELINE = hosts.TIMELINE
 TAKEOVER = (
     "INSERT INTO takeovers(shard, epoch, node, last_seq, timeline) "
-    f"SELECT shard, epoch, {{node}}, {{last}}, {LINE} FROM {{taken}}"
+    f"SELECT shard, epoch, {{node}}, {{last}}, {TIMELINE} FROM {{taken}}"
 )
 READ = TAKEOVER.format(node="%(node)s", last="last_seq(shard)", taken="mine")
 """Records the new epochs of the shards `mine`.
@@ -149,9 +149,9 @@ def read(url: str) -> dict[str, Any]:
     return parameters
 
 
-def invalid_url(why: str) -> InvalidStore:
+def invalid_url(reason: str) -> InvalidStore:
     """Return the error for a URL that cannot be read."""
-    return InvalidStore(f"the URL of the store cannot be read ({why}). Write {FORM}, {ESCAPED}")
+    return InvalidStore(f"the URL of the store cannot be read ({reason}). Write {FORM}, {ESCAPED}")
 
 
 def has_unescaped_at(url: str) -> bool:
@@ -198,7 +198,7 @@ def named(url: str) -> str:
 
 
 @contextlib.contextmanager
-def translate_errors(where: str) -> Iterator[None]:
+def translate_errors(store_name: str) -> Iterator[None]:
     """Raise errors of PostgreSQL and of its connections as `StoreUnavailable`.
 
     If the connection is that of a pooler that pools transactions, it raises `InvalidStore`.
@@ -206,17 +206,17 @@ def translate_errors(where: str) -> Iterator[None]:
     try:
         yield
     except pooler.TransactionPooled as error:
-        raise InvalidStore(f"{where}: {error}") from error
+        raise InvalidStore(f"{store_name}: {error}") from error
     except CLIENT_ERRORS as error:
-        raise store_unavailable(where, error) from error
+        raise store_unavailable(store_name, error) from error
 
 
-def store_unavailable(where: str, error: Exception) -> StoreUnavailable:
+def store_unavailable(store_name: str, error: Exception) -> StoreUnavailable:
     """Return an error as `StoreUnavailable`, with the error as its cause."""
     message = str(error).strip().splitlines()[0] if str(error).strip() else type(error).__name__
     if isinstance(error, errors.InsufficientPrivilege):
         message += f": {RIGHTS.format(role='NAME')}"
-    unavailable = StoreUnavailable(f"{where}: {message}")
+    unavailable = StoreUnavailable(f"{store_name}: {message}")
     unavailable.__cause__ = error
     return unavailable
 
@@ -258,7 +258,7 @@ async def connect(url: str, settings: str = SETTINGS) -> Link:
     return connection
 
 
-async def check_access(url: str, where: str) -> None:
+async def check_access(url: str, store_name: str) -> None:
     """Raise `StoreUnavailable` if the server permanently refuses the login.
 
     A pool would retry. Any other error may be temporary.
@@ -267,19 +267,19 @@ async def check_access(url: str, where: str) -> None:
         async with asyncio.timeout(LOGIN_TIMEOUT):
             await (await connect(url)).close()
     except pooler.TransactionPooled as error:
-        raise InvalidStore(f"{where}: {error}") from error
+        raise InvalidStore(f"{store_name}: {error}") from error
     except CLIENT_ERRORS as error:
         # otherwise the error keeps the connection open, and the server waits for a password
         if isinstance(error, psycopg.Error) and error.pgconn:
             with contextlib.suppress(psycopg.Error):
                 error.pgconn.finish()
         if FINAL.search(str(error)):
-            raise store_unavailable(where, error) from error
+            raise store_unavailable(store_name, error) from error
 
 
 async def timeline_of(connection: Link) -> str:
     """Return the timeline of the server to which it is connected."""
-    rows = await (await connection.execute(f"SELECT {LINE}", prepare=False)).fetchall()
+    rows = await (await connection.execute(f"SELECT {TIMELINE}", prepare=False)).fetchall()
     return str(rows[0][0])
 
 
@@ -339,8 +339,8 @@ class Attached(Protocol):
 class Asker:
     """Executes short statements over a pool."""
 
-    def __init__(self, url: str, where: str, max_size: int) -> None:
-        self.where, self._url, self._most = where, url, max_size
+    def __init__(self, url: str, store_name: str, max_size: int) -> None:
+        self.store_name, self._url, self._most = store_name, url, max_size
         self.pool = pool(url, max_size)
         self._attached: list[Attached] = []
         self._under_way: set[asyncio.Task[Any]] = set()
@@ -351,16 +351,16 @@ class Asker:
 
     async def open(self) -> None:
         """Connect. Raises `StoreUnavailable`."""
-        with translate_errors(self.where):
+        with translate_errors(self.store_name):
             try:
                 await self.pool.open(wait=True, timeout=2 * CONNECT)
             except PoolTimeout:
                 await (await connect(self._url)).close()  # raises the error that the pool hides
                 raise
 
-    def attach(self, *some: Attached) -> None:
+    def attach(self, *attached: Attached) -> None:
         """Renew and close these connections with the pool."""
-        self._attached += some
+        self._attached += attached
 
     async def renew(self, cuts: bool = False) -> None:
         """Connect again, since another server has taken over.
@@ -431,7 +431,7 @@ class Asker:
         Raises `StoreUnavailable`. Then it is unknown what was executed. Use it only within a task
         of its own (`whole`).
         """
-        with translate_errors(self.where):
+        with translate_errors(self.store_name):
             async with self.pool.connection() as connection:
                 assert isinstance(connection, Link)
                 self._used.add(connection)

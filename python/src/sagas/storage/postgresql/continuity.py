@@ -31,7 +31,7 @@ class Continuity:
     """Compares what the database has with what it acknowledged.
 
     A commit is refused if the chunk before it is missing. So a shard is compared when it is read
-    again. The last commit is looked up while there is no new one.
+    again. While a node makes no commit, it looks for its last one.
     """
 
     def __init__(
@@ -75,7 +75,7 @@ class Continuity:
     async def look(self) -> None:
         """Look for the last commit if there was none since the last look.
 
-        This is no part of a heartbeat, because a heartbeat waits for no table.
+        A heartbeat does not do this, because it waits for no table.
         """
         is_quiet, self._commits = self._writer.commits == self._commits, self._writer.commits
         last = self._writer.latest(self._logs()) if is_quiet and not self._is_looking else None
@@ -104,13 +104,18 @@ class Continuity:
             "first_seq": tail.first_seq,
             "committed_at": tail.committed_at,
         }
-        with connections.translate_errors(self._asker.where):
+        with connections.translate_errors(self._asker.store_name):
             async with self._questions.pool.connection() as connection, connection.transaction():
                 await connection.execute(IMPATIENT)
                 return await (await connection.execute(HAS, parameters)).fetchone() == (True,)
 
-    def _report(self, shard: int, why: str) -> None:
+    def _report(self, shard: int, reason: str) -> None:
         logger.error(
-            "%s: %s: shard %d %s. %s", self._asker.where, COMMITS_MISSING, shard, why, REMEDY
+            "%s: %s: shard %d %s. %s",
+            self._asker.store_name,
+            COMMITS_MISSING,
+            shard,
+            reason,
+            REMEDY,
         )
         self._begin_again()

@@ -16,7 +16,7 @@ from sagas.storage import external
 from sagas.storage.deliveries import Deliveries
 from sagas.storage.external import (
     OPEN,
-    TAKES,
+    REPORT_COUNTS,
     ExternalRequest,
     Heartbeat,
     Claim,
@@ -111,7 +111,7 @@ RETURNING e.until - clock.now, e.cancelled
 """
 REPORT = f"""
 UPDATE external_attempts SET outcome = %(outcome)s, value = %(value)s, reported = %(lease)s
-WHERE attempt = %(attempt)s AND {TAKES.format(lease="%(lease)s", outcome="%(outcome)s")}
+WHERE attempt = %(attempt)s AND {REPORT_COUNTS.format(lease="%(lease)s", outcome="%(outcome)s")}
 RETURNING shard
 """
 REPORTED = f"""
@@ -123,7 +123,7 @@ free AS MATERIALIZED (
 kept AS (
   UPDATE external_attempts SET outcome = r.came, value = r.reported_value, reported = r.number
   FROM free JOIN r USING (attempt) WHERE external_attempts.attempt = free.attempt
-    AND {TAKES.format(lease="r.number", outcome="r.came")}
+    AND {REPORT_COUNTS.format(lease="r.number", outcome="r.came")}
   RETURNING free.attempt, shard)
 """
 """Stores reports, each attempt once.
@@ -197,9 +197,9 @@ def _divided(claims: Sequence[ClaimRequest], rows: Sequence[list[Any]]) -> list[
     by_number = {row[8]: row for row in rows}
     rows_of_claims, taken = [], 0
     for claim in claims:
-        numbers = range(taken + 1, taken + claim.most + 1)
+        numbers = range(taken + 1, taken + claim.limit + 1)
         rows_of_claims.append([by_number[number] for number in numbers if number in by_number])
-        taken += claim.most
+        taken += claim.limit
     return rows_of_claims
 
 
@@ -216,7 +216,7 @@ class PostgreSQLExternalAttempts:
 
     def __init__(self, url: str, asker: Asker) -> None:
         self._asker = asker
-        self._own = prepared.ReconnectingWire(url, asker.where)
+        self._own = prepared.ReconnectingWire(url, asker.store_name)
         asker.attach(self._own)
         # claims that wait for other nodes hold a connection of the pool
         self._locking = asyncio.Lock()
@@ -236,10 +236,10 @@ class PostgreSQLExternalAttempts:
         self._unwanted = unwanted
 
     async def claim(
-        self, tasks: Sequence[str], limited: Sequence[str], most: int, seconds: float, worker: str
+        self, tasks: Sequence[str], limited: Sequence[str], limit: int, seconds: float, worker: str
     ) -> list[Claim]:
         names = (*map(clean, tasks),)
-        wanted = ClaimRequest(names, max(0, most), float(seconds), clean(worker))
+        wanted = ClaimRequest(names, max(0, limit), float(seconds), clean(worker))
         if limited:
             rows = await self._alone(limited, wanted)
         else:
@@ -292,7 +292,7 @@ class PostgreSQLExternalAttempts:
     ) -> tuple[list[list[Any]], dict[str, int]]:
         parameters: list[bytes] = []
         if claims:
-            each = [claim for claim in claims for _ in range(claim.most)]
+            each = [claim for claim in claims for _ in range(claim.limit)]
             seconds = prepared.array([repr(claim.seconds) for claim in each])
             workers = prepared.array([claim.worker for claim in each])
             parameters += [prepared.array(claims[0].tasks), b"%d" % len(each), workers, seconds]
@@ -307,13 +307,13 @@ class PostgreSQLExternalAttempts:
         """Return the rows of claims of the same tasks, by the pool."""
         if not claims:
             return []
-        each = [claim for claim in claims for _ in range(claim.most)]
+        each = [claim for claim in claims for _ in range(claim.limit)]
         workers = {
             "workers": [claim.worker for claim in each],
             "seconds": [claim.seconds for claim in each],
         }
         tasks = [*claims[0].tasks]
-        ((text,),) = await self._asker.ask(CLAIM, tasks=tasks, most=len(each), **workers)
+        ((text,),) = await self._asker.ask(CLAIM, tasks=tasks, limit=len(each), **workers)
         return rows_of(text)
 
     async def _has_own(self) -> bool:
@@ -345,11 +345,11 @@ class PostgreSQLExternalAttempts:
 
         No other node claims them at the same time.
         """
-        workers = [wanted.worker] * wanted.most
-        parameters = {"tasks": [*wanted.tasks], "most": wanted.most, "workers": workers}
+        workers = [wanted.worker] * wanted.limit
+        parameters = {"tasks": [*wanted.tasks], "most": wanted.limit, "workers": workers}
         async with self._locking, self._asker.connection() as connection, connection.transaction():
             await connection.execute(LOCK, {"limited": list(limited)})
-            seconds = {"seconds": [wanted.seconds] * wanted.most}
+            seconds = {"seconds": [wanted.seconds] * wanted.limit}
             row = await (await connection.execute(CLAIM, parameters | seconds)).fetchone()
             return rows_of(row[0]) if row else []
 

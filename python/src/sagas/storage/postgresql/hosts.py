@@ -14,7 +14,7 @@ from typing import Any
 import psycopg
 from psycopg import conninfo
 
-LINE = "left(pg_walfile_name(pg_current_wal_lsn()), 8)"
+TIMELINE = "left(pg_walfile_name(pg_current_wal_lsn()), 8)"
 """The server's timeline: another one once a standby has taken over.
 
 The standby may not have the last commits.
@@ -28,7 +28,7 @@ LISTS = "host", "hostaddr", "port"
 class Hosts(str):
     """A URL, with the order in which its hosts are tried.
 
-    For all other uses it is the URL as it was given.
+    For all other uses it is the given URL.
     """
 
     def __init__(self, url: str) -> None:
@@ -60,11 +60,11 @@ class Hosts(str):
         if not self.are_several or self._asking.locked():
             return None
         async with self._asking:
-            questions = (line_of(address, self._hosts[index]) for index in self._order)
-            lines = dict(zip(self._order, await asyncio.gather(*questions)))
-            best = max((line for line in lines.values() if line), default=None)
-            if best is not None and lines[self._order[0]] != best:
-                first = next(index for index in self._order if lines[index] == best)
+            questions = (timeline_of(address, self._hosts[index]) for index in self._order)
+            timelines = dict(zip(self._order, await asyncio.gather(*questions)))
+            best = max((timeline for timeline in timelines.values() if timeline), default=None)
+            if best is not None and timelines[self._order[0]] != best:
+                first = next(index for index in self._order if timelines[index] == best)
                 rest = [index for index in self._order if index != first]
                 self._order, self.turn = [first, *rest], self.turn + 1
             return best
@@ -80,13 +80,13 @@ def host_parameters(parameters: Mapping[str, Any]) -> list[dict[str, str]]:
     ]
 
 
-async def line_of(address: str, host: Mapping[str, str]) -> str | None:
+async def timeline_of(address: str, host: Mapping[str, str]) -> str | None:
     """Return the timeline of a host; None if it does not accept writes, or does not answer."""
     try:
         async with asyncio.timeout(PATIENCE):
             single = conninfo.make_conninfo(address, **host)
             async with await psycopg.AsyncConnection.connect(single, autocommit=True) as connection:
-                rows = await (await connection.execute(f"SELECT {LINE}")).fetchall()
+                rows = await (await connection.execute(f"SELECT {TIMELINE}")).fetchall()
                 return str(rows[0][0])
     except (psycopg.Error, OSError, TimeoutError):
         return None

@@ -30,11 +30,11 @@ class KeyFinder:
     """
 
     def __init__(
-        self, url: str, where: str, spawn: Callable[[Coroutine[Any, Any, None]], object]
+        self, url: str, store_name: str, spawn: Callable[[Coroutine[Any, Any, None]], object]
     ) -> None:
-        self._connection, self._where, self._spawn = (
-            prepared.ReconnectingWire(url, where),
-            where,
+        self._connection, self._store_name, self._spawn = (
+            prepared.ReconnectingWire(url, store_name),
+            store_name,
             spawn,
         )
         self._wanted: dict[str, list[asyncio.Future[SagaRow | None]]] = {}
@@ -85,8 +85,8 @@ class KeyFinder:
             else (FIND_WIRED, json.dumps(keys).encode())
         )
 
-        def then(rows: list[prepared.Values], fault: Exception | None) -> None:
-            if fault is None:
+        def then(rows: list[prepared.Values], failure: Exception | None) -> None:
+            if failure is None:
                 self._resolve(wanted, rows)
             else:
                 self._spawn(self._find_after_connecting(wanted, query, parameter))
@@ -100,12 +100,12 @@ class KeyFinder:
         """As `_find`, over a new connection."""
         try:
             rows = await self._connection.read(query, parameter)
-        except StoreUnavailable as fault:
-            self._resolve(wanted, [], fault)
+        except StoreUnavailable as failure:
+            self._resolve(wanted, [], failure)
         except asyncio.CancelledError:
             added, self._wanted = self._wanted, {}
             for futures in (wanted, added):
-                self._resolve(futures, [], Closed(f"{self._where}: the store is closed"))
+                self._resolve(futures, [], Closed(f"{self._store_name}: the store is closed"))
             raise
         else:
             self._resolve(wanted, rows)
@@ -114,7 +114,7 @@ class KeyFinder:
         self,
         wanted: dict[str, list[asyncio.Future[SagaRow | None]]],
         rows: list[prepared.Values],
-        fault: SagasError | None = None,
+        failure: SagasError | None = None,
     ) -> None:
         """Answer the callers of a query, and look up the keys that are wanted by now."""
         sagas: dict[str, SagaRow] = {}
@@ -124,7 +124,7 @@ class KeyFinder:
         for key, futures in wanted.items():
             for future in futures:
                 if not future.done():
-                    future.set_exception(fault) if fault else future.set_result(sagas.get(key))
+                    future.set_exception(failure) if failure else future.set_result(sagas.get(key))
         self._is_finding, self._seeking = bool(self._wanted), 0
         if self._is_finding:
             self._find()

@@ -88,7 +88,7 @@ class Lookups:
         """
         if not isinstance(error, StoreUnavailable):
             futures, self._wanted = futures | self._wanted, {}
-            error = StoreUnavailable(f"{self._asker.where}: cannot be read: {error}")
+            error = StoreUnavailable(f"{self._asker.store_name}: cannot be read: {error}")
         for waiting in futures.values():
             for future in waiting:
                 if not future.done():
@@ -97,11 +97,11 @@ class Lookups:
     async def _ask(self, ids: Sequence[int]) -> dict[int, Known]:
         digests_and_shapes: dict[int, tuple[str, str | None]] = {}
         results: dict[int, list[Any]] = {id: [] for id in ids}
-        for id, step, kind, attempt, event, value, at in await self._asker.read(KNOWN, ids=ids):
+        for id, step, action, attempt, event, value, at in await self._asker.read(KNOWN, ids=ids):
             if step < 0:
-                digests_and_shapes[id] = kind, value
+                digests_and_shapes[id] = action, value
             else:
-                results[id].append((step, kind, attempt, event, value, at))
+                results[id].append((step, action, attempt, event, value, at))
         await self._fetch({digest for digest, _ in digests_and_shapes.values()})
         return {
             id: Known(self._texts[digest], sorted(results[id], key=lambda row: row[:3]), [], shape)

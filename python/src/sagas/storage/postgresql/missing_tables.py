@@ -25,13 +25,13 @@ class MissingTables:
 
     def __init__(self, url: str, path: str) -> None:
         self._url, self._path = url, path
-        self._line = ""  # of the last server that had the tables
+        self._timeline = ""  # of the last server that had the tables
         self.refusal: InvalidStore | None = None
-        """Why they cannot be created, as it was logged."""
+        """Why they cannot be created. It was logged."""
 
-    def seen(self, line: str) -> None:
+    def seen(self, timeline: str) -> None:
         """Note that the server with this timeline has the tables."""
-        self._line, self.refusal = line, None
+        self._timeline, self.refusal = timeline, None
 
     async def make(self, error: StoreUnavailable) -> bool:
         """Create the tables if they are the reason of this error.
@@ -57,8 +57,10 @@ class MissingTables:
     def _make(self) -> None:
         with connections.translate_errors(self._path):
             with contextlib.closing(connections.connect_now(self._url)) as connection:
-                (line,) = connection.execute(f"SELECT {connections.LINE}").fetchone() or ("",)
-                if line == self._line:
+                (timeline,) = connection.execute(f"SELECT {connections.TIMELINE}").fetchone() or (
+                    "",
+                )
+                if timeline == self._timeline:
                     raise InvalidStore(
                         f"{self._path}: the tables of the store are gone, and nothing is executed. "
                         "Close all nodes, restore the database, and start them again"

@@ -29,7 +29,7 @@ from sagas.definition.compiled import version_of
 from sagas.storage.codec_note import NOTED, missing
 from sagas.storage.postgresql import codec_note, notifications
 from sagas.storage.postgresql.codec_note import ALLOWS
-from sagas.storage.postgresql.connections import LINE, RAISED, Asker
+from sagas.storage.postgresql.connections import TIMELINE, RAISED, Asker
 from sagas.storage.queries import COMPLETED_CHILDREN, OPENED
 
 if TYPE_CHECKING:
@@ -71,7 +71,7 @@ UPDATE nodes SET lease = now() + make_interval(secs => %(lease)s)
 WHERE node = %(node)s AND {ALLOWS} RETURNING 1
 """
 LOOK = f"""
-SELECT {LINE}, EXISTS (SELECT 1 FROM renewed UNION ALL SELECT 1 FROM entered),
+SELECT {TIMELINE}, EXISTS (SELECT 1 FROM renewed UNION ALL SELECT 1 FROM entered),
   EXISTS (SELECT 1 FROM shards l WHERE {ORPHAN} AND l.shard <> ALL(%(left)s::bigint[])),
   EXISTS (SELECT 1 FROM pending_starts i WHERE {UNTAKEN})
     OR EXISTS (SELECT 1 FROM operator_commands WHERE answer IS NULL),
@@ -319,7 +319,7 @@ class Lease:
         if self.encodes or self._has_reported_codec or not await self._asker.read(NOTED):
             return
         self._has_reported_codec = True
-        logger.error("%s. This node does nothing more", missing(self._asker.where))
+        logger.error("%s. This node does nothing more", missing(self._asker.store_name))
 
     async def take(self, check_functions: FunctionCheck, mine: list[int]) -> list[LogRow] | None:
         """Take a batch of the shards without a node, if this program has their functions.
@@ -382,14 +382,14 @@ class Lease:
         await self._asker.ask(notifications.NOTIFY, messages=["logs", notifications.STARTS])
 
 
-def describe_undriven(where: str, shards: Sequence[int], rows: Sequence[Sequence[Any]]) -> str:
+def describe_undriven(store_name: str, shards: Sequence[int], rows: Sequence[Sequence[Any]]) -> str:
     """Return a message that no node drives these shards, from the rows of `UNDRIVEN`."""
     descriptions = []
     for text, count, sagas in rows:
         name = f"{tomllib.loads(text)['name']} (version {version_of(text)})"
         descriptions.append(f"{name}: {number(sagas, 'saga')} in {number(count, 'shard')}")
     return (
-        f"{where}: no node executes {number(len(shards), 'shard')}, because none has "
+        f"{store_name}: no node executes {number(len(shards), 'shard')}, because none has "
         f"the functions of their open sagas: {'; '.join(descriptions)}. Start a program that "
         "has them, and see `sagas store URL nodes`"
     )

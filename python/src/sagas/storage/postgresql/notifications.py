@@ -56,7 +56,7 @@ def array_of(messages: Iterable[str]) -> bytes:
 class Listener:
     """A connection that listens on channels, and connects again if it breaks.
 
-    `heard` is called with each message. `listens` is called whenever it has begun to listen:
+    `on_message` is called with each message. `listens` is called whenever it has begun to listen:
     messages may have been missed before.
     """
 
@@ -64,10 +64,10 @@ class Listener:
         self,
         url: str,
         channels: Sequence[str],
-        heard: Callable[[str], object],
+        on_message: Callable[[str], object],
         listens: Callable[[], object],
     ) -> None:
-        self._url, self._channels, self._heard, self._listens = url, channels, heard, listens
+        self._url, self._channels, self._heard, self._listens = url, channels, on_message, listens
         self.wire: Wire | None = None
         self.ready = asyncio.Event()
 
@@ -136,7 +136,7 @@ class Notifications:
         """
         wire = self.listener.wire
         if messages and wire and not wire.closed:
-            wire.ask(NOTIFY_WIRED, [array_of(messages)], lambda rows, fault: then())
+            wire.ask(NOTIFY_WIRED, [array_of(messages)], lambda rows, failure: then())
         else:
             then()
 

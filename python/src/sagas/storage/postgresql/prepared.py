@@ -47,7 +47,7 @@ class Wire:
     def __init__(
         self,
         connection: connections.Link,
-        heard: Callable[[str], object] | None = None,
+        on_notification: Callable[[str], object] | None = None,
         patience: float | None = None,
     ) -> None:
         """Take over a connection.
@@ -57,7 +57,7 @@ class Wire:
             heard: Called with each notification of a channel on which the connection listens.
             patience: Maximum number of seconds for a reply (default: `connections.PATIENCE`).
         """
-        self._connection, self._pgconn, self._heard = connection, connection.pgconn, heard
+        self._connection, self._pgconn, self._heard = connection, connection.pgconn, on_notification
         self._patience = connections.PATIENCE if patience is None else patience
         self._loop = asyncio.get_running_loop()
         self._fd = self._pgconn.socket
@@ -95,9 +95,9 @@ class Wire:
         """
         future: asyncio.Future[list[Values]] = self._loop.create_future()
 
-        def then(rows: list[Values], fault: Exception | None) -> None:
+        def then(rows: list[Values], failure: Exception | None) -> None:
             if not future.done():
-                future.set_exception(fault) if fault else future.set_result(rows)
+                future.set_exception(failure) if failure else future.set_result(rows)
 
         self.ask(text, parameters, then)
         return await future
@@ -109,8 +109,8 @@ class Wire:
         future: asyncio.Future[None] = self._loop.create_future()
         text, parameters, then = self._jobs[-1]
 
-        def last(rows: list[Values], fault: Exception | None) -> None:
-            then(rows, fault)
+        def last(rows: list[Values], failure: Exception | None) -> None:
+            then(rows, failure)
             if not future.done():
                 future.set_result(None)
 
@@ -188,23 +188,23 @@ class Wire:
         result, self._result = self._result, None
         preparing, self._preparing = self._preparing, None
         assert result
-        fault = None if result.status in GOOD else errors.error_from_result(result)
-        if fault is None and self._connection.warned:
-            self._connection.warned, fault = False, NotReplicated()
+        failure = None if result.status in GOOD else errors.error_from_result(result)
+        if failure is None and self._connection.warned:
+            self._connection.warned, failure = False, NotReplicated()
         is_deallocating, self._is_deallocating = self._is_deallocating, False
-        if is_deallocating and not fault:
+        if is_deallocating and not failure:
             self._names.clear()
             self._begin()
             return
-        if preparing and not fault:
+        if preparing and not failure:
             self._names[self._jobs[0][0]] = preparing
             self._begin()
             return
         _, _, then = self._jobs.popleft()
-        rows = [] if fault else read(result)
+        rows = [] if failure else read(result)
         if self._jobs:
             self._begin_next()
-        then(rows, fault)
+        then(rows, failure)
 
     # -- errors
 
@@ -265,8 +265,8 @@ def read(result: PGresult) -> list[Values]:
 class ReconnectingWire:
     """A wire for short statements that is made again when it breaks."""
 
-    def __init__(self, url: str, where: str) -> None:
-        self._url, self._where = url, where
+    def __init__(self, url: str, store_name: str) -> None:
+        self._url, self._store_name = url, store_name
         self._wire: Wire | None = None
         self._making = asyncio.Lock()
         self._is_over = False
@@ -278,7 +278,7 @@ class ReconnectingWire:
 
     async def open(self) -> None:
         """Connect. Raises `StoreUnavailable`."""
-        with connections.translate_errors(self._where):
+        with connections.translate_errors(self._store_name):
             await self._made()
 
     async def ask(self, text: str, *parameters: bytes | None) -> list[Values]:
@@ -286,7 +286,7 @@ class ReconnectingWire:
 
         Raises `StoreUnavailable`. Then it is unknown whether the statement was executed.
         """
-        with connections.translate_errors(self._where):
+        with connections.translate_errors(self._store_name):
             wire = self._wire
             if wire is None or wire.closed:
                 wire = await self._made()
@@ -295,7 +295,7 @@ class ReconnectingWire:
     def send(self, text: str, parameters: Parameters, then: ReplyCallback) -> bool:
         """As `Wire.ask`, without a task of the loop.
 
-        Return False if there is no connection.
+        Return False without a connection.
         """
         if self._wire is None or self._wire.closed:
             return False

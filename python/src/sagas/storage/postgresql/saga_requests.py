@@ -56,13 +56,13 @@ FIND_NOW = queries.named(FIND_ONE.replace("$1", "?"), "key", "key")
 
 
 async def pending_requests(
-    asker: connections.Asker, node: str, after: int, most: int
+    asker: connections.Asker, node: str, after: int, limit: int
 ) -> list[Request]:
     """Return the unanswered requests of a node's shards, and those for any node.
 
     See `Database.requests`.
     """
-    parameters = {"node": node, "after": after, "most": most}
+    parameters = {"node": node, "after": after, "most": limit}
     return await asker.read(REQUESTS, **parameters)  # type: ignore[return-value]
 
 
@@ -70,13 +70,13 @@ async def take_starts(
     asker: connections.Asker,
     node: str,
     sagas: Sequence[str],
-    most: int,
+    limit: int,
     under_way: Sequence[int] | None,
     left: Sequence[int],
 ) -> list[Start]:
     """Take starts of these sagas that clients added, for a node to open."""
     mine = None if under_way is None else list(under_way)
-    parameters = {"node": node, "sagas": [*sagas], "most": most, "mine": mine, "left": [*left]}
+    parameters = {"node": node, "sagas": [*sagas], "most": limit, "mine": mine, "left": [*left]}
     return await asker.ask(STARTS, **parameters)  # type: ignore[return-value]
 
 

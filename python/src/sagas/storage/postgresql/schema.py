@@ -256,16 +256,16 @@ def version_of(connection: psycopg.Connection[tuple[object, ...]]) -> int:
     return int(str(row[0])) if row else 0
 
 
-def check(version: int, where: str) -> None:
+def check(version: int, store_name: str) -> None:
     """Raise `StoreSchemaTooNew` if the tables are of a later version."""
     if version > VERSION:
         raise StoreSchemaTooNew(
-            f"{where}: its tables have version {version}, and this program knows "
+            f"{store_name}: its tables have version {version}, and this program knows "
             f"{VERSION}. Use a later release"
         )
 
 
-def migrate(connection: psycopg.Connection[tuple[object, ...]], where: str) -> int:
+def migrate(connection: psycopg.Connection[tuple[object, ...]], store_name: str) -> int:
     """Create missing tables in one transaction, and return the version before.
 
     Older tables get the index of start times, if this user may create it.
@@ -275,25 +275,26 @@ def migrate(connection: psycopg.Connection[tuple[object, ...]], where: str) -> i
     """
     try:
         version = version_of(connection)
-        check(version, where)
+        check(version, store_name)
         if version == VERSION and not _lacks_started(connection):
             return version
         # before the transaction: one that waits for the lock may not see new tables
         connection.execute("SELECT pg_advisory_lock(%s)", (LOCK,))
         try:
             version = version_of(connection)
-            check(version, where)
+            check(version, store_name)
             if version < VERSION:
                 with connection.transaction():
                     _make(connection)
             elif _lacks_started(connection):
-                _add_started(connection, where)
+                _add_started(connection, store_name)
         finally:
             connection.execute("SELECT pg_advisory_unlock(%s)", (LOCK,))
         return version
     except errors.InsufficientPrivilege as error:
         raise InvalidStore(
-            f"{where}: {str(error).splitlines()[0]}: {RIGHTS.format(role=connection.info.user)}"
+            f"{store_name}: {str(error).splitlines()[0]}: "
+            f"{RIGHTS.format(role=connection.info.user)}"
         ) from error
 
 
@@ -301,7 +302,7 @@ def _lacks_started(connection: psycopg.Connection[tuple[object, ...]]) -> bool:
     return connection.execute(LACKS_STARTED).fetchone() == (True,)
 
 
-def _add_started(connection: psycopg.Connection[tuple[object, ...]], where: str) -> None:
+def _add_started(connection: psycopg.Connection[tuple[object, ...]], store_name: str) -> None:
     """Create the index, unless other nodes would have to wait for it for long.
 
     Lists are slow without it.
@@ -312,7 +313,7 @@ def _add_started(connection: psycopg.Connection[tuple[object, ...]], where: str)
             connection.execute(STARTED)
     except (errors.InsufficientPrivilege, errors.LockNotAvailable, errors.QueryCanceled) as error:
         detail = str(error).splitlines()[0]
-        logger.warning("%s: %s. Lists are slow without an index. %s", where, detail, REMEDY)
+        logger.warning("%s: %s. Lists are slow without an index. %s", store_name, detail, REMEDY)
 
 
 def _make(connection: psycopg.Connection[tuple[object, ...]]) -> None:

@@ -48,7 +48,7 @@ SELECT shard, {MINE},
   (SELECT json_build_array(first_seq, committed_at,
       length(text) - length(replace(text, E'\\n', '')))
     FROM event_log e WHERE e.shard = l.shard ORDER BY first_seq DESC LIMIT 1)::text,
-  {connections.LINE} FROM shards l WHERE {LOGS}
+  {connections.TIMELINE} FROM shards l WHERE {LOGS}
 """
 """Loads shards in one transaction.
 
@@ -59,7 +59,8 @@ takes longer for a thousand cells than the server takes for all sagas.
 NEW = connections.TAKEOVER.format(node="%(node)s", last="-1", taken="born")
 BORN = f"""
 WITH definition AS (SELECT place, digest, text
-  FROM unnest(%(places)s::integer[], %(digests)s::text[], %(texts)s::text[]) AS of(place, digest, text)),
+  FROM unnest(%(places)s::integer[], %(digests)s::text[], %(texts)s::text[])
+    AS of(place, digest, text)),
 new AS (INSERT INTO definitions SELECT DISTINCT digest, text FROM definition ORDER BY 1
   ON CONFLICT DO NOTHING),
 new2 AS (INSERT INTO shard_definitions SELECT %(shard)s, place, digest FROM definition
@@ -77,7 +78,7 @@ DEFINITIONS = "SELECT count(*) FROM shard_definitions WHERE shard = %(shard)s"
 ALONE = (
     f"WITH mine AS (UPDATE shards SET epoch = epoch + 1 WHERE {LOGS} AND {MINE} "
     f"RETURNING shard, epoch), noted AS ({connections.READ}) "
-    f"SELECT epoch, {connections.LINE} FROM mine"
+    f"SELECT epoch, {connections.TIMELINE} FROM mine"
 )
 """Loads one shard, whatever its epoch is.
 
@@ -93,10 +94,10 @@ class LoadRequest(NamedTuple):
     born: Born | None
     loaded_shard: asyncio.Future[Loaded | None]
 
-    def resolve(self, loaded: Loaded | None, fault: Exception | None = None) -> None:
+    def resolve(self, loaded: Loaded | None, failure: Exception | None = None) -> None:
         """Answer the caller, if it still waits."""
         if not self.loaded_shard.done():
-            self.loaded_shard.set_exception(fault) if fault else self.loaded_shard.set_result(
+            self.loaded_shard.set_exception(failure) if failure else self.loaded_shard.set_result(
                 loaded
             )
 
@@ -195,11 +196,11 @@ class ShardLoader:
         """
         try:
             rest = await self._together(batch)
-        except Exception as fault:
+        except Exception as failure:
             rest = [request for request in batch if not request.loaded_shard.done()]
-            if not _was_answered(fault):
+            if not _was_answered(failure):
                 for request in rest:
-                    request.resolve(None, fault)
+                    request.resolve(None, failure)
                 return
         for request in rest:
             self._spawn(self._load_alone(request))
@@ -208,8 +209,8 @@ class ShardLoader:
         try:
             async with self._one:
                 loaded = await self._alone(request)
-        except Exception as fault:
-            request.resolve(None, fault)
+        except Exception as failure:
+            request.resolve(None, failure)
         else:
             request.resolve(loaded)
 
@@ -297,33 +298,33 @@ def _born(born: Born) -> dict[str, Any]:
     return {"name": name, "places": [*places], "digests": [*digests], "texts": [*texts]}
 
 
-def _was_answered(fault: Exception) -> bool:
+def _was_answered(failure: Exception) -> bool:
     """Whether the server answered with an error, or took too long."""
-    cause = fault.__cause__ if isinstance(fault, StoreUnavailable) else fault
+    cause = failure.__cause__ if isinstance(failure, StoreUnavailable) else failure
     return isinstance(cause, TimeoutError) or getattr(cause, "sqlstate", None) is not None
 
 
 def _loaded(text: str, opened: int, sagas: Sequence[Any]) -> Loaded:
     """Return a shard from its cells. JSON may have whole numbers of seconds."""
     results: list[Result] = [
-        (id, step, kind, attempt, outcome, value, float(at))
+        (id, step, action, attempt, outcome, value, float(at))
         for saga in sagas
-        for id, step, kind, attempt, outcome, value, at in saga[5] or ()
+        for id, step, action, attempt, outcome, value, at in saga[5] or ()
     ]
     held: list[HeldRow] = [
         (
             id,
             step,
-            kind,
+            action,
             attempt,
-            why,
+            reason,
             count,
             float(since),
             None if until is None else float(until),
             error,
         )
         for saga in sagas
-        for id, step, kind, attempt, why, count, since, until, error in saga[6] or ()
+        for id, step, action, attempt, reason, count, since, until, error in saga[6] or ()
     ]
     open: list[OpenRow] = [
         (

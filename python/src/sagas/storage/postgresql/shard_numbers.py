@@ -31,7 +31,7 @@ class ShardNumbers:
             self._wanted.set()
         if not self._numbers:
             raise StoreUnavailable(
-                f"{self._asker.where}: the database has not assigned a new shard in time, "
+                f"{self._asker.store_name}: the database has not assigned a new shard in time, "
                 "because it does not answer or many sagas were started at once. Nothing was "
                 "started. Start it again"
             )

@@ -28,7 +28,7 @@ PREPARED = "sagas_record"
 PARAMETERS = {
     "id": "bigint",
     "step": "integer",
-    "kind": "text",
+    "action": "text",
     "attempt": "integer",
     "shard": "bigint",
     "node": "text",
@@ -40,9 +40,9 @@ PARAMETERS = {
 }
 TABLE = "sagas", "attempts"
 """The schema and the name of the table that a record is written to."""
-RECORD = f"""INSERT INTO {'.'.join(TABLE)} VALUES ({{id}}, {{step}}, {{kind}}, {{attempt}},
+RECORD = f"""INSERT INTO {'.'.join(TABLE)} VALUES ({{id}}, {{step}}, {{action}}, {{attempt}},
   (SELECT 'ok' FROM sagas.shards WHERE shard = {{shard}} AND owner = {{node}}
-    AND epoch = {{epoch}} AND {connections.LINE} = {{line}}
+    AND epoch = {{epoch}} AND {connections.TIMELINE} = {{line}}
     AND EXISTS (SELECT 1 FROM sagas.event_log WHERE shard = {{shard}}
       AND first_seq = {{first_seq}} AND committed_at = {{committed_at}}) FOR SHARE),
   {{value}}, extract(epoch FROM clock_timestamp()))"""
@@ -91,12 +91,12 @@ def _literal(connection: Any, text: str) -> str:
 
 def record_and_commit(connection: Any, row: Sequence[Any], fence: Fence, value: str) -> str:
     """Return the record of a result, which locks the shard's row, and the commit."""
-    id, step, kind, attempt = row
+    id, step, action, attempt = row
     shard, node, epoch, line, (first_seq, committed_at) = fence
     parameters = [
         str(id),
         str(step),
-        f"'{kind}'",
+        f"'{action}'",
         str(attempt),
         str(shard),
         _literal(connection, node),

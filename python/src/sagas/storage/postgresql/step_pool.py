@@ -44,7 +44,7 @@ def is_good(connection: AsyncStepLink | StepLink) -> bool:
 class Pool:
     """The connections for all functions of a node: in the loop, and in threads with a `Loan`.
 
-    A connection is made while a caller waits and there are fewer than `most`: one at a time. An
+    A connection is made while a caller waits and there are fewer than `max_size`: one at a time. An
     idle connection is for either kind of function: it is turned into the other kind of object.
 
     A function in the loop that may want a connection reserves one. It stays idle until it is
@@ -52,8 +52,8 @@ class Pool:
     gets it. Those of functions in threads are checked when they are taken.
     """
 
-    def __init__(self, url: str, most: int, prepares: Prepares | None = None) -> None:
-        self._url, self._most, self._count, self._prepares = url, most, 0, prepares
+    def __init__(self, url: str, max_size: int, prepares: Prepares | None = None) -> None:
+        self._url, self._most, self._count, self._prepares = url, max_size, 0, prepares
         self._reserved = 0  # number of idle connections that are reserved
         self._idle: list[tuple[AsyncStepLink, float]] = []  # with the time; the newest is last
         self._idle_for_threads: list[tuple[StepLink, float]] = []

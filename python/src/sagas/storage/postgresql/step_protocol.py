@@ -216,30 +216,30 @@ def with_begin(connection: Any, gen: PQGen[RV]) -> PQGen[RV]:
 
     If BEGIN is refused, the server does not execute the statement.
     """
-    pgconn, fault, value = connection.pgconn, None, None
+    pgconn, failure, value = connection.pgconn, None, None
     connection.halfway = True
     pgconn.enter_pipeline_mode()
     pgconn.send_query_params(b"BEGIN", None)
     try:
         next(gen)  # the statement is sent
     except Exception as error:  # psycopg refused it
-        fault = error
+        failure = error
     pgconn.pipeline_sync()
     yield from generators.send(pgconn)
     begun = yield from fetched(pgconn)
     try:
-        if fault is None:
+        if failure is None:
             value = yield from resume(gen)
     except Exception as error:
         if pgconn.status == pq.ConnStatus.BAD:  # the server sends nothing more
             raise
-        fault = error
+        failure = error
     yield from fetched(pgconn)  # the end of both
     pgconn.exit_pipeline_mode()
     connection.halfway = False
     raise_first(connection, begun)
-    if fault is not None:
-        raise fault
+    if failure is not None:
+        raise failure
     return value  # type: ignore[return-value]
 
 

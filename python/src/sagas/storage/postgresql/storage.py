@@ -95,7 +95,7 @@ class PostgreSQL(queries.Questions):
         self.external: ExternalAttempts = PostgreSQLExternalAttempts(url, self.asker)
         record_file = RecordFile.of(record, self.lease.node)
         self._loads = ShardLoader(self.asker, self.lease.node, self._spawn, record_file)
-        self._line = ""
+        self._timeline = ""
         self._writer = Writer(
             url,
             self.path,
@@ -111,7 +111,7 @@ class PostgreSQL(queries.Questions):
                 url,
                 self.path,
                 self.lease.node,
-                lambda: self._line,
+                lambda: self._timeline,
                 self._writer.tails.get,
                 max_connections,
             )
@@ -135,7 +135,7 @@ class PostgreSQL(queries.Questions):
     @property
     def path(self) -> str:
         """The URL for messages."""
-        return self.asker.where
+        return self.asker.store_name
 
     @property
     def file(self) -> str:
@@ -171,10 +171,10 @@ class PostgreSQL(queries.Questions):
         await self.asker.open()
         await self._keys.open()  # now: later the server may have no connection left
         await self._questions.open()
-        self._line = await self.lease.begin()
+        self._timeline = await self.lease.begin()
         self._spawn(self._keep())
         if self.record:
-            self.record.moved(self._line)
+            self.record.moved(self._timeline)
         rows: list[LogRow] = []
         while (
             taken := await self.lease.take(check_functions, [row.log for row in rows])
@@ -260,7 +260,7 @@ class PostgreSQL(queries.Questions):
         It does so each second, and after each notification.
         """
         tables = MissingTables(self.url, self.path)
-        tables.seen(self._line)
+        tables.seen(self._timeline)
         while not self._closing:
             self._turn.clear()
             try:
@@ -271,7 +271,7 @@ class PostgreSQL(queries.Questions):
                 if tables.refusal and self._watcher:
                     self._watcher.refused(tables.refusal)
             else:
-                tables.seen(self._line)
+                tables.seen(self._timeline)
             with contextlib.suppress(TimeoutError):
                 async with asyncio.timeout(0 if self._closing else self.lease.pause):
                     await self._turn.wait()
@@ -323,7 +323,7 @@ class PostgreSQL(queries.Questions):
 
     async def _choose_host(self) -> None:
         line = await self.url.choose(connections.address(self.url))
-        if line is not None and line > self._line and not self._closing:
+        if line is not None and line > self._timeline and not self._closing:
             self._is_known(line, cuts=True)
             self._writer.cut()
             if self._announcer:  # the former server would send nothing more
@@ -334,10 +334,10 @@ class PostgreSQL(queries.Questions):
 
         Raises `StoreUnavailable` otherwise.
         """
-        if self.url.are_several and line < self._line:
+        if self.url.are_several and line < self._timeline:
             raise StoreUnavailable(
                 f"{self.path}: a server of timeline {line} answers, which one of timeline "
-                f"{self._line} has replaced. Stop the former; or start this node again, if the "
+                f"{self._timeline} has replaced. Stop the former; or start this node again, if the "
                 "store was restored there"
             )
 
@@ -347,10 +347,10 @@ class PostgreSQL(queries.Questions):
         Another one may lack commits. Then each shard is loaded again before anything is written.
         `cuts`: queries to the former server will have no reply.
         """
-        if line == self._line:
+        if line == self._timeline:
             return True
         logger.warning("%s: another server has taken over. Opening its shards again", self.path)
-        self._line = line
+        self._timeline = line
         if self.record:
             self.record.moved(line)
         self._begin_again(cuts)
@@ -373,7 +373,7 @@ class PostgreSQL(queries.Questions):
             self._watcher.lease_expired(is_older=True)
 
     def _check_line(self, line: str) -> None:
-        if line != self._line:
+        if line != self._timeline:
             raise StoreUnavailable(f"{self.path}: another server has taken over")
 
     # -- writing
@@ -397,7 +397,7 @@ class PostgreSQL(queries.Questions):
     @property
     def timeline(self) -> str:
         """The server's timeline, as far as this node knows."""
-        return self._line
+        return self._timeline
 
     @property
     def commit_seconds(self) -> float:
@@ -454,7 +454,7 @@ class PostgreSQL(queries.Questions):
 
         Return None if another node owns it, or it is gone.
         """
-        line = self._line
+        line = self._timeline
         loaded = await self._loads.load(shard, epoch, born)
         self._check_line(
             loaded.line if loaded else line
@@ -477,7 +477,7 @@ class PostgreSQL(queries.Questions):
 
         Return None if this node does not own it any more.
         """
-        line = self._line
+        line = self._timeline
         read = await self._loads.take_up(shard, epoch, line)
         if read is None:
             return None

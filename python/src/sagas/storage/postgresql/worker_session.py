@@ -18,7 +18,7 @@ from sagas.core.outcomes import Outcome
 from sagas.definition import awaitables
 from sagas.definition.step import Function
 from sagas.definition.task import Task
-from sagas.storage.external import TAKES
+from sagas.storage.external import REPORT_COUNTS
 from sagas.storage.postgresql import connections
 from sagas.storage.postgresql.external_attempts import NOTIFY_REPORTED, REPORT
 from sagas.storage.postgresql.step_connections import AsyncStepLink, StepLink
@@ -28,7 +28,8 @@ from sagas.storage.worker_session import BEGIN, fetched
 
 RECORD = f"""
 UPDATE sagas.external_attempts SET outcome = 'succeeded', value = %(value)s, reported = %(lease)s
-WHERE attempt = %(attempt)s AND {TAKES.format(lease="%(lease)s", outcome="'succeeded'::text")}
+WHERE attempt = %(attempt)s
+  AND {REPORT_COUNTS.format(lease="%(lease)s", outcome="'succeeded'::text")}
 RETURNING attempt
 """
 COMMIT = f"COMMIT; {AS_MADE}"

@@ -42,14 +42,14 @@ class Writer:
     def __init__(
         self,
         url: str,
-        where: str,
+        store_name: str,
         node: str,
         check: Callable[[connections.Link], Coroutine[Any, Any, None]],
         kept: Callable[[Commit], object],
         refused: Callable[[], object],
         record: RecordFile | None = None,
     ) -> None:
-        self._url, self._where, self._node = url, where, node.encode()
+        self._url, self._store_name, self._node = url, store_name, node.encode()
         self._check, self._kept, self._refused = check, kept, refused
         self.record = record
         self.late: Callable[[], object] = lambda: None
@@ -113,7 +113,7 @@ class Writer:
         self.cut()
 
     def _closed(self) -> StoreUnavailable:
-        return StoreUnavailable(f"{self._where}: closed")
+        return StoreUnavailable(f"{self._store_name}: closed")
 
     def _spawn(self, work: Coroutine[Any, Any, None]) -> None:
         self._job = asyncio.get_running_loop().create_task(work)
@@ -122,27 +122,27 @@ class Writer:
         self,
         batches: Sequence[Batch],
         then: CommitCallback,
-        fault: BaseException | None,
+        failure: BaseException | None,
         lost: frozenset[int],
     ) -> None:
         self._rests.set()
-        then(batches, fault, lost)
+        then(batches, failure, lost)
 
     # -- one statement
 
     async def _connect(self, batches: Sequence[Batch], then: CommitCallback) -> None:
-        fault: BaseException | None = None
+        failure: BaseException | None = None
         try:
-            with connections.translate_errors(self._where):
+            with connections.translate_errors(self._store_name):
                 async with asyncio.timeout(connections.PATIENCE):
                     wire = self._wire = Wire(await self._connected())
         except Exception as error:
-            fault = error
+            failure = error
         except asyncio.CancelledError:
-            fault = self._closed()
-        if fault:
+            failure = self._closed()
+        if failure:
             self._refused()
-            self._over(batches, then, fault, NONE)
+            self._over(batches, then, failure, NONE)
         else:
             self._write(wire, batches, functools.partial(self._came, batches, then))
 
@@ -168,23 +168,23 @@ class Writer:
             wire.ask(
                 text,
                 parameters,
-                lambda rows, fault: on_answer(*self._read(commit, rows, fault, began)),
+                lambda rows, failure: on_answer(*self._read(commit, rows, failure, began)),
             )
 
     def _read(
-        self, commit: Commit, rows: list[Values], fault: Exception | None, began: float
+        self, commit: Commit, rows: list[Values], failure: Exception | None, began: float
     ) -> tuple[frozenset[int], Exception | None]:
         self.commit_seconds += (time.monotonic() - began - self.commit_seconds) / 8
-        if fault is not None:
-            if not isinstance(fault, OF_ONE):
+        if failure is not None:
+            if not isinstance(failure, OF_ONE):
                 self.cut()
-                if isinstance(fault, (TimeoutError, errors.QueryCanceled)):
+                if isinstance(failure, (TimeoutError, errors.QueryCanceled)):
                     self.late()
                 if self.record:
                     self.record.unanswered()
             elif self.record:
                 self.record.failed()
-            return NONE, fault
+            return NONE, failure
         mine = {int(row[0]) for row in rows if row[0] is not None}
         if HAS_MOVED in mine:
             mine.discard(HAS_MOVED)
@@ -214,54 +214,54 @@ class Writer:
         batches: Sequence[Batch],
         then: CommitCallback,
         lost: frozenset[int],
-        fault: Exception | None,
+        failure: Exception | None,
     ) -> None:
-        if isinstance(fault, OF_ONE):
+        if isinstance(failure, OF_ONE):
             self._spawn(self._one_by_one(batches, then))
         else:
-            self._over(batches, then, fault and self._translated(fault), lost)
+            self._over(batches, then, failure and self._translated(failure), lost)
 
     # -- one statement for each log
 
     async def _one_by_one(self, batches: Sequence[Batch], then: CommitCallback) -> None:
         """Write each shard alone: one of them cannot be written (`OF_ONE`)."""
         lost: set[int] = set()
-        fault: Exception | None = None
+        failure: Exception | None = None
         try:
             for shard in dict.fromkeys(batch.log for batch in batches):
                 lost |= await self._written(
                     shard, [batch for batch in batches if batch.log == shard]
                 )
         except Exception as error:
-            fault = error
+            failure = error
         except asyncio.CancelledError:
-            fault = self._closed()
-        self._over(batches, then, fault, NONE if fault else frozenset(lost))
+            failure = self._closed()
+        self._over(batches, then, failure, NONE if failure else frozenset(lost))
 
     async def _written(self, shard: int, batches: Sequence[Batch]) -> frozenset[int]:
         """Write the batches of a shard, unless it cannot be written."""
         if self._wire is None:
-            raise StoreUnavailable(f"{self._where}: the connection is closed")
+            raise StoreUnavailable(f"{self._store_name}: the connection is closed")
         future: asyncio.Future[
             tuple[frozenset[int], Exception | None]
         ] = asyncio.get_running_loop().create_future()
 
-        def on_answer(lost: frozenset[int], fault: Exception | None) -> None:
+        def on_answer(lost: frozenset[int], failure: Exception | None) -> None:
             if not future.done():
-                future.set_result((lost, fault))
+                future.set_result((lost, failure))
 
         self._write(self._wire, batches, on_answer)
-        lost, fault = await future
-        if fault is None:
+        lost, failure = await future
+        if failure is None:
             return lost
-        if isinstance(fault, OF_ONE):
+        if isinstance(failure, OF_ONE):
             return frozenset({shard})
-        raise self._translated(fault)
+        raise self._translated(failure)
 
-    def _translated(self, fault: Exception) -> Exception:
+    def _translated(self, failure: Exception) -> Exception:
         """Return the error for the coordinator."""
         return (
-            connections.store_unavailable(self._where, fault)
-            if isinstance(fault, connections.CLIENT_ERRORS)
-            else fault
+            connections.store_unavailable(self._store_name, failure)
+            if isinstance(failure, connections.CLIENT_ERRORS)
+            else failure
         )

@@ -16,7 +16,7 @@ from sagas.storage.deliveries import Deliveries
 from sagas.storage.external import (
     OPEN,
     REPORTED_IN_PAIRS,
-    TAKES,
+    REPORT_COUNTS,
     ExternalRequest,
     Heartbeat,
     Claim,
@@ -55,7 +55,7 @@ WHERE attempt = ? AND lease = ? AND {OPEN} AND until IS NOT NULL
 LENGTHEN = "UPDATE external_attempts SET until = ?, given_back = ? WHERE attempt = ?"
 REPORT = f"""
 UPDATE external_attempts SET outcome = :outcome, value = :value, reported = :lease
-WHERE attempt = :attempt AND {TAKES.format(lease=":lease", outcome=":outcome")}
+WHERE attempt = :attempt AND {REPORT_COUNTS.format(lease=":lease", outcome=":outcome")}
 """
 SHARD = "SELECT shard FROM external_attempts WHERE attempt = ?"
 FIND = "SELECT lease, outcome, value, reported FROM external_attempts WHERE attempt = ?"
@@ -113,17 +113,17 @@ def _claimed(
 
     The claims that came first have the attempts that have waited longest.
     """
-    most = sum(claim.most for claim in claims)
+    limit = sum(claim.limit for claim in claims)
     candidates: list[tuple[Any, ...]] = []
     for task in tasks:
-        free = most
+        free = limit
         for (bound,) in db.execute(BOUND, (task,)).fetchall():
             (held,) = db.execute(HELD, (task, now)).fetchone()
-            free = max(0, min(most, bound - held))
+            free = max(0, min(limit, bound - held))
         candidates += db.execute(CLAIMABLE, (task, now, free)).fetchall()
-    rows = iter(sorted(candidates, key=lambda row: row[:2])[:most])
+    rows = iter(sorted(candidates, key=lambda row: row[:2])[:limit])
     return [
-        [_leased(db, claim, row, now) for row in itertools.islice(rows, claim.most)]
+        [_leased(db, claim, row, now) for row in itertools.islice(rows, claim.limit)]
         for claim in claims
     ]
 
@@ -171,9 +171,9 @@ class SqliteExternalAttempts:
         return result[0]
 
     async def claim(
-        self, tasks: Sequence[str], limited: Sequence[str], most: int, seconds: float, worker: str
+        self, tasks: Sequence[str], limited: Sequence[str], limit: int, seconds: float, worker: str
     ) -> list[Claim]:
-        wanted = ClaimRequest((*map(clean, tasks),), max(0, most), seconds, clean(worker))
+        wanted = ClaimRequest((*map(clean, tasks),), max(0, limit), seconds, clean(worker))
         claims: list[Claim] = await self._batcher.ask(wanted)
         return claims
 

@@ -29,7 +29,7 @@ def free(limit: int, want: int, have: Sequence[int]) -> list[int]:
 
 def take(
     connect: Callable[[], sqlite3.Connection],
-    where: str,
+    store_name: str,
     name: str,
     rate: tuple[int, float],
     want: int,
@@ -56,5 +56,5 @@ def take(
             (soon,) = db.execute(SOON, (name, calls, now)).fetchone()
             db.execute("COMMIT")
     except sqlite3.Error as error:
-        raise StoreUnavailable(f"{where}: {error}") from error
+        raise StoreUnavailable(f"{store_name}: {error}") from error
     return len(rows), seconds if soon is None else soon - now

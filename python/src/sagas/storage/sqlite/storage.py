@@ -50,7 +50,7 @@ from sagas.storage.sqlite.store_file import (
 )
 from sagas.storage.sqlite.writer import Writer
 
-LOOK = 0.2  # seconds: there is no notification of another program's commit
+LOOK = 0.2  # seconds: another program's commit sends no notification
 MOST_LOOK = 30.0
 
 
@@ -233,8 +233,8 @@ class Sqlite(queries.Questions, queries.Rows):
                     f"{self.path}: {name} was deleted or replaced while the store was open, so "
                     f"{remedy}"
                 )
-        if self._writer.fault:
-            raise self._writer.fault
+        if self._writer.failure:
+            raise self._writer.failure
 
     def _look_for_lock(self) -> None:
         """Create the lock file again if it was deleted.
@@ -260,9 +260,9 @@ class Sqlite(queries.Questions, queries.Rows):
         The first reason stays. Both threads call this.
         """
         with self._faults:
-            if self._writer.fault:
+            if self._writer.failure:
                 return
-            self._writer.fault = StoreUnavailable(reason)
+            self._writer.failure = StoreUnavailable(reason)
         logger.critical("%s", reason)
 
     async def close(self) -> None:

@@ -32,7 +32,7 @@ RIGHTS = "this user must be able to read and write it, and to write to its folde
 
 
 def connect(path: str, synchronous: str = "FULL") -> sqlite3.Connection:
-    """Return a connection that commits only when it is told to.
+    """Return a connection that commits explicitly.
 
     Only the user of the process may read a file that this creates, or the files that SQLite creates
     for it.
@@ -211,7 +211,7 @@ def is_held(path: str | os.PathLike[str]) -> bool:
 
 
 def file_identity(path: str | int) -> tuple[int, int]:
-    """Return the device and inode of a path or descriptor; zeros if there is no such file."""
+    """Return the device and inode of a path or descriptor; zeros if the file is missing."""
     try:
         status = os.stat(path)
     except OSError:

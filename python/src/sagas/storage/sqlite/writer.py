@@ -105,7 +105,7 @@ class Writer:
         self._over: tuple[
             CommitCallback, Sequence[Batch], BaseException | None, frozenset[int]
         ] | None = None  # a commit of the loop whose `then` is to be called
-        self.fault: Exception | None = None
+        self.failure: Exception | None = None
         """Why nothing is written any more."""
 
     def open(self, db: sqlite3.Connection) -> None:
@@ -126,11 +126,11 @@ class Writer:
         rows = 0
         for batch in batches:
             rows += len(batch.results) + len(batch.opened)
-        fault: Exception | None = None
+        failure: Exception | None = None
         lost = NONE
         try:
-            if self.fault:
-                raise self.fault
+            if self.failure:
+                raise self.failure
             put = self._put_here(batches) if rows <= FEW_ROWS else None
             if put is None or not self._sync_here(put[0], rows):
                 self._pages, self._lent = 0, True
@@ -138,21 +138,21 @@ class Writer:
                 return
             lost = put[1]
         except Exception as error:
-            fault = error
+            failure = error
         except BaseException as error:  # for example Ctrl-C: it is unknown how far it came
             self._over = then, batches, error, NONE
             raise
         if now:
-            then(batches, fault, lost)
+            then(batches, failure, lost)
         else:
-            self._over = then, batches, fault, lost
+            self._over = then, batches, failure, lost
 
     def _put_here(self, batches: Sequence[Batch]) -> PutResult | None:
         """Insert the rows in the loop. Return None if another program is just writing."""
         try:
             return self._put(batches, patient=False)
-        except sqlite3.OperationalError as fault:
-            if fault.sqlite_errorcode & 0xFF == sqlite3.SQLITE_BUSY:
+        except sqlite3.OperationalError as failure:
+            if failure.sqlite_errorcode & 0xFF == sqlite3.SQLITE_BUSY:
                 return None
             raise
 
@@ -176,16 +176,16 @@ class Writer:
     def finish_commit(self) -> None:
         """See `CommitWriter.finish_commit`."""
         if self._over:
-            (then, batches, fault, lost), self._over = self._over, None
-            then(batches, fault, lost)
+            (then, batches, failure, lost), self._over = self._over, None
+            then(batches, failure, lost)
 
     def _work(self) -> None:
         while (job := self._jobs.get()) is not None:
             batches, then, put = job
-            fault, lost = self._try(batches, put)
+            failure, lost = self._try(batches, put)
             self._took *= FORGET
             with contextlib.suppress(RuntimeError):  # the loop is closed
-                self._loop.call_soon_threadsafe(self._done, batches, then, fault, lost)
+                self._loop.call_soon_threadsafe(self._done, batches, then, failure, lost)
 
     def _try(
         self, batches: Sequence[Batch], put: PutResult | None
@@ -198,19 +198,19 @@ class Writer:
         try:
             events, lost = self._put(batches, patient=True) if put is None else put
             self._sync(events, patient=True)
-        except Exception as fault:
-            return fault, NONE
+        except Exception as failure:
+            return failure, NONE
         return None, lost
 
     def _done(
         self,
         batches: Sequence[Batch],
         then: CommitCallback,
-        fault: Exception | None,
+        failure: Exception | None,
         lost: frozenset[int],
     ) -> None:
         self._lent = False
-        then(batches, fault, lost)
+        then(batches, failure, lost)
 
     def reader(self) -> sqlite3.Connection | None:
         """Return the connection, for reads while it is not writing.
@@ -260,7 +260,7 @@ class Writer:
         another outcome.
         """
         settled = batch.rare.settled if batch.rare else ()
-        tokens = [token for token, _, came in settled if came is None]
+        tokens = [token for token, _, outcome in settled if outcome is None]
         is_done = (self._db.execute(statements.DONE, (token,)).fetchone() for token in tokens)
         return any(map(self._has, batch.guessed)) or any(is_done)
 
