@@ -71,8 +71,8 @@ def fetched(
     if not rows:
         raise WrongStore(
             f"{store_name}: it has no shard {order.log}. The message of saga {order.key!r} came "
-            "from another store, or too late: the saga was deleted meanwhile. If no saga was deleted, "
-            "give the worker and the program the same store"
+            "from another store, or too late: the saga was deleted meanwhile. If no saga was "
+            "deleted, give the worker and the program the same store"
         )
     shard, attempt, outcome = rows[0]
     if attempt is None or outcome not in OPEN:

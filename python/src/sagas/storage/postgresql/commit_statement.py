@@ -404,7 +404,7 @@ class Commit:
         )
         self._put("cancelled", [*cancelled])
 
-    def parameters(self, node: bytes) -> tuple[str, list[bytes | None]]:
+    def bind(self, node: bytes) -> tuple[str, list[bytes | None]]:
         """Return the statement and its parameters."""
         parts, alone = tuple(sorted(self.parts)), len(self.epochs) == 1
         mine: list[bytes | None]

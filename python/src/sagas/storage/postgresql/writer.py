@@ -158,7 +158,7 @@ class Writer:
     def _write(self, wire: Wire, batches: Sequence[Batch], on_answer: AnswerCallback) -> None:
         try:
             commit = Commit(batches, lambda shard: self.events.get(shard, 0), self.tails)
-            text, parameters = commit.parameters(self._node)
+            text, parameters = commit.bind(self._node)
         except Exception as error:  # the coordinator gets it, and loads its shards again
             asyncio.get_running_loop().call_soon(on_answer, NONE, error)
         else:
