@@ -1,4 +1,4 @@
-"""Statements that add requests of operators to the store, and the errors of their answers.
+"""Statements that add requests of operators, and the errors of their answers.
 
 The program that drives a saga executes the requests for it.
 """
