@@ -28,8 +28,9 @@ from sagas.storage.postgresql.prepared import array
 
 MOVED = """
 moved AS (INSERT INTO operator_commands(id, key, command, value, at, saga) OVERRIDING SYSTEM VALUE
-  SELECT (one ->> 0)::bigint, key, one ->> 1, one ->> 2, (one ->> 3)::double precision, saga
-  FROM begun_, jsonb_array_elements(commands) one WHERE saga IS NOT NULL RETURNING id)"""
+  SELECT (request ->> 0)::bigint, key, request ->> 1, request ->> 2,
+    (request ->> 3)::double precision, saga
+  FROM begun_, jsonb_array_elements(commands) request WHERE saga IS NOT NULL RETURNING id)"""
 """Moves the requests for a start to its saga.
 
 It uses the row that is deleted, in its last version. A part of the statement that looked for rows
@@ -136,7 +137,7 @@ def _attempts(rare: Rare, part: str) -> Sequence[Sequence[Any]]:
     if part not in EXTERNAL:
         return ()
     if part == "withdrawn":
-        return [(one.attempt, one.shard) for one in rare.withdrawn]
+        return [(withdrawal.attempt, withdrawal.shard) for withdrawal in rare.withdrawn]
     rows: Sequence[Sequence[Any]] = getattr(rare, part)
     return rows
 
@@ -189,7 +190,7 @@ PLAIN: dict[str, Callable[[int, Rare], Iterable[Any]]] = {
     "spans": lambda shard, rare: [(*row[:5], clean(row[5])) for row in rare.spans],
     "answers": lambda shard, rare: [(shard, *answer) for answer in rare.answers],
     "asked": lambda shard, rare: [(shard, *row, answer) for row, answer in rare.asked],
-    "begun": lambda shard, rare: [(shard, *one) for one in rare.begun],
+    "begun": lambda shard, rare: [(shard, *row) for row in rare.begun],
     "notes": lambda shard, rare: [(clean(note), id) for note, id in rare.notes],
     "undone": lambda shard, rare: rare.undone,
     "closed": lambda shard, rare: [(shard, *rare.closed)] if rare.closed else [],
@@ -234,8 +235,8 @@ class Commit:
         attempts = set(json.loads(withdrawn or "[]"))
         for _, rare in self.rare:
             if "withdrawn" in rare.parts:
-                for one in rare.withdrawn:
-                    one.is_done = one.attempt in attempts
+                for withdrawal in rare.withdrawn:
+                    withdrawal.is_done = withdrawal.attempt in attempts
 
     @property
     def ended(self) -> list[int]:
@@ -337,8 +338,8 @@ class Commit:
                     for number, row in held.get(attempt_key, {}).items()
                     if number > attempt
                 }
-        some = [rare.undone for _, rare in self.rare if "undone" in rare.parts]
-        undone = {(*one, "run") for of in some for one in of}
+        undone_rows = [rare.undone for _, rare in self.rare if "undone" in rare.parts]
+        undone = {(*row, "run") for rows in undone_rows for row in rows}
         for attempt_key in (
             undone & held.keys()
         ):  # the part `undone` does not see rows of this commit
@@ -374,8 +375,8 @@ class Commit:
     def _definitions(self) -> None:
         born = {batch.log: batch.born for batch in self.batches if batch.born}
         self._put("born", [(shard, name) for shard, (name, _) in born.items()])
-        defined = {(shard, *one) for shard, (_, of) in born.items() for one in of}
-        defined |= {(shard, *one) for shard, rare in self.rare for one in rare.defined}
+        defined = {(shard, *row) for shard, (_, rows) in born.items() for row in rows}
+        defined |= {(shard, *row) for shard, rare in self.rare for row in rare.defined}
         # in order, so that two commits with the same definitions cannot deadlock
         self._put("definitions", sorted({row[2:] for row in defined}))
         self._put("defined", sorted({row[:3] for row in defined}))

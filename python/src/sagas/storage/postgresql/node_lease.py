@@ -219,38 +219,38 @@ class Lease:
         """
         started = now()
         self._turn += 1
-        own = self._turn % max(1, len(mine) // OWN) == 0
-        before = self._passed()
+        includes_own = self._turn % max(1, len(mine) // OWN) == 0
+        excluded = self._passed()
         parameters = {
-            "own": own,
+            "own": includes_own,
             "node": self.node,
             "name": self.name,
             "version": self.version,
             "kinds": self._kinds,
             "lease": self.seconds,
-            "left": before,
+            "left": excluded,
             "mine": mine,
             "encodes": self.encodes,
         }
         rows = await self._asker.ask(RENEW_OR_ENTER + LOOK, enters=self._enters, **parameters)
-        ((line, is_there, orphans, asks, left),) = rows
+        ((timeline, has_row, has_orphans, has_requests, left),) = rows
         self._look_at_left(left)
-        self._enters = not is_there
-        if not is_there:
+        self._enters = not has_row
+        if not has_row:
             self._until = started
             await self._look_for_codec()
-            return False, False, False, line
-        lapsed = self._until > 0 and not (self.holds() and self.fresh)
+            return False, False, False, timeline
+        has_expired = self._until > 0 and not (self.holds() and self.fresh)
         self._until, self.fresh = started + self.seconds, True
-        return lapsed, orphans, asks, line
+        return has_expired, has_orphans, has_requests, timeline
 
     async def renew(self) -> None:
         """Renew the lease only. The next heartbeat returns what happened since the last one."""
         started, _ = now(), self.holds()
-        is_there = await self._asker.ask(
+        has_row = await self._asker.ask(
             RENEW, node=self.node, lease=self.seconds, encodes=self.encodes
         )
-        self._until = started + self.seconds if is_there else started
+        self._until = started + self.seconds if has_row else started
 
     def _passed(self) -> list[int]:
         """Return the shards that this node does not take now."""
@@ -309,10 +309,10 @@ class Lease:
         """
         await self._asker.ask(GONE, node=self.node, name=self.name)
         await codec_note.agree(self._asker, self.encodes)
-        line = (await self.beat([]))[3]
+        timeline = (await self.beat([]))[3]
         if self._enters:
             await codec_note.agree(self._asker, self.encodes)
-        return line
+        return timeline
 
     async def _look_for_codec(self) -> None:
         """Log why this node has no lease, if the store's values are encoded now."""
@@ -360,7 +360,7 @@ class Lease:
         rows = await self._asker.read(COMPLETED, shards=[*shards])
         if not rows:
             return {}
-        digests = [*{digest for _, _, one, _, other in rows for digest in (one, other)}]
+        digests = [*{digest for _, _, parent, _, child in rows for digest in (parent, child)}]
         return undo_check.by_shard(rows, await self._asker.read(TEXTS_OF, digests=digests))
 
     async def _has(self, check_functions: FunctionCheck, taken: list[int]) -> list[LogRow]:

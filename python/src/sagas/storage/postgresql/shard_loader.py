@@ -154,14 +154,14 @@ class ShardLoader:
         # locked shards are loaded one by one: each may need a connection for a long time
         self._one = asyncio.Lock()
 
-    async def take_up(self, shard: int, epoch: int, line: str) -> EventLog | None:
+    async def take_up(self, shard: int, epoch: int, timeline: str) -> EventLog | None:
         """See `Database.take_up`. The server has this timeline."""
         rows = await self._asker.read(WAKE, shard=shard, node=self._node, epoch=epoch)
         if not rows[0][0]:
             return None
         read = EventLog.of([(first, at, text) for _, first, at, text in rows if first is not None])
         if self._record:
-            self._record.read((shard, epoch, line), read.events, read.text)
+            self._record.read((shard, epoch, timeline), read.events, read.text)
         return read
 
     async def load(self, shard: int, epoch: int, born: Born | None) -> Loaded | None:
@@ -229,7 +229,7 @@ class ShardLoader:
             epochs: dict[int, int] = {shard: epoch for shard, epoch in await cursor.fetchall()}
             cursor.nextset()
             while row := await cursor.fetchone():
-                shard, is_mine, text, opened, sagas, defined, tail, line = row
+                shard, is_mine, text, opened, sagas, defined, tail, timeline = row
                 requests, waiting = [request for request in waiting if request.shard == shard], [
                     request for request in waiting if request.shard != shard
                 ]
@@ -239,7 +239,7 @@ class ShardLoader:
                 loaded = None
                 if shard in epochs:
                     loaded = _loaded(text or "", opened, json.loads(sagas or "[]"))
-                    loaded.epoch, loaded.line = epochs[shard], line
+                    loaded.epoch, loaded.line = epochs[shard], timeline
                     loaded.definitions = defined
                     if tail is not None:
                         first, at, lines = json.loads(tail)

@@ -33,7 +33,7 @@ PARAMETERS = {
     "shard": "bigint",
     "node": "text",
     "epoch": "bigint",
-    "line": "text",
+    "timeline": "text",
     "first_seq": "integer",
     "committed_at": "double precision",
     "value": "text",
@@ -42,7 +42,7 @@ TABLE = "sagas", "attempts"
 """The schema and the name of the table that a record is written to."""
 RECORD = f"""INSERT INTO {'.'.join(TABLE)} VALUES ({{id}}, {{step}}, {{action}}, {{attempt}},
   (SELECT 'ok' FROM sagas.shards WHERE shard = {{shard}} AND owner = {{node}}
-    AND epoch = {{epoch}} AND {connections.TIMELINE} = {{line}}
+    AND epoch = {{epoch}} AND {connections.TIMELINE} = {{timeline}}
     AND EXISTS (SELECT 1 FROM sagas.event_log WHERE shard = {{shard}}
       AND first_seq = {{first_seq}} AND committed_at = {{committed_at}}) FOR SHARE),
   {{value}}, extract(epoch FROM clock_timestamp()))"""
@@ -76,7 +76,7 @@ class Fence(NamedTuple):
     shard: int
     node: str
     epoch: int
-    line: str
+    timeline: str
     tail: Tail
 
 
@@ -92,7 +92,7 @@ def _literal(connection: Any, text: str) -> str:
 def record_and_commit(connection: Any, row: Sequence[Any], fence: Fence, value: str) -> str:
     """Return the record of a result, which locks the shard's row, and the commit."""
     id, step, action, attempt = row
-    shard, node, epoch, line, (first_seq, committed_at) = fence
+    shard, node, epoch, timeline, (first_seq, committed_at) = fence
     parameters = [
         str(id),
         str(step),
@@ -101,7 +101,7 @@ def record_and_commit(connection: Any, row: Sequence[Any], fence: Fence, value: 
         str(shard),
         _literal(connection, node),
         str(epoch),
-        f"'{line}'",
+        f"'{timeline}'",
         str(first_seq),
         f"'{committed_at!r}'",
         _literal(connection, value),

@@ -280,20 +280,22 @@ class PostgreSQL(queries.Questions):
         if self._watcher is None:  # the node is opening, which may take longer than a lease
             await self.lease.renew()
             return
-        lapsed, orphans, asks, line = await self.lease.beat(self._watcher.logs())
-        self._check_age(line)
-        if not self._is_known(line):
+        has_expired, has_orphans, has_requests, timeline = await self.lease.beat(
+            self._watcher.logs()
+        )
+        self._check_age(timeline)
+        if not self._is_known(timeline):
             self._writer.cut()
-        elif lapsed:
+        elif has_expired:
             self._watcher.lease_expired()
-        if orphans and not self._closing:
+        if has_orphans and not self._closing:
             rows = await self.lease.take(self._check_functions, self._watcher.logs())
             if rows is not None:  # the next heartbeat takes the next batch
                 for row in rows:
                     self._writer.forget(row.log)
                 self._watcher.taken(rows)
                 self._turn.set()
-        if asks:
+        if has_requests:
             self._watcher.look()
         if shards := self.lease.undriven():
             self._spawn(self._warn(shards))
@@ -322,37 +324,37 @@ class PostgreSQL(queries.Questions):
             self._spawn(self._choose_host())
 
     async def _choose_host(self) -> None:
-        line = await self.url.choose(connections.address(self.url))
-        if line is not None and line > self._timeline and not self._closing:
-            self._is_known(line, cuts=True)
+        timeline = await self.url.choose(connections.address(self.url))
+        if timeline is not None and timeline > self._timeline and not self._closing:
+            self._is_known(timeline, cuts=True)
             self._writer.cut()
             if self._announcer:  # the former server would send nothing more
                 self._announcer.notifications.listener.cut()
 
-    def _check_age(self, line: str) -> None:
+    def _check_age(self, timeline: str) -> None:
         """Check that the server was not replaced by another one of the URL.
 
         Raises `StoreUnavailable` otherwise.
         """
-        if self.url.are_several and line < self._timeline:
+        if self.url.are_several and timeline < self._timeline:
             raise StoreUnavailable(
-                f"{self.path}: a server of timeline {line} answers, which one of timeline "
+                f"{self.path}: a server of timeline {timeline} answers, which one of timeline "
                 f"{self._timeline} has replaced. Stop the former; or start this node again, if the "
                 "store was restored there"
             )
 
-    def _is_known(self, line: str, cuts: bool = False) -> bool:
+    def _is_known(self, timeline: str, cuts: bool = False) -> bool:
         """Whether this is the same server as before.
 
         Another one may lack commits. Then each shard is loaded again before anything is written.
         `cuts`: queries to the former server will have no reply.
         """
-        if line == self._timeline:
+        if timeline == self._timeline:
             return True
         logger.warning("%s: another server has taken over. Opening its shards again", self.path)
-        self._timeline = line
+        self._timeline = timeline
         if self.record:
-            self.record.moved(line)
+            self.record.moved(timeline)
         self._begin_again(cuts)
         return False
 
@@ -372,8 +374,8 @@ class PostgreSQL(queries.Questions):
         if self._watcher:
             self._watcher.lease_expired(is_older=True)
 
-    def _check_line(self, line: str) -> None:
-        if line != self._timeline:
+    def _check_line(self, timeline: str) -> None:
+        if timeline != self._timeline:
             raise StoreUnavailable(f"{self.path}: another server has taken over")
 
     # -- writing
@@ -422,9 +424,9 @@ class PostgreSQL(queries.Questions):
         """Do nothing: `then` is called as soon as the server's reply arrives."""
 
     async def _check_server(self, connection: connections.Link) -> None:
-        line = await connections.timeline_of(connection)
-        self._check_age(line)
-        if not self._is_known(line):
+        timeline = await connections.timeline_of(connection)
+        self._check_age(timeline)
+        if not self._is_known(timeline):
             reason = "another server has taken over, and its data is read first"
             raise StoreUnavailable(f"{self.path}: {reason}")
 
@@ -454,10 +456,10 @@ class PostgreSQL(queries.Questions):
 
         Return None if another node owns it, or it is gone.
         """
-        line = self._timeline
+        timeline = self._timeline
         loaded = await self._loads.load(shard, epoch, born)
         self._check_line(
-            loaded.line if loaded else line
+            loaded.line if loaded else timeline
         )  # its connection may be to a former server
         await self._continuity.compare(shard, loaded.events if loaded else None)
         if loaded:
@@ -477,15 +479,17 @@ class PostgreSQL(queries.Questions):
 
         Return None if this node does not own it any more.
         """
-        line = self._timeline
-        read = await self._loads.take_up(shard, epoch, line)
-        if read is None:
+        timeline = self._timeline
+        event_log = await self._loads.take_up(shard, epoch, timeline)
+        if event_log is None:
             return None
-        self._check_line(line)
-        if self._continuity.lacks(shard, read.events) or queries.damage_of(read.text, read.events):
+        self._check_line(timeline)
+        if self._continuity.lacks(shard, event_log.events) or queries.damage_of(
+            event_log.text, event_log.events
+        ):
             return None  # the shard is loaded as after a failure
-        self._writer.reached(shard, read.events, read.tail)
-        return read.text, read.events
+        self._writer.reached(shard, event_log.events, event_log.tail)
+        return event_log.text, event_log.events
 
     async def requests(self, after: int, limit: int) -> list[Request]:
         """Return unanswered requests of this node's shards."""
