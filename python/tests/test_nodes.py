@@ -1089,7 +1089,7 @@ def test_who_looks_for_a_key_hears_that_the_store_is_closed(
             async with sagas.open(place, [kind]) as store:
                 keys = store._inside.store._keys  # type: ignore[attr-defined]
                 relay.cut()
-                await until(lambda: not keys._link.is_open)
+                await until(lambda: not keys._connection.is_open)
                 relay._loop.call_soon_threadsafe(silent.wait)
                 asked = [asyncio.create_task(store.get("k"))]
                 await until(lambda: keys.pending_lookups == 1)
@@ -1161,7 +1161,7 @@ def test_a_node_is_gone_in_the_middle_of_a_claim(
                         await until(
                             lambda: link.execute("SELECT 1 FROM sagas.external_attempts").fetchall()
                         )
-                    relay.still = b"found AS MATERIALIZED"  # behind the lock
+                    relay.still = b"candidates AS MATERIALIZED"  # behind the lock
                     claiming = asyncio.create_task(claimed(gone))
                     await until(relay.stands.is_set)
                     await until(lambda: claimed(store), 15)
