@@ -55,7 +55,7 @@ async def savepoint(connection: psycopg.AsyncConnection[Any]) -> AsyncIterator[N
     """
     if not _is_ready(connection):
         await psycopg.AsyncCursor(connection).execute(BEGIN)
-    with replication.heeded(connection):
+    with replication.warnings_raised(connection):
         async with connection.transaction():
             yield
 
@@ -65,7 +65,7 @@ def savepoint_now(connection: psycopg.Connection[Any]) -> Iterator[None]:
     """See `savepoint`, for a connection of a thread."""
     if not _is_ready(connection):
         psycopg.Cursor(connection).execute(BEGIN)
-    with replication.heeded(connection), connection.transaction():
+    with replication.warnings_raised(connection), connection.transaction():
         yield
 
 

@@ -211,7 +211,7 @@ class Commit:
         tails: The last chunk before the commit, of each shard that has one.
         parts: The rows of each part that has any.
         rare: What most batches do not have, with the shard.
-        has_moved: Whether requests moved from starts to sagas, once the reply is there.
+        has_moved: Whether requests moved from starts to sagas. The reply sets it.
     """
 
     def __init__(

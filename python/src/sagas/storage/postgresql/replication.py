@@ -79,7 +79,10 @@ Connection = Union[StoreConnection, PlainStoreConnection]
 
 
 def _watch(connection: Connection) -> None:
-    """Note the warning. psycopg keeps the handler, so the handler does not keep the connection."""
+    """Note the warning.
+
+    psycopg keeps the handler, so the handler does not keep the connection.
+    """
     reference = weakref.ref(connection)
 
     def note(notice: errors.Diagnostic) -> None:
@@ -98,8 +101,13 @@ def check(connection: Connection) -> None:
 
 
 @contextlib.contextmanager
-def heeded(connection: psycopg.AsyncConnection[Any] | psycopg.Connection[Any]) -> Iterator[None]:
-    """Raise `NotReplicated` if a commit of the block was warned of, on a caller's connection."""
+def warnings_raised(
+    connection: psycopg.AsyncConnection[Any] | psycopg.Connection[Any],
+) -> Iterator[None]:
+    """Raise `NotReplicated` if the server warns of a commit of the block.
+
+    The connection is one of the caller.
+    """
     warned = False
 
     def note(notice: errors.Diagnostic) -> None:
@@ -118,7 +126,7 @@ def heeded(connection: psycopg.AsyncConnection[Any] | psycopg.Connection[Any]) -
 def shut(connection: StoreConnection) -> None:
     """Shut the socket down, so that psycopg notices it.
 
-    Until then no other file has its descriptor.
+    Its descriptor is not closed, so that no other file gets it before.
     """
     with contextlib.suppress(OSError, psycopg.Error):
         with socket.socket(fileno=os.dup(connection.pgconn.socket)) as end:

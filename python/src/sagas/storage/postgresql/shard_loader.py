@@ -152,7 +152,7 @@ class ShardLoader:
         self._wanted: list[LoadRequest] = []
         self._is_loading = False
         # locked shards are loaded one by one: each may need a connection for a long time
-        self._one = asyncio.Lock()
+        self._loading_alone = asyncio.Lock()
 
     async def take_up(self, shard: int, epoch: int, timeline: str) -> EventLog | None:
         """See `Database.take_up`. The server has this timeline."""
@@ -207,7 +207,7 @@ class ShardLoader:
 
     async def _load_alone(self, request: LoadRequest) -> None:
         try:
-            async with self._one:
+            async with self._loading_alone:
                 loaded = await self._alone(request)
         except Exception as failure:
             request.resolve(None, failure)

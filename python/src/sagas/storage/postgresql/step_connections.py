@@ -337,7 +337,7 @@ class StepLink(psycopg.Connection[Row]):
 To = TypeVar("To", AsyncStepLink, StepLink)
 
 
-def turned(connection: AsyncStepLink | StepLink, kind: type[To]) -> To:
+def converted(connection: AsyncStepLink | StepLink, kind: type[To]) -> To:
     """Return an idle connection as an object for functions of this kind.
 
     The former object is of no use any more.

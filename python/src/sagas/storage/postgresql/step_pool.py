@@ -22,7 +22,7 @@ from psycopg import errors, pq
 from psycopg.rows import tuple_row
 
 from sagas.storage.postgresql import connections
-from sagas.storage.postgresql.step_connections import AsyncStepLink, StepLink, is_as_made, turned
+from sagas.storage.postgresql.step_connections import AsyncStepLink, StepLink, converted, is_as_made
 from sagas.storage.postgresql.step_protocol import Prepares
 
 L = TypeVar("L", AsyncStepLink, StepLink)
@@ -42,10 +42,10 @@ def is_good(connection: AsyncStepLink | StepLink) -> bool:
 
 
 class Pool:
-    """The connections for all functions of a node: in the loop, and in threads with a `Loan`.
+    """The connections of a node's functions in the loop, and in threads with a `Loan`.
 
     A connection is made while a caller waits and there are fewer than `max_size`: one at a time. An
-    idle connection is for either kind of function: it is turned into the other kind of object.
+    idle connection is for either kind of function: it is converted into the other kind of object.
 
     A function in the loop that may want a connection reserves one. It stays idle until it is
     wanted. The loop watches idle connections, so that one that breaks is dropped before a caller
@@ -58,8 +58,8 @@ class Pool:
         self._idle: list[tuple[AsyncStepLink, float]] = []  # with the time; the newest is last
         self._idle_for_threads: list[tuple[StepLink, float]] = []
         self._waiting: deque[asyncio.Future[AsyncStepLink | StepLink]] = deque()
-        self._grows: asyncio.Task[None] | None = None
-        self._fault: Exception | None = None
+        self._connecting: asyncio.Task[None] | None = None
+        self._failure: Exception | None = None
         self._drops: set[asyncio.Task[None]] = set()
         self._is_over = False
 
@@ -114,7 +114,7 @@ class Pool:
     def _next_idle(self) -> AsyncStepLink | None:
         connection = self._last(self._idle)
         if connection is None and (plain := self._last(self._idle_for_threads)) is not None:
-            connection = turned(plain, AsyncStepLink)
+            connection = converted(plain, AsyncStepLink)
         return connection
 
     def _next_idle_for_thread(self) -> StepLink | None:
@@ -122,7 +122,7 @@ class Pool:
             return None
         plain = self._last(self._idle_for_threads)
         if plain is None and (connection := self._last(self._idle)) is not None:
-            plain = turned(connection, StepLink)
+            plain = converted(connection, StepLink)
         return plain
 
     def _last(self, idle: list[tuple[L, float]]) -> L | None:
@@ -159,11 +159,11 @@ class Pool:
         Raises:
             psycopg.OperationalError: It takes too long.
         """
-        return self.try_acquire() or turned(await self._next(), AsyncStepLink)
+        return self.try_acquire() or converted(await self._next(), AsyncStepLink)
 
     async def lend(self) -> Loan:
         """As `acquire`, for a function in a thread."""
-        return Loan(self, self._next_idle_for_thread() or turned(await self._next(), StepLink))
+        return Loan(self, self._next_idle_for_thread() or converted(await self._next(), StepLink))
 
     async def _next(self) -> AsyncStepLink | StepLink:
         """Return the next connection that is made or released."""
@@ -183,7 +183,7 @@ class Pool:
             if future.done() and not future.cancelled() and not future.exception():
                 self.release(future.result())
             if isinstance(error, TimeoutError):
-                raise errors.OperationalError(NONE_FREE) from self._fault
+                raise errors.OperationalError(NONE_FREE) from self._failure
             raise
 
     def release(self, connection: AsyncStepLink | StepLink) -> None:
@@ -221,9 +221,14 @@ class Pool:
         self._grow()
 
     def _grow(self) -> None:
-        if self._waiting and self._count < self._most and self._grows is None and not self._is_over:
+        if (
+            self._waiting
+            and self._count < self._most
+            and self._connecting is None
+            and not self._is_over
+        ):
             self._count += 1
-            self._grows = asyncio.get_running_loop().create_task(self._connect())
+            self._connecting = asyncio.get_running_loop().create_task(self._connect())
 
     async def _connect(self) -> None:
         connection: AsyncStepLink | None = None
@@ -237,11 +242,11 @@ class Pool:
                         await made.prepare(self._prepares)
                     connection = made
                 except connections.CLIENT_ERRORS as error:
-                    self._fault = error
+                    self._failure = error
                     await asyncio.sleep(pause)
                     pause = min(AGAIN[1], 2 * pause)
         finally:
-            self._grows = None
+            self._connecting = None
             if connection is None:
                 self._count -= 1
         if connection is not None:
@@ -251,9 +256,9 @@ class Pool:
     async def close(self) -> None:
         """Close all connections. Callers that wait get an error."""
         self._is_over = True
-        if self._grows:
-            self._grows.cancel()
-            await asyncio.wait([self._grows])
+        if self._connecting:
+            self._connecting.cancel()
+            await asyncio.wait([self._connecting])
         while self._waiting:
             future = self._waiting.popleft()
             if not future.done():

@@ -94,7 +94,7 @@ class PostgreSQL(queries.Questions):
         self._sagas = list(sagas)
         self.external: ExternalAttempts = PostgreSQLExternalAttempts(url, self.asker)
         record_file = RecordFile.of(record, self.lease.node)
-        self._loads = ShardLoader(self.asker, self.lease.node, self._spawn, record_file)
+        self._loader = ShardLoader(self.asker, self.lease.node, self._spawn, record_file)
         self._timeline = ""
         self._writer = Writer(
             url,
@@ -457,7 +457,7 @@ class PostgreSQL(queries.Questions):
         Return None if another node owns it, or it is gone.
         """
         timeline = self._timeline
-        loaded = await self._loads.load(shard, epoch, born)
+        loaded = await self._loader.load(shard, epoch, born)
         self._check_line(
             loaded.line if loaded else timeline
         )  # its connection may be to a former server
@@ -480,7 +480,7 @@ class PostgreSQL(queries.Questions):
         Return None if this node does not own it any more.
         """
         timeline = self._timeline
-        event_log = await self._loads.take_up(shard, epoch, timeline)
+        event_log = await self._loader.take_up(shard, epoch, timeline)
         if event_log is None:
             return None
         self._check_line(timeline)
