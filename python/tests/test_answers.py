@@ -12,12 +12,14 @@ from sagas.storage import operator_requests
 def test_an_answer_that_names_no_error_of_this_release(name: str) -> None:
     """It is an error all the same: what answers may be of another release."""
     with pytest.raises(sagas.SagasError) as raised:
-        operator_requests.told({"error": f"{name}: why" if name else "why"})
+        operator_requests.checked_answer({"error": f"{name}: why" if name else "why"})
     assert type(raised.value) is sagas.SagasError and str(raised.value)
 
 
 def test_an_answer_that_names_an_error() -> None:
     """It is raised, with why; whatever else is answered is given."""
     with pytest.raises(sagas.StepNotWaiting, match="^it is over: it is done$"):
-        operator_requests.told({"error": "StepNotWaiting: it is over: it is done"})
-    assert operator_requests.told(True) is True and operator_requests.told({"a": 1}) == {"a": 1}
+        operator_requests.checked_answer({"error": "StepNotWaiting: it is over: it is done"})
+    assert operator_requests.checked_answer(True) is True and operator_requests.checked_answer(
+        {"a": 1}
+    ) == {"a": 1}

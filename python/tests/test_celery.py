@@ -23,7 +23,7 @@ from sagas.core.outcomes import SUCCEEDED, Outcome, failure, unknown
 from sagas.core.dispatch import Order
 from sagas.core.states import AttemptState
 from sagas.runtime.remote_steps import MAX_CARRIED
-from sagas.storage.worker_session import desk_of
+from sagas.storage.worker_session import open_worker_session
 
 T = TypeVar("T")
 
@@ -478,7 +478,7 @@ async def _equal(shop: Shop, place: str) -> None:
 
     shop.queue.send = held  # type: ignore[method-assign]
     shop.slow.steps[0].run.timeout = 60.0
-    desk = desk_of(place)
+    desk = open_worker_session(place)
     async with shop.open(concurrency=1, shutdown_timeout=0) as store:
         going = await store.start(shop.slow, "k")
         await until(lambda: orders, 60)
@@ -524,7 +524,7 @@ async def _equal(shop: Shop, place: str) -> None:
 def test_a_file_that_is_not_there(tmp_path: pathlib.Path) -> None:
     """A worker makes no store."""
     with pytest.raises(sagas.WrongStore, match="does not exist"):
-        desk_of(str(tmp_path / "none.db")).begin(order("0" * 16))
+        open_worker_session(str(tmp_path / "none.db")).begin(order("0" * 16))
     assert not (tmp_path / "none.db").exists()
 
 
@@ -552,7 +552,7 @@ def test_reports_go_with_their_log(shop: Shop, tmp_path: pathlib.Path) -> None:
                 await ended(store, more, "m")
 
     shop.queue.send = answered  # type: ignore[method-assign]
-    desk = desk_of(path)
+    desk = open_worker_session(path)
     run(first())
     run(other())
     with sqlite3.connect(path) as db:

@@ -28,7 +28,7 @@ from sagas.core import outcomes
 from sagas.core.outcomes import Outcome
 from sagas.core.dispatch import Order
 from sagas.runtime import retention
-from sagas.storage.worker_session import desk_of
+from sagas.storage.worker_session import open_worker_session
 from sagas.storage.postgresql import worker_session
 
 
@@ -80,7 +80,7 @@ def late(broker: Broker, place: str, monkeypatch: pytest.MonkeyPatch) -> Late:
     """Over both databases; the program hears of no report by itself."""
     monkeypatch.setattr("sagas.runtime.external_queue.LOOK", 3600.0)
     monkeypatch.setattr("sagas.runtime.external_queue.LOOK_AT_FILE", 3600.0)
-    monkeypatch.setattr("sagas.storage.postgresql.worker_session.TELL", "SELECT 1")
+    monkeypatch.setattr("sagas.storage.postgresql.worker_session.NOTIFY_REPORTED", "SELECT 1")
     return Late(broker, place)
 
 
@@ -90,7 +90,7 @@ def test_done_was_reported_before(late: Late, by: str, capsys: pytest.CaptureFix
 
     async def main() -> None:
         async with late.held() as store:
-            desk_of(late.place).report(
+            open_worker_session(late.place).report(
                 late.orders[0], Outcome(outcomes.SUCCEEDED, '"by the worker"')
             )
             if by == "program":
@@ -114,7 +114,7 @@ def test_a_failure_that_was_reported_before(late: Late) -> None:
     async def main() -> None:
         async with late.held() as store:
             report = Outcome(outcomes.FAILED, '{"error": "no", "final": false, "called": true}')
-            desk_of(late.place).report(late.orders[0], report)
+            open_worker_session(late.place).report(late.orders[0], report)
             await store.complete("k", "once", "by hand")
             assert (await store.wait("k", 60)).results == {"once": "by hand"}
 
@@ -180,7 +180,9 @@ def test_a_program_that_comes_back_takes_a_report(late: Late) -> None:
     async def main() -> None:
         async with late.held():
             pass
-        desk_of(late.place).report(late.orders[0], Outcome(outcomes.SUCCEEDED, '"by the worker"'))
+        open_worker_session(late.place).report(
+            late.orders[0], Outcome(outcomes.SUCCEEDED, '"by the worker"')
+        )
         async with sagas.open(late.place, [late.saga]) as store:
             assert (await store.wait("k", 60)).results == {"once": "by the worker"}
 
@@ -235,7 +237,7 @@ def test_a_message_that_comes_after_its_saga_was_deleted(late: Late) -> None:
     run(main())
     assert retention.prune(late.place, -3600.0).sagas == 1
     with pytest.raises(sagas.WrongStore, match="saga 'k' .* late: the saga was deleted"):
-        desk_of(late.place).begin(late.orders[0])
+        open_worker_session(late.place).begin(late.orders[0])
 
 
 class Here:
@@ -369,4 +371,4 @@ def test_a_soft_time_limit_while_the_store_is_away(
     here.task(message)
     monkeypatch.undo()
     assert calls == ["k"]
-    assert desk_of(path).begin(here.orders[0]) is None  # it is reported
+    assert open_worker_session(path).begin(here.orders[0]) is None  # it is reported

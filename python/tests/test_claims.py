@@ -23,7 +23,7 @@ from sagas.server.problems import Problem
 from sagas.server.routes import task_claims
 from sagas.server.settings import PlaceSettings
 from sagas.server.waiting_claims import WaitingClaims
-from sagas.storage.lots import Lots
+from sagas.storage.lots import Batcher
 
 WORD = [("far", "a", "run")]
 
@@ -51,7 +51,7 @@ class Table:
         self.may = asyncio.Event()
         self.fault: Exception | None = None
         self.then: Callable[[], object] = lambda: None
-        self.lots: Lots[str, str] = Lots(self.ask, 4, self.drop, self.group)
+        self.lots: Batcher[str, str] = Batcher(self.ask, 4, self.drop, self.group)
 
     def drop(self, what: str, answer: str) -> None:
         self.dropped.append((what, answer))

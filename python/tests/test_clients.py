@@ -673,13 +673,13 @@ def test_closing_ends_the_waits_of_other_threads(
     url: str, is_client: bool, monkeypatch: pytest.MonkeyPatch
 ) -> None:
     """The saga is nobody's here: those that wait for it hear at once that it is closed."""
-    entered, whole = threading.Semaphore(0), notifications.News.wait
+    entered, whole = threading.Semaphore(0), notifications.Notifications.wait
 
     async def entering(*words: Any) -> None:
         entered.release()
         await whole(*words)
 
-    monkeypatch.setattr(notifications.News, "wait", entering)
+    monkeypatch.setattr(notifications.Notifications, "wait", entering)
     kind, other = shop(), sagas.Saga("other")
     other.step(lambda task: None, name="a")
     made(url, kind)
@@ -859,7 +859,7 @@ def test_a_start_whose_key_has_a_saga_goes_away(
     assert told.count("commit_failed") == 1
 
 
-@pytest.mark.parametrize("where", ["starts", "find", "new_log"])
+@pytest.mark.parametrize("where", ["starts", "find", "new_shard"])
 def test_a_start_that_fails_at_first_is_taken_again(
     url: str, where: str, monkeypatch: pytest.MonkeyPatch
 ) -> None:
@@ -888,7 +888,7 @@ def test_a_start_that_fails_at_first_is_taken_again(
                     raise sagas.StoreUnavailable("none at hand")
                 return right()
 
-            monkeypatch.setattr(database, where, now if where == "new_log" else later)
+            monkeypatch.setattr(database, where, now if where == "new_shard" else later)
             run = await client.start(kind, "k", 1)
             assert (await asyncio.wait_for(run.wait(), 60)).ok and left <= 0 and inbox(url) == 0
 

@@ -154,7 +154,7 @@ def test_two_programs_open_one_store(tmp_path: pathlib.Path, is_link: bool) -> N
         with pytest.raises(sagas.StoreLocked, match=rf"another program \(process {process.pid}\)"):
             async with sagas.open(path, [saga]):
                 pass
-        with contextlib.closing(admin.File(str(path), "ro")) as file:
+        with contextlib.closing(admin.FileSource(str(path), "ro")) as file:
             assert file.is_driven()
         process.kill()
         process.wait()
@@ -200,7 +200,7 @@ def test_a_look_is_no_program(tmp_path: pathlib.Path, monkeypatch: pytest.Monkey
             await ended(store, saga)
         look = os.open(tmp_path / "store.db.lock", os.O_RDONLY)
         fcntl.flock(look, fcntl.LOCK_SH)
-        with contextlib.closing(admin.File(str(tmp_path / "store.db"), "ro")) as file:
+        with contextlib.closing(admin.FileSource(str(tmp_path / "store.db"), "ro")) as file:
             assert not file.is_driven()
             monkeypatch.setattr(os, "sched_yield", lambda: os.close(look))
             async with sagas.open(tmp_path / "store.db", [saga]) as store:

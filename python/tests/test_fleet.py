@@ -24,7 +24,7 @@ import sagas
 from sagas.core.batch import Grant
 from sagas.definition.step import Bounds
 from sagas.runtime import fleet_limits
-from sagas.storage.postgresql.limit_slots import Places
+from sagas.storage.postgresql.limit_slots import LimitSlots
 
 HERE = pathlib.Path(__file__).resolve().parent
 
@@ -245,15 +245,15 @@ def test_places_are_not_lost_with_their_answers(url: str, monkeypatch: pytest.Mo
     """Statements are done and their answers lost: the limit holds, all sagas end, and each place is free again."""
     count, turns = Count(), iter(range(1000))
     kind = counted(count, fleet_concurrency=2)
-    right = Places.take
+    right = LimitSlots.take
 
-    async def take(self: Places, *words: Any) -> Grant:
+    async def take(self: LimitSlots, *words: Any) -> Grant:
         grant = await right(self, *words)
         if next(turns) in (0, 4, 9):
             raise sagas.StoreUnavailable("the answer is lost")
         return grant
 
-    monkeypatch.setattr(Places, "take", take)
+    monkeypatch.setattr(LimitSlots, "take", take)
 
     def taken() -> int:
         with psycopg.connect(url) as link:
@@ -279,16 +279,16 @@ def test_what_is_in_doubt_is_told_by_its_own_gate(
     monkeypatch.setattr(fleet_limits, "LOOK", 0.05)
     monkeypatch.setattr(fleet_limits, "DOUBT", 1.0)
     told: list[tuple[str, int]] = []
-    right = Places.take
+    right = LimitSlots.take
 
-    async def take(self: Places, name: str, bounds: Bounds, want: int, *more: Any) -> Grant:
+    async def take(self: LimitSlots, name: str, bounds: Bounds, want: int, *more: Any) -> Grant:
         grant = await right(self, name, bounds, want, *more)
         told.append((name, want))
         if len(told) == 1:
             raise sagas.StoreUnavailable("the answer is lost")
         return grant
 
-    monkeypatch.setattr(Places, "take", take)
+    monkeypatch.setattr(LimitSlots, "take", take)
 
     def is_taken() -> bool:
         with psycopg.connect(url) as link:

@@ -279,10 +279,10 @@ BATCH = """
     import sys, sagas.cli.store_command
     from sagas.storage import admin, batches
     batches.MOST = 4
-    def tell(self, what):  # behind each transaction
+    def notify(self, message):  # behind each transaction
         print("asked", flush=True)
         sys.stdin.readline()
-    admin.File.tell = admin.Base.tell = tell
+    admin.FileSource.notify = admin.DatabaseSource.notify = notify
     words = ["--label", "customer=7", "--yes", "--timeout", "0"]
     sagas.cli.store_command.main([{path!r}, "abort", "--all", *words])
 """

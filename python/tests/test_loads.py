@@ -15,7 +15,7 @@ import sagas
 from sagas.base.errors import StoreUnavailable
 from sagas.core.batch import Batch, Loaded
 from sagas.storage.postgresql import connections
-from sagas.storage.postgresql.shard_loader import Loads
+from sagas.storage.postgresql.shard_loader import ShardLoader
 from sagas.storage.postgresql.writer import Writer
 
 LOGS, ROOM = 6, 3
@@ -58,11 +58,11 @@ def logs(url: str, monkeypatch: pytest.MonkeyPatch) -> list[int]:
 
 
 @contextlib.asynccontextmanager
-async def loading(url: str) -> AsyncIterator[Loads]:
+async def loading(url: str) -> AsyncIterator[ShardLoader]:
     """As the node `me` does it."""
     asker = connections.Asker(url, url, 3)
     await asker.open()
-    yield Loads(asker, "me", asyncio.get_running_loop().create_task)
+    yield ShardLoader(asker, "me", asyncio.get_running_loop().create_task)
     await asker.close()
 
 
@@ -112,7 +112,7 @@ def test_all_that_are_wanted_go_together(url: str, logs: list[int]) -> None:
             )
             assert gone is None and is_whole(there, 2, 4) and born is None
             ((line,),) = (
-                psycopg.connect(url).execute(f"SELECT {connections.LINE}".encode()).fetchall()
+                psycopg.connect(url).execute(f"SELECT {connections.TIMELINE}".encode()).fetchall()
             )
             assert (
                 unborn == Loaded("", 0, 0, [], [], [], 8, line, 1) and there and there.line == line

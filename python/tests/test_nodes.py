@@ -768,7 +768,7 @@ def test_a_node_says_between_two_lots_that_it_lives(
     monkeypatch.setattr(
         node_lease,
         "CANDIDATES",
-        node_lease.CANDIDATES.replace(f"LIMIT {node_lease.LOT}", "LIMIT 1"),
+        node_lease.CANDIDATES.replace(f"LIMIT {node_lease.TAKEOVER_BATCH}", "LIMIT 1"),
     )
     gate, calls, turns = asyncio.Event(), list[str](), list[int]()
     mine, others = pair(gate, calls), pair(gate, calls, "others")
@@ -972,7 +972,7 @@ def test_what_was_heard_before_a_connection_broke_counts_no_more(url: str) -> No
 
     async def main() -> None:
         looks, told = asyncio.Queue[str](), asyncio.Event()
-        news = notifications.News(url, looks.put_nowait)
+        news = notifications.Notifications(url, looks.put_nowait)
         await looks.get()
         news.say(["ended 17", "look"], told.set)
         assert await looks.get() == "look"
@@ -1000,13 +1000,13 @@ def test_an_end_is_heard_of_without_a_word(url: str, monkeypatch: pytest.MonkeyP
     monkeypatch.setattr(notifications, "FIRST_LOOK", 0.01)
     gate = asyncio.Event()
     kind = pair(gate)
-    right, turns = notifications.News.of, list[int]()
+    right, turns = notifications.Notifications.of, list[int]()
 
-    async def of(self: notifications.News, id: int, turn: int) -> None:
+    async def of(self: notifications.Notifications, id: int, turn: int) -> None:
         turns.append(turn)
         await right(self, id, turn)
 
-    monkeypatch.setattr(notifications.News, "of", of)
+    monkeypatch.setattr(notifications.Notifications, "of", of)
 
     async def main() -> None:
         async with sagas.open(url, [kind], node="one") as one, sagas.open(
@@ -1089,14 +1089,14 @@ def test_who_looks_for_a_key_hears_that_the_store_is_closed(
             async with sagas.open(place, [kind]) as store:
                 keys = store._coordinator.store._keys  # type: ignore[attr-defined]
                 relay.cut()
-                await until(lambda: not keys._link.is_open)
+                await until(lambda: not keys._connection.is_open)
                 relay._loop.call_soon_threadsafe(silent.wait)
                 asked = [asyncio.create_task(store.get("k"))]
-                await until(lambda: keys.sought == 1)
+                await until(lambda: keys.pending_lookups == 1)
                 asked += [
                     asyncio.create_task(work) for work in (store.get("k"), store.wait("other"))
                 ]
-                await until(lambda: keys.sought == 3)
+                await until(lambda: keys.pending_lookups == 3)
                 monkeypatch.setattr(connections, "CONNECT", 0.1)
                 closing = asyncio.create_task(store.close())
                 await asyncio.wait(asked, timeout=10)
@@ -1161,7 +1161,7 @@ def test_a_node_is_gone_in_the_middle_of_a_claim(
                         await until(
                             lambda: link.execute("SELECT 1 FROM sagas.external_attempts").fetchall()
                         )
-                    relay.still = b"found AS MATERIALIZED"  # behind the lock
+                    relay.still = b"candidates AS MATERIALIZED"  # behind the lock
                     claiming = asyncio.create_task(claimed(gone))
                     await until(relay.stands.is_set)
                     await until(lambda: claimed(store), 15)

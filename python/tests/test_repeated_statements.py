@@ -12,7 +12,7 @@ from server import serving
 
 import sagas
 from sagas.storage.postgresql.connections import Asker
-from sagas.storage.postgresql.prepared import Kept, array, numbered
+from sagas.storage.postgresql.prepared import ReconnectingWire, array, numbered
 
 SLOW = "SELECT pg_sleep(0.3)::text || $1::text"
 
@@ -27,9 +27,9 @@ async def are_gone(asker: Asker) -> bool:
     return not await asker.ask(OTHERS)
 
 
-async def opened(url: str) -> tuple[Asker, Kept]:
+async def opened(url: str) -> tuple[Asker, ReconnectingWire]:
     """A pool, and a connection that is attached to it."""
-    asker, kept = Asker(url, "here", 2), Kept(url, "here")
+    asker, kept = Asker(url, "here", 2), ReconnectingWire(url, "here")
     asker.attach(kept)
     await asker.open()
     return asker, kept

@@ -300,7 +300,7 @@ KILLED = """
     from sagas.runtime import retention
     from sagas.storage import admin, archive
     point = int(sys.argv[3])
-    kind = admin.Base if sys.argv[1].startswith("postgresql:") else admin.File
+    kind = admin.DatabaseSource if sys.argv[1].startswith("postgresql:") else admin.FileSource
     right, count = kind.changed, 0
     def changed(self, text, *words):
         global count
@@ -361,7 +361,7 @@ def test_one_run_at_a_time(
     words = [place, "prune", "--older-than", "30d", "--export", str(tmp_path / "archive")]
     before = tables(place)
     with admin.writing(place) as link:
-        assert link.alone() and link.alone()
+        assert link.take_prune_lock() and link.take_prune_lock()
         assert store_command.main(words) == 1
         assert "another program is deleting ended sagas of this store" in capsys.readouterr().err
         assert tables(place) == before and not (tmp_path / "archive").exists()
@@ -372,7 +372,7 @@ def test_one_run_at_a_time(
 def test_a_log_goes_while_it_is_exported(place: str, tmp_path: pathlib.Path) -> None:
     """What is written is of one moment: all of the log; later nothing is, and what was written stays."""
     (log,) = run(fill(place, shop(), ROOM))
-    kind = admin.Base if place.startswith("postgresql:") else admin.File
+    kind = admin.DatabaseSource if place.startswith("postgresql:") else admin.FileSource
     overtaken, ask, folder = kind(place, "rw"), kind.ask, tmp_path / "archive"
 
     def asked(text: str, *words: Any) -> list[admin.Row]:
@@ -467,7 +467,7 @@ def test_a_start_feels_no_lock_of_it(url: str) -> None:
         (log,) = await fill(url, kind, ROOM)
         age(url, log)
         with admin.writing(url) as link:
-            assert link.alone()
+            assert link.take_prune_lock()
             async with sagas.open(url, [kind]) as store:
                 with link.transaction():
                     assert retention._delete(link, log, None)

@@ -263,7 +263,7 @@ def test_a_time_zone_that_this_system_does_not_have(
     def zone(name: str) -> None:
         with contextlib.closing(admin.connect(place, "rw")) as link:
             link.changed("UPDATE schedules SET timezone = ? WHERE name = 'far'", name)
-            link.tell("requests")
+            link.notify("requests")
 
     def hears(event: sagas.Event) -> None:
         if event.name == "schedule_failed":

@@ -721,14 +721,14 @@ def test_a_primary_that_was_replaced_and_lives(by: str, monkeypatch: pytest.Monk
             assert (await ended(store, kind, "before")).ok
             assert (await (await client.start(kind, "too")).wait()).ok
             if by == "late":
-                monkeypatch.setattr(hosts, "line_of", noted(looks, hosts.line_of))
+                monkeypatch.setattr(hosts, "timeline_of", noted(looks, hosts.timeline_of))
                 await asyncio.to_thread(pair.hold_back)
                 await until(lambda: looks)
             await asyncio.to_thread(pair.standby.promote)
             async with asyncio.timeout(60):
                 if by != "client":
                     assert (await started_again(store, kind, "after")).ok
-                    assert store._coordinator.store.line == "00000002"
+                    assert store._coordinator.store.timeline == "00000002"
                 while True:
                     with contextlib.suppress(sagas.StoreUnavailable):
                         run = await client.start(kind, "client's")

@@ -5,7 +5,7 @@ from __future__ import annotations
 from collections.abc import Sequence
 
 from sagas.core.batch import Batch
-from sagas.storage.interface import Then
+from sagas.storage.interface import CommitCallback
 from sagas.storage.postgresql.storage import PostgreSQL
 from sagas.storage.postgresql.writer import NONE
 
@@ -18,7 +18,7 @@ def apply() -> None:
     """Says of each log that it was written."""
     right = PostgreSQL.commit
 
-    def commit(self: PostgreSQL, batches: Sequence[Batch], then: Then, now: bool) -> None:
+    def commit(self: PostgreSQL, batches: Sequence[Batch], then: CommitCallback, now: bool) -> None:
         right(self, batches, lambda batches, fault, lost: then(batches, fault, NONE), now)
 
     setattr(PostgreSQL, "commit", commit)

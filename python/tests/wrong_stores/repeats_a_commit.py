@@ -7,7 +7,7 @@ from collections.abc import Sequence
 
 from sagas.base.errors import StoreUnavailable
 from sagas.core.batch import Batch
-from sagas.storage.interface import Then
+from sagas.storage.interface import CommitCallback
 from sagas.storage.postgresql.storage import PostgreSQL
 
 FINDS = {"illegal", "audit", "gap", "results", "end"}
@@ -19,7 +19,7 @@ def apply() -> None:
     """Puts the same lines behind what is there."""
     right, jobs = PostgreSQL.commit, set[asyncio.Task[None]]()
 
-    def commit(self: PostgreSQL, batches: Sequence[Batch], then: Then, now: bool) -> None:
+    def commit(self: PostgreSQL, batches: Sequence[Batch], then: CommitCallback, now: bool) -> None:
         async def again() -> None:
             for log in {batch.log for batch in batches if batch.text}:
                 mine = [batch for batch in batches if batch.log == log and batch.text]

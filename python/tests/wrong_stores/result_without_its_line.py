@@ -13,11 +13,11 @@ MOMENT = "nothing_happens"
 
 def apply() -> None:
     """Leaves lines out."""
-    right, turns = Commit.words, itertools.count(1)
+    right, turns = Commit.bind, itertools.count(1)
 
     def words(self: Commit, node: bytes) -> tuple[str, list[bytes | None]]:
         if "results" in self.parts and next(turns) % 5 == 0:
             self.parts.pop("lines", None)
         return right(self, node)
 
-    setattr(Commit, "words", words)
+    setattr(Commit, "bind", words)

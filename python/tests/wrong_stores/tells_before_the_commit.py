@@ -6,7 +6,7 @@ from collections.abc import Sequence
 from typing import Any
 
 from sagas.core.batch import Batch
-from sagas.storage.interface import Then
+from sagas.storage.interface import CommitCallback
 from sagas.storage.postgresql.storage import PostgreSQL
 from sagas.storage.postgresql.writer import NONE
 
@@ -19,7 +19,7 @@ def apply() -> None:
     """Says that it is written, and writes it then."""
     right = PostgreSQL.commit
 
-    def commit(self: PostgreSQL, batches: Sequence[Batch], then: Then, now: bool) -> None:
+    def commit(self: PostgreSQL, batches: Sequence[Batch], then: CommitCallback, now: bool) -> None:
         queue: Any = then.__self__  # type: ignore[attr-defined]
         entries, queue._under_way = queue._under_way, []
         for effects, owner in entries:

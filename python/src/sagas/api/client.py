@@ -41,7 +41,7 @@ from sagas.storage.factory import FORM
 from sagas.storage.postgresql import caller_connection, codec_note
 from sagas.storage.postgresql import connections as connections_module
 from sagas.storage.postgresql import key_finder, notifications, saga_requests, schema
-from sagas.storage.record_file import RecordFile, told_path
+from sagas.storage.record_file import RecordFile, record_path
 
 if TYPE_CHECKING:
     from sagas.storage.postgresql.connections import Row
@@ -106,8 +106,8 @@ class Client(Schedules):
         self._asker.late = self._look_at_hosts
         self._reader = AsyncStoreReader(self._read, self._read)
         self._opened = Opened("the client")
-        self._notifier: notifications.News | None = None
-        self._record = RecordFile.of(told_path(arguments.record(record)), secrets.token_hex(4))
+        self._notifier: notifications.Notifications | None = None
+        self._record = RecordFile.of(record_path(arguments.record(record)), secrets.token_hex(4))
         self._kinds: dict[str, Kind] = {}
         check_blobs(blobs, LEAST)
         self._payloads = payloads.checked(codec)
@@ -150,7 +150,7 @@ class Client(Schedules):
             ...
 
     async def _open(self) -> None:
-        await connections_module.knock(self._url, self.path)
+        await connections_module.check_access(self._url, self.path)
         await self._asker.open()
         try:
             version = (await self._asker.read("SELECT to_regclass('sagas.store') IS NOT NULL"))[0][
@@ -168,7 +168,7 @@ class Client(Schedules):
         except BaseException:
             await self._asker.close()
             raise
-        self._notifier = notifications.News(self._url, lambda message: None)
+        self._notifier = notifications.Notifications(self._url, lambda message: None)
         self._asker.attach(self._notifier.listener)
 
     def _look_at_hosts(self) -> None:
@@ -209,7 +209,7 @@ class Client(Schedules):
                 self._record.close()
 
     @property
-    def _open_notifier(self) -> notifications.News:
+    def _open_notifier(self) -> notifications.Notifications:
         self._opened.check(self.path)
         if self._notifier is None:
             raise Closed(
@@ -332,7 +332,7 @@ class Client(Schedules):
         """Ask the node that executes the saga; return its reply, or raise its error."""
         asker, payloads = self._asker, self._payloads
         answer = await saga_requests.ask(asker, self._open_notifier, row, command, value, payloads)
-        return operator_requests.told(answer)
+        return operator_requests.checked_answer(answer)
 
     async def _report(
         self, key: str, step: Step[Any] | str, outcome: Outcome, undo: bool, early: bool
@@ -439,7 +439,7 @@ class Client(Schedules):
 
     async def _known(self, row: SagaRow) -> Known:
         """Return what the store has of a saga. Raises `NoSuchSaga` if it was deleted."""
-        query = queries.known_words(row.id, history=False)
+        query = queries.known_query(row.id, history=False)
         return queries.known(await self._read(*query), row.key)
 
     def _kind(self, row: SagaRow, text: str) -> Kind:

@@ -160,7 +160,7 @@ class StartNotifier:
             while self._has_more:
                 self._has_more = False
                 with contextlib.suppress(StoreUnavailable):
-                    await self._asker.ask(notifications.SAY, words=[notifications.STARTS])
+                    await self._asker.ask(notifications.NOTIFY, messages=[notifications.STARTS])
         finally:
             self._is_sending = False
 
@@ -238,7 +238,7 @@ class ClientStarter:
         if connection is None:
             return await self._alone(request)
         store = [] if connection in self._checked else await self.database()
-        with caller_connection.faults(connection, self._path):
+        with caller_connection.translate_errors(connection, self._path):
             if store:
                 databases = await caller_connection.rows(connection, caller_connection.HERE, {})
                 caller_connection.check_database(connection, databases, store, self._path)
@@ -254,7 +254,7 @@ class ClientStarter:
     ) -> bool:
         """Write a start in the transaction of a blocking connection. See `start`."""
         store = [] if connection in self._checked else ask(self.database())
-        with caller_connection.faults(connection, self._path):
+        with caller_connection.translate_errors(connection, self._path):
             if store:
                 databases = caller_connection.rows_now(connection, caller_connection.HERE, {})
                 caller_connection.check_database(connection, databases, store, self._path)

@@ -96,7 +96,7 @@ class Commands:
         value = serialization.write(arguments) if request is None else request[2]
         coordinator = self._access.coordinator
         answer = await coordinator.store.ask(row, command, value, coordinator.registry.payloads)
-        return operator_requests.told(answer)
+        return operator_requests.checked_answer(answer)
 
     async def report(
         self,

@@ -126,7 +126,7 @@ class SagaLookup:
                     return row
                 pending.check_refused(row)
                 if key not in self._access.coordinator.sagas.by_key:
-                    await coordinator.store.news(row.id, turn)
+                    await coordinator.store.wait_for_end(row.id, turn)
                     turn += 1
             else:
                 try:

@@ -106,7 +106,7 @@ class UnusedReports:
         answer = await coordinator.store.ask(
             row, "compensate", value, coordinator.registry.payloads
         )
-        operator_requests.told(answer)
+        operator_requests.checked_answer(answer)
 
     async def _ended(self, key: str, of: int | None) -> SagaRow:
         """Return the row of a saga. Raises `StepNotWaiting` if it has not ended."""

@@ -19,7 +19,7 @@ from sagas.core.dispatch import Order
 from sagas.definition.saga import Saga
 from sagas.definition.decorators import Declare
 from sagas.definition.step import Manner, Step
-from sagas.storage.worker_session import Desk, desk_of
+from sagas.storage.worker_session import WorkerSession, open_worker_session
 
 if TYPE_CHECKING:
     from sagas.storage.interface import Database
@@ -119,7 +119,7 @@ class Queue:
         attempt.__module__ = getattr(manner.function, "__module__", __name__)
         self.app.task(name=task_name(step, kind), sagas_step=step, **self._options)(attempt)
 
-    def desk(self) -> Desk:
+    def desk(self) -> WorkerSession:
         """Return this thread's connection to the store.
 
         Raises:
@@ -128,8 +128,8 @@ class Queue:
         """
         told = getattr(self._desks, "told", None)
         if told is None or told[0] != os.getpid():
-            told = self._desks.told = os.getpid(), desk_of(self.store)
-        desk: Desk = told[1]
+            told = self._desks.told = os.getpid(), open_worker_session(self.store)
+        desk: WorkerSession = told[1]
         return desk
 
     async def check(self, database: Database, steps: Iterable[tuple[Step[Any], str]]) -> None:

@@ -48,13 +48,13 @@ def ask(path: str, key: str, what: str, value: Any, timeout: float) -> tuple[Any
         of = what_is_asked(link, key, what, value)
         if of is None:
             return WITHDRAWN, True
-        number = link.leave(of, what, json.dumps(value))
+        number = link.add_request(of, what, json.dumps(value))
         if number is None and of < 0:  # it is a saga by now
             of = what_is_asked(link, key, what, value) or of
-            number = link.leave(of, what, json.dumps(value))
+            number = link.add_request(of, what, json.dumps(value))
         if number is None:
             raise gone(key)
-        link.tell("requests")
+        link.notify("requests")
         driven = link.is_driven()
         until = time.monotonic() + (timeout if driven else 0.0)
         while True:
@@ -81,7 +81,7 @@ def what_is_asked(link: admin.Source, key: str, what: str, value: Any) -> int | 
         start = link.start_of(key)  # its node does what it is asked once it has begun
         found = link.ask(SAGA, key) or ([(-start, "open")] if start else [])
     if not found:
-        raise link.absent(key)
+        raise link.missing_saga_error(key)
     ((id, phase),) = found
     if what == "compensate":
         if phase == "open":

@@ -14,7 +14,7 @@ from typing import Any
 from sagas.definition.capacity import SHARD_CAPACITY
 from sagas.definition.compiled import name_of, version_of
 from sagas.storage import factory, queries
-from sagas.storage.admin import Base, Trouble
+from sagas.storage.admin import DatabaseSource, Trouble
 
 OPEN = f"""s.id >= l.shard * {SHARD_CAPACITY} AND s.id < (l.shard + 1) * {SHARD_CAPACITY}
     AND s.phase IS NULL"""
@@ -61,7 +61,7 @@ def read(name: str) -> dict[str, Any]:
     """The nodes, the logs and the starts of clients that none of them has, and the logs that none
     can open."""
     is_database(name)
-    link = Base(name, "ro")
+    link = DatabaseSource(name, "ro")
     try:
         link.begin()
         nodes = [
@@ -96,7 +96,7 @@ def read(name: str) -> dict[str, Any]:
         link.close()
 
 
-def _starts(link: Base) -> list[dict[str, Any]]:
+def _starts(link: DatabaseSource) -> list[dict[str, Any]]:
     """The starts that no node has taken, by definition. `nodes`: those that leave them, since they
     have another definition of that saga and version."""
     rows = link.ask(STARTS)
@@ -121,7 +121,7 @@ def init(name: str, role: str | None) -> str:
     except ImportError as error:
         raise factory.missing(error) from error
     where = connections.named(name)
-    with connections.faults(where):
+    with connections.translate_errors(where):
         link = connections.connect_now(name)
         try:
             before = schema.migrate(link, where)

@@ -40,7 +40,7 @@ class Snapshot(StoreReader):
         """All of a saga. Raises `Trouble` where no saga has the key."""
         found = self.ask(saga.view(key, self.read))
         if found is None:
-            raise self.link.absent(key)
+            raise self.link.missing_saga_error(key)
         return found
 
     def close(self) -> None:

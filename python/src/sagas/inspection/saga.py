@@ -111,7 +111,7 @@ class _Kept:
 
 def _kept(row: SagaRow, read: Read = json.loads) -> Question[_Kept]:
     """Raises `NoSuchSaga` where it was let go since its row was read."""
-    text, *words = queries.known_words(row.id, history=True)
+    text, *words = queries.known_query(row.id, history=True)
     return _Kept(row, (yield Query(text, (*words,), is_long=True)), read)
 
 

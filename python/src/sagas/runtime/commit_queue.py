@@ -106,7 +106,7 @@ class CommitQueue:
 
         That is half of them if the server would otherwise be idle until all calls ended.
         """
-        return half(ready) if self._store.takes and not self.is_writing else ready
+        return half(ready) if self._store.commit_seconds and not self.is_writing else ready
 
     # -- queue
 
@@ -119,7 +119,7 @@ class CommitQueue:
             at_once: Whether no other operation of this program is half done. Then the listener may
                 be notified before this call returns.
         """
-        if self._store.takes:
+        if self._store.commit_seconds:
             self._policy.came(self._loop.time())
         self._queue.append((effects, listener))
         if self._is_under_way:
@@ -161,7 +161,7 @@ class CommitQueue:
         """Write the waiting batches, unless a commit is in progress or waiting pays off."""
         if not self._queue or self._is_under_way:
             return
-        commit_seconds = self._store.takes
+        commit_seconds = self._store.commit_seconds
         if commit_seconds and self._waits_for_more(commit_seconds):
             return
         entries, self._queue = self._queue, []
@@ -194,7 +194,7 @@ class CommitQueue:
     def _settle_soon(self) -> None:
         """Have the result of a commit to a file delivered in the next turn of the loop."""
         if not self._store.shared:  # the reply of a server arrives in its own turn
-            self._loop.call_soon(self._store.settle)
+            self._loop.call_soon(self._store.finish_commit)
 
     def _written(
         self, batches: Sequence[Batch], fault: BaseException | None, lost: frozenset[int]
@@ -202,7 +202,7 @@ class CommitQueue:
         entries, self._under_way, self._is_under_way = self._under_way, [], False
         if fault is not None or lost:
             entries = self._with_later_entries(entries, fault, lost)
-        commit_seconds = self._store.takes
+        commit_seconds = self._store.commit_seconds
         if self._queue and fault is None:
             is_soon = commit_seconds and self._policy.is_soon(
                 _rows_of(entries), _rows_of(self._queue), commit_seconds

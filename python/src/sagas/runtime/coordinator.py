@@ -197,19 +197,19 @@ class Coordinator:
             for listener in self.listeners:
                 listener()
 
-    def lapsed(self, is_older: bool = False) -> None:
+    def lease_expired(self, is_older: bool = False) -> None:
         """Handle that the lease expired.
 
         With `is_older`, another server has taken over, and may have lost recent commits.
         """
-        self.shards.lapsed(is_older)
+        self.shards.lease_expired(is_older)
 
     def taken(self, rows: list[LogRow]) -> None:
         """Execute shards that this node has taken over."""
         self.shards.taken(rows)
         self.look()
 
-    def vacant(self) -> None:
+    def slots_freed(self) -> None:
         """Handle that a node released slots of a fleet limit."""
         self.executor.fleet.look()
 
@@ -234,7 +234,7 @@ class Coordinator:
 
     def coming(self) -> int:
         """Return how many calls are on their way to a commit."""
-        return self.calls() + self.shards.coming() + self.store.sought
+        return self.calls() + self.shards.coming() + self.store.pending_lookups
 
     def calls(self) -> int:
         """Return how many functions are about to be called."""

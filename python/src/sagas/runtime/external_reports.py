@@ -124,7 +124,7 @@ class ExternalReports:
                 stored()
             await self._apply(Report(token, str(outcome.kind), value))
         else:
-            await self._table.tell()
+            await self._table.notify_owners()
         return True
 
     def _encoded(self, outcome: Outcome) -> str:
@@ -150,7 +150,7 @@ class ExternalReports:
             if shard in self.coordinator.shards.runners:
                 await self._apply(Report(token, str(outcome.kind), outcome.value))
             elif shard is not None:
-                await self._table.tell()
+                await self._table.notify_owners()
 
     async def _apply(self, report: Report) -> None:
         """Report an outcome into its shard if possible now, and wait until it is stored."""

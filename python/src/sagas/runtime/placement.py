@@ -126,10 +126,10 @@ class Placement:
     def _create(self, definitions: DefinitionSet, kind: Kind) -> ShardRunner:
         """Create a shard. It has at least one definition, because an audit needs one."""
         before = self.current.get(definitions.digest)
-        number, name = self._store.new_log(), secrets.token_hex(8)
+        number, name = self._store.new_shard(), secrets.token_hex(8)
         of = ShardDefinitions(definitions.kinds or [kind], definitions.digest)
         identity = ShardIdentity(number, name, of)
-        runner = self._shards.run(ShardDriver.created(identity, self._store.line))
+        runner = self._shards.run(ShardDriver.created(identity, self._store.timeline))
         self.current[definitions.digest] = runner
         if before:
             self._loop.call_soon(self._shards.close_if_over, before)

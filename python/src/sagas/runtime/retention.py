@@ -115,7 +115,7 @@ def prune(
     """
     pruned, shard, stop = Pruned(), -1, stop or threading.Event()
     with admin.writing(name) as link:
-        if not link.alone():
+        if not link.take_prune_lock():
             pruned.other = True
             return pruned
         before = min(clock(), link.now()) - keep

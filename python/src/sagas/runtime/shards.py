@@ -340,7 +340,7 @@ class Shards:
 
     # -- loss
 
-    def lapsed(self, is_older: bool) -> None:
+    def lease_expired(self, is_older: bool) -> None:
         """Load all shards again, because another node may have taken any of them.
 
         If the store is older than what was acknowledged, no shard accepts further sagas. Otherwise,

@@ -176,7 +176,7 @@ class Transactions:
             self._timer.cancel()
         await self._pool.close()
 
-    def let_go(self) -> None:
+    def close_idle(self) -> None:
         """Close all idle connections.
 
         The server may have none left for the store, or another server has taken over.

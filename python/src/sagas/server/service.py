@@ -151,7 +151,7 @@ class Service:
         """Over PostgreSQL: what other services of the database tell, and what they are told."""
         peers = self.store.workers.peers()
         if peers:
-            peers.hear, peers.missed = self._heard, self.hub.missed
+            peers.on_message, peers.missed = self._heard, self.hub.missed
             peers.answers |= {"workers": self._workers, "begun": self._begun}
             await peers.open()
             self._peers = peers
@@ -173,8 +173,8 @@ class Service:
         self.metrics.event(event)
         self.webhooks.event(event)
         self.hub.publish(event)
-        if self._peers and self._peers.others and not self._peers.tell(told := told_of(event)):
-            self._peers.tell({**told, "detail": None})
+        if self._peers and self._peers.others and not self._peers.broadcast(told := told_of(event)):
+            self._peers.broadcast({**told, "detail": None})
         if (hook := self.settings.store.on_event) is not None:
             hook(event)
 
@@ -252,7 +252,7 @@ class Service:
     async def seen(self, who: Who) -> list[Seen]:
         """The workers that asked lately, at any node, the latest first, with the steps that are
         theirs to see."""
-        told = await self._peers.ask_all("workers") if self._peers else []
+        told = await self._peers.call_all("workers") if self._peers else []
         others = [Seen(*one) for some in told for one in some]
         found: dict[str, Seen] = {}
         for one in sorted([*self.workers.values(), *others], key=lambda one: one.at):

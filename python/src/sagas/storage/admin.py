@@ -1,7 +1,6 @@
-"""Short-lived connections of the operator command.
+"""Short-lived connections to a store's file or database, for operator commands.
 
-What the operators' command reads and writes: a store's file, or its database, beside the programs
-that have it open.
+Other programs may have the store open at the same time.
 """
 
 from __future__ import annotations
@@ -30,8 +29,8 @@ LEAVE = """
 INSERT INTO operator_commands(key, command, value, at)
 SELECT key, ?, ?, ? FROM sagas WHERE id = ? RETURNING id
 """
-ALONE = 5_777_002
-"""The advisory lock of who lets ended sagas go."""
+PRUNE_LOCK = 5_777_002
+"""The advisory lock of the program that deletes ended sagas."""
 STARTS = """
 SELECT key, saga, version, at FROM pending_starts i
 WHERE NOT EXISTS (SELECT 1 FROM nodes n WHERE n.node = i.node AND n.lease > now()) ORDER BY id
@@ -45,7 +44,7 @@ STARTS_OF = "SELECT key FROM pending_starts WHERE node IS NULL AND labels @> CAS
 
 
 class Trouble(Exception):
-    """What ends the command with a line on standard error."""
+    """An error that ends the command with one line on standard error."""
 
     def __init__(self, text: str, status: int = 1) -> None:
         super().__init__(text)
@@ -53,87 +52,93 @@ class Trouble(Exception):
 
 
 class Source(Protocol):
-    """A connection. Queries are such as SQLite and PostgreSQL both understand, with `?` for each
-    word.
+    """A connection. SQLite and PostgreSQL both understand its queries.
+
+    A query has a `?` for each parameter.
     """
 
     name: str
-    """The store's in messages: the file's, or the URL without its password."""
+    """The store's name for messages: the file, or the URL without its password."""
 
     def begin(self) -> None:
-        """All that is asked from now on is of one moment."""
+        """Begin a snapshot: all queries from now on see the same moment."""
 
     def end(self) -> None:
-        """Ends what was begun, if anything was."""
+        """End the snapshot, if one was begun."""
 
     def transaction(self) -> contextlib.AbstractContextManager[object]:
-        """What is written within is written as a whole, or not at all."""
+        """Write all that is written within the block, or nothing."""
 
     def now(self) -> float:
-        """The time by the store's own clock, in seconds."""
+        """Return the time by the store's own clock, in seconds."""
 
-    def alone(self) -> bool:
-        """Whether no other connection has said this and is not closed yet."""
+    def take_prune_lock(self) -> bool:
+        """Take the lock of the only program that deletes sagas. Return False if it is taken."""
 
-    def ask(self, text: str, *words: Any) -> list[Row]:
-        """The rows of a question, or of a write that gives some."""
+    def ask(self, text: str, *parameters: Any) -> list[Row]:
+        """Return the rows of a query, or of a statement that returns some."""
 
-    def changed(self, text: str, *words: Any) -> int:
-        """Writes; gives how many rows that changed."""
+    def changed(self, text: str, *parameters: Any) -> int:
+        """Execute a statement, and return the number of rows that it changed."""
 
-    def tell(self, what: str) -> None:
-        """Wakes the programs that have the store open, where that can be."""
+    def notify(self, message: str) -> None:
+        """Wake the programs that have the store open, if the database can do that."""
 
     def is_driven(self) -> bool:
         """Whether a program has the store open."""
 
-    def absent(self, key: str) -> Trouble:
-        """What is said where no saga has the key."""
+    def missing_saga_error(self, key: str) -> Trouble:
+        """Return the error for a key that no saga has."""
 
     def starts(self) -> list[Row]:
-        """What clients started and no node has taken: key, saga, version, and since when."""
+        """Return the untaken starts of clients: key, saga, version and time of each."""
 
     def waiting_starts(self, filter: Filter) -> list[str]:
-        """The keys of clients' starts that no node has taken, of a filter."""
+        """Return the keys of the untaken starts of clients that a filter selects."""
 
     def withdraw(self, key: str) -> bool:
-        """Takes a start of a client back. False where there is none, or a node has taken it."""
+        """Withdraw a client's start.
+
+        Return False if there is none, or if a node has taken it.
+        """
 
     def start_of(self, key: str) -> int | None:
-        """The id of the client's start that has the key, and no log yet."""
+        """Return the id of the client's start that has the key and no shard yet."""
 
-    def leave(self, of: int, what: str, value: str) -> int | None:
-        """Leaves a request for the saga with this id, or for a client's start, as of an id below 0.
-        Gives the request's id; None where what is asked is gone."""
+    def add_request(self, saga: int, command: str, value: str) -> int | None:
+        """Add a request for a saga, or for a client's start (the negative of its id).
 
-    def answer(self, number: int, of: int) -> tuple[bool, str | None]:
-        """Whether a request that was left is there still, and its answer."""
+        Return the request's id; None if the saga or start is gone.
+        """
+
+    def answer(self, number: int, saga: int) -> tuple[bool, str | None]:
+        """Return whether a request still exists, and its answer."""
 
     def drop_definitions(self) -> None:
-        """Deletes the sets of definitions of which no shard is left."""
+        """Delete the definitions that no shard has any more."""
 
     def drop_refused(self, before: float) -> int:
-        """Deletes the starts that were refused before this time; gives how many these were."""
+        """Delete the starts that were refused before this time, and return their number."""
 
     def close(self) -> None:
-        """Ends the connection."""
+        """Close the connection."""
 
 
-class File:
-    """A SQLite file; `mode` is `ro` or `rw`."""
+class FileSource:
+    """A connection to a SQLite file; `mode` is `ro` or `rw`."""
 
     def __init__(self, name: str, mode: str) -> None:
         self.name, self.path = name, pathlib.Path(name)
-        self._alone: int | None = None
+        self._prune_lock: int | None = None
         try:
             if not self.path.is_file():
-                what = (
+                problem = (
                     "this is a folder. Name a file"
                     if self.path.is_dir()
                     else "the file does not exist. sagas.open creates a store"
                 )
-                raise Trouble(f"{name}: {what}", CANNOT)
-            self.link = sqlite3.connect(
+                raise Trouble(f"{name}: {problem}", CANNOT)
+            self.connection = sqlite3.connect(
                 f"{self.path.resolve().as_uri()}?mode={mode}",
                 uri=True,
                 timeout=5.0,
@@ -146,18 +151,20 @@ class File:
                 CANNOT,
             ) from error
         except sqlite3.Error as error:
-            raise Trouble(f"{name}: {store_file.told(error)}", CANNOT) from error
+            raise Trouble(f"{name}: {store_file.describe_error(error)}", CANNOT) from error
         try:
             version = self._version(mode)
         except sqlite3.Error as error:
-            self.link.close()
-            told = store_file.told(error)  # also who only reads writes into `-shm`
+            self.connection.close()
+            message = store_file.describe_error(error)  # a reader also writes to `-shm`
             raise Trouble(
-                f"{name}: {told}" if told != str(error) else f"{name} is not a store: {error}",
+                f"{name}: {message}"
+                if message != str(error)
+                else f"{name} is not a store: {error}",
                 CANNOT,
             ) from error
         if version > VERSION:
-            self.link.close()
+            self.connection.close()
             raise Trouble(
                 f"{name} has tables of version {version}, and this command knows {VERSION}. "
                 "Use a later release",
@@ -165,24 +172,24 @@ class File:
             )
 
     def _version(self, mode: str) -> int:
-        (version,) = self.link.execute("PRAGMA user_version").fetchone()
-        self.link.execute("SELECT 1 FROM sagas LIMIT 1").fetchone()
+        (version,) = self.connection.execute("PRAGMA user_version").fetchone()
+        self.connection.execute("SELECT 1 FROM sagas LIMIT 1").fetchone()
         if mode == "rw":
-            self.link.execute("PRAGMA synchronous=FULL")
+            self.connection.execute("PRAGMA synchronous=FULL")
         return int(version)
 
-    def _run(self, text: str, words: tuple[Any, ...] = ()) -> sqlite3.Cursor:
-        """Raises `StoreUnavailable` where the file cannot be read or written."""
+    def _run(self, text: str, parameters: tuple[Any, ...] = ()) -> sqlite3.Cursor:
+        """Execute a statement. Raises `StoreUnavailable` if the file cannot be used."""
         try:
-            return self.link.execute(text, cleaned(words))
+            return self.connection.execute(text, cleaned(parameters))
         except sqlite3.Error as error:
-            raise StoreUnavailable(f"{self.name}: {store_file.told(error)}") from error
+            raise StoreUnavailable(f"{self.name}: {store_file.describe_error(error)}") from error
 
     def begin(self) -> None:
         self._run("BEGIN")
 
     def end(self) -> None:
-        if self.link.in_transaction:
+        if self.connection.in_transaction:
             self._run("ROLLBACK")
 
     @contextlib.contextmanager
@@ -192,36 +199,38 @@ class File:
             yield
             self._run("COMMIT")
         except BaseException:
-            if self.link.in_transaction:
-                self.link.execute("ROLLBACK")
+            if self.connection.in_transaction:
+                self.connection.execute("ROLLBACK")
             raise
 
     def now(self) -> float:
         return time.time()
 
-    def alone(self) -> bool:
-        if self._alone is None:
+    def take_prune_lock(self) -> bool:
+        if self._prune_lock is None:
             path = f"{os.path.realpath(self.path)}.prune.lock"
-            self._alone = store_file.take_lock(path, os.O_RDONLY)  # another user may have made it
-        return self._alone is not None
+            self._prune_lock = store_file.take_lock(
+                path, os.O_RDONLY
+            )  # another user may have made it
+        return self._prune_lock is not None
 
-    def ask(self, text: str, *words: Any) -> list[Row]:
-        cursor = self._run(text, words)
+    def ask(self, text: str, *parameters: Any) -> list[Row]:
+        cursor = self._run(text, parameters)
         try:
             return cursor.fetchall()
         except sqlite3.Error as error:
-            raise StoreUnavailable(f"{self.name}: {store_file.told(error)}") from error
+            raise StoreUnavailable(f"{self.name}: {store_file.describe_error(error)}") from error
 
-    def changed(self, text: str, *words: Any) -> int:
-        return self._run(text, words).rowcount
+    def changed(self, text: str, *parameters: Any) -> int:
+        return self._run(text, parameters).rowcount
 
-    def tell(self, what: str) -> None:
-        """The program looks by itself."""
+    def notify(self, message: str) -> None:
+        """Do nothing: the program looks for changes of the file by itself."""
 
     def is_driven(self) -> bool:
         return store_file.is_held(self.path)
 
-    def absent(self, key: str) -> Trouble:
+    def missing_saga_error(self, key: str) -> Trouble:
         return Trouble(f"no saga has the key {key}")
 
     def starts(self) -> list[Row]:
@@ -236,11 +245,11 @@ class File:
     def start_of(self, key: str) -> int | None:
         return None
 
-    def leave(self, of: int, what: str, value: str) -> int | None:
-        rows = self.ask(LEAVE, what, value, time.time(), of)
+    def add_request(self, saga: int, command: str, value: str) -> int | None:
+        rows = self.ask(LEAVE, command, value, time.time(), saga)
         return int(rows[0][0]) if rows else None
 
-    def answer(self, number: int, of: int) -> tuple[bool, str | None]:
+    def answer(self, number: int, saga: int) -> tuple[bool, str | None]:
         rows = self.ask("SELECT answer FROM operator_commands WHERE id = ?", number)
         return bool(rows), rows[0][0] if rows else None
 
@@ -251,14 +260,14 @@ class File:
         return 0  # a file has no clients
 
     def close(self) -> None:
-        self.link.close()
-        if self._alone is not None:
-            store_file.close_lock(self._alone)
-            self._alone = None
+        self.connection.close()
+        if self._prune_lock is not None:
+            store_file.close_lock(self._prune_lock)
+            self._prune_lock = None
 
 
-class Base:
-    """A PostgreSQL database."""
+class DatabaseSource:
+    """A connection to a PostgreSQL database."""
 
     def __init__(self, url: str, mode: str) -> None:
         try:
@@ -268,58 +277,60 @@ class Base:
             raise factory.missing(error) from error
 
         self.name = connections.named(url)
-        self._faults = functools.partial(connections.faults, self.name)
-        with self._faults():
-            self.link = connections.connect_now(url)
-            version = schema.version_of(self.link)
+        self._translating_errors = functools.partial(connections.translate_errors, self.name)
+        with self._translating_errors():
+            self.connection = connections.connect_now(url)
+            version = schema.version_of(self.connection)
         if not 0 < version <= schema.VERSION:
-            self.link.close()
+            self.connection.close()
             known = schema.VERSION
-            of = (
+            problem = (
                 f"has tables of version {version}, and this command knows {known}. Use a "
                 "later release"
                 if version
                 else "has no tables yet. Start a node, or run `sagas store URL init`"
             )
-            raise Trouble(f"{self.name} {of}", CANNOT)
+            raise Trouble(f"{self.name} {problem}", CANNOT)
 
     def begin(self) -> None:
-        with self._faults():
-            self.link.execute("BEGIN ISOLATION LEVEL REPEATABLE READ READ ONLY")
+        with self._translating_errors():
+            self.connection.execute("BEGIN ISOLATION LEVEL REPEATABLE READ READ ONLY")
 
     def end(self) -> None:
-        with self._faults():
-            self.link.rollback()
+        with self._translating_errors():
+            self.connection.rollback()
 
     @contextlib.contextmanager
     def transaction(self) -> Iterator[None]:
-        with self._faults(), self.link.transaction():
+        with self._translating_errors(), self.connection.transaction():
             yield
 
     def now(self) -> float:
         return float(self.ask("SELECT extract(epoch FROM now())")[0][0])
 
-    def alone(self) -> bool:
-        return bool(self.ask("SELECT pg_try_advisory_lock(?)", ALONE)[0][0])
+    def take_prune_lock(self) -> bool:
+        return bool(self.ask("SELECT pg_try_advisory_lock(?)", PRUNE_LOCK)[0][0])
 
-    def ask(self, text: str, *words: Any) -> list[Row]:
-        with self._faults():
-            return self.link.execute(queries.for_postgresql(text), cleaned(words)).fetchall()
+    def ask(self, text: str, *parameters: Any) -> list[Row]:
+        with self._translating_errors():
+            return self.connection.execute(
+                queries.for_postgresql(text), cleaned(parameters)
+            ).fetchall()
 
-    def changed(self, text: str, *words: Any) -> int:
-        with self._faults():
-            return self.link.execute(text.replace("?", "%s"), cleaned(words)).rowcount
+    def changed(self, text: str, *parameters: Any) -> int:
+        with self._translating_errors():
+            return self.connection.execute(text.replace("?", "%s"), cleaned(parameters)).rowcount
 
-    def tell(self, what: str) -> None:
+    def notify(self, message: str) -> None:
         from sagas.storage.postgresql import notifications
 
-        with self._faults():
-            self.link.execute(notifications.SAY, {"words": [what]})
+        with self._translating_errors():
+            self.connection.execute(notifications.NOTIFY, {"messages": [message]})
 
     def is_driven(self) -> bool:
         return bool(self.ask("SELECT 1 FROM nodes WHERE lease > now() LIMIT 1"))
 
-    def absent(self, key: str) -> Trouble:
+    def missing_saga_error(self, key: str) -> Trouble:
         for saga, version, node in self.ask(
             "SELECT saga, version, node FROM pending_starts WHERE key = ?", key
         ):
@@ -328,12 +339,12 @@ class Base:
                     f"{key} has not started: node {node} has accepted it, and starts it, or "
                     "another node does when that one is gone"
                 )
-            waits = (
+            message = (
                 f"{key} has not started: it waits for a node that has {saga} (version "
                 f"{version})"
             )
             return Trouble(
-                f"{waits}. Run `sagas store URL nodes` to see the nodes, or `sagas store URL "
+                f"{message}. Run `sagas store URL nodes` to see the nodes, or `sagas store URL "
                 f"abort {key}` to withdraw it"
             )
         return Trouble(f"no saga has the key {key}")
@@ -343,26 +354,30 @@ class Base:
 
     def waiting_starts(self, filter: Filter) -> list[str]:
         text = STARTS_OF if filter.saga is None else f"{STARTS_OF} AND saga = ?"
-        rows = self.ask(text, json.dumps(dict(filter.labels)), *filter.saga_words)
+        rows = self.ask(text, json.dumps(dict(filter.labels)), *filter.saga_parameters)
         return [key for (key,) in rows]
 
     def withdraw(self, key: str) -> bool:
         messages = [message for (message,) in self.ask(WITHDRAW, key)]
         for message in messages:
-            self.tell(message)
+            self.notify(message)
         return bool(messages)
 
     def start_of(self, key: str) -> int | None:
         rows = self.ask("SELECT id FROM pending_starts WHERE key = ?", key)
         return int(rows[0][0]) if rows else None
 
-    def leave(self, of: int, what: str, value: str) -> int | None:
-        rows = self.ask(ASK, what, value, of) if of >= 0 else self.ask(ASK_START, what, value, -of)
+    def add_request(self, saga: int, command: str, value: str) -> int | None:
+        rows = (
+            self.ask(ASK, command, value, saga)
+            if saga >= 0
+            else self.ask(ASK_START, command, value, -saga)
+        )
         return int(rows[0][0]) if rows else None
 
-    def answer(self, number: int, of: int) -> tuple[bool, str | None]:
-        ((is_asked, answer, is_started, _),) = self.ask(ANSWER, number, -of if of < 0 else None)
-        return is_asked or is_started, answer
+    def answer(self, number: int, saga: int) -> tuple[bool, str | None]:
+        ((has_saga, answer, has_start, _),) = self.ask(ANSWER, number, -saga if saga < 0 else None)
+        return has_saga or has_start, answer
 
     def drop_definitions(self) -> None:
         with self.transaction():  # a commit that makes a shard has written both rows, or waits
@@ -373,25 +388,25 @@ class Base:
         return self.changed(REFUSED, before)
 
     def close(self) -> None:
-        self.link.close()
+        self.connection.close()
 
 
 def connect(name: str, mode: str = "ro") -> Source:
-    """A connection to a store. Raises `Trouble`, `StoreUnavailable`, `InvalidStore`."""
+    """Connect to a store. Raises `Trouble`, `StoreUnavailable`, `InvalidStore`."""
     factory.check_name(name)
     if factory.is_url(name):
-        return Base(name, mode)
-    return File(name, mode)
+        return DatabaseSource(name, mode)
+    return FileSource(name, mode)
 
 
 @contextlib.contextmanager
 def writing(name: str) -> Iterator[Source]:
-    """A connection for a short write beside the programs."""
-    link = connect(name, "rw")
+    """Connect for a short write, in parallel with the programs that have the store open."""
+    connection = connect(name, "rw")
     try:
-        yield link
+        yield connection
     except SagasError as error:
-        told = str(error).removeprefix(f"{link.name}: ")
-        raise Trouble(f"cannot write {link.name}: {told}", CANNOT) from error
+        message = str(error).removeprefix(f"{connection.name}: ")
+        raise Trouble(f"cannot write {connection.name}: {message}", CANNOT) from error
     finally:
-        link.close()
+        connection.close()

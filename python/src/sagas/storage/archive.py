@@ -32,7 +32,7 @@ RESULTS = """
 SELECT id, step, action, number, event, value, at FROM attempts
 WHERE id >= ? AND id < ? ORDER BY id, at, step, action, number
 """
-ASKED = """
+REQUESTS = """
 SELECT s.id, r.command, r.value, r.at, r.answer
 FROM sagas s JOIN operator_commands r USING (key) WHERE s.id >= ? AND s.id < ? ORDER BY r.id
 """
@@ -43,81 +43,91 @@ NAMES = {
 }
 
 
-def write(link: Source, log: int, folder: pathlib.Path) -> pathlib.Path | None:
-    """Writes a log into a folder of its own, named as the log is, and syncs it; gives that
-    folder. One that is there is written anew. Where the store has no such log any more, nothing
-    is written, and what is there stays: another program has deleted the log.
+def write(connection: Source, shard: int, folder: pathlib.Path) -> pathlib.Path | None:
+    """Write a shard into its own subfolder, and sync it.
 
-    - `log`, `definition-00.toml` ..: what `sagas audit log definition-*.toml` reads;
-      `about.json` has what it said when the log was closed;
-    - `sagas.jsonl`: a line a saga: its number in the log, key, the key of its parent, input,
-      times, deadline, end, results, and what was asked of it;
-    - `plans.jsonl`: a line a plan that was adopted: the case and the answer, with its
-      certificate, as `sagas check` reads them.
+    The subfolder has the name of the shard. An existing one is replaced. If the store no longer has
+    the shard, nothing is written, and an existing subfolder stays: another program has deleted the
+    shard.
 
-    Raises `OSError`; then what is there is no whole folder of that name.
+    - `log`, `definition-00.toml` and so on: what `sagas audit log definition-*.toml` reads.
+      `about.json` has the verdict of the audit when the shard was closed.
+    - `sagas.jsonl`: one line for each saga: its number in the shard, its key, the key of its
+      parent, input, times, deadline, outcome, results and requests.
+    - `plans.jsonl`: one line for each adopted plan: the case and the answer with its certificate,
+      as `sagas check` reads them.
+
+    Returns:
+        The subfolder, or None if nothing was written.
+
+    Raises:
+        OSError: The subfolder could not be written. Then no complete one has that name.
     """
     folder.mkdir(parents=True, exist_ok=True)
-    with _locked(folder) as held:  # before it is read: what another program wrote is not undone
-        read = _read(link, log)
+    with _locked(folder) as held:  # before the read, so that no older state overwrites a newer one
+        read = _read(connection, shard)
         if read is None:
             return None
         name, files = read
-        part, whole = folder / f".{name}.part", folder / name
-        for old in (part, whole):
+        partial, final = folder / f".{name}.part", folder / name
+        for old in (partial, final):
             shutil.rmtree(old, ignore_errors=True)
-        part.mkdir()
-        for word, text in files.items():
-            _synced(part / word, text)
-        _sync(part)
-        part.rename(whole)
+        partial.mkdir()
+        for name, text in files.items():
+            _synced(partial / name, text)
+        _sync(partial)
+        partial.rename(final)
         os.fsync(held)
-    return whole
+    return final
 
 
-def _read(link: Source, log: int) -> tuple[str, dict[str, str]] | None:
-    """A log's name and its files, of one moment; None where it is not there."""
-    link.begin()
+def _read(connection: Source, shard: int) -> tuple[str, dict[str, str]] | None:
+    """Return a shard's name and its files, of one moment; None if the shard is gone."""
+    connection.begin()
     try:
-        found = link.ask(SHARD, log)
-        return (str(found[0][0]), _files(link, log, *found[0])) if found else None
+        rows = connection.ask(SHARD, shard)
+        return (str(rows[0][0]), _files(connection, shard, *rows[0])) if rows else None
     finally:
-        link.end()
+        connection.end()
 
 
-def _files(link: Source, log: int, name: str, audit: str | None) -> dict[str, str]:
+def _files(connection: Source, shard: int, shard_name: str, audit: str | None) -> dict[str, str]:
     lines = "".join(
         text
-        for (text,) in link.ask(
-            "SELECT text FROM event_log WHERE shard = ? ORDER BY first_seq", log
+        for (text,) in connection.ask(
+            "SELECT text FROM event_log WHERE shard = ? ORDER BY first_seq", shard
         )
     )
-    rows = link.ask(SAGAS, log * SHARD_CAPACITY, (log + 1) * SHARD_CAPACITY)
-    definitions = [text for _, text in link.ask(queries.TEXTS, log, log)]
+    rows = connection.ask(SAGAS, shard * SHARD_CAPACITY, (shard + 1) * SHARD_CAPACITY)
+    definitions = [text for _, text in connection.ask(queries.TEXTS, shard, shard)]
     files = {
         "log": HEADER + lines,
-        "about.json": json.dumps({"log": log, "name": name, "sagas": len(rows), "audit": audit})
+        "about.json": json.dumps(
+            {"log": shard, "name": shard_name, "sagas": len(rows), "audit": audit}
+        )
         + "\n",
-        "sagas.jsonl": _jsonl(_sagas(link, log, rows)),
+        "sagas.jsonl": _jsonl(_sagas(connection, shard, rows)),
         "plans.jsonl": _plans_of(lines, rows, definitions),
     }
-    return files | {f"definition-{place:02}.toml": text for place, text in enumerate(definitions)}
+    return files | {f"definition-{index:02}.toml": text for index, text in enumerate(definitions)}
 
 
-def _sagas(link: Source, log: int, rows: list[Row]) -> Iterator[Json]:
-    more: dict[str, dict[int, list[Json]]] = {}
-    for word, query in (("results", RESULTS), ("requests", ASKED)):
-        of: dict[int, list[Json]] = more.setdefault(word, {})
-        for id, *columns in link.ask(query, log * SHARD_CAPACITY, (log + 1) * SHARD_CAPACITY):
-            of.setdefault(id, []).append(_parsed(dict(zip(NAMES[word], columns))))
-    for id, key, saga, place, text, at, phase, end, ended, note, *others in rows:
+def _sagas(connection: Source, shard: int, rows: list[Row]) -> Iterator[Json]:
+    details: dict[str, dict[int, list[Json]]] = {}
+    for partial, query in (("results", RESULTS), ("requests", REQUESTS)):
+        by_saga: dict[int, list[Json]] = details.setdefault(partial, {})
+        for id, *columns in connection.ask(
+            query, shard * SHARD_CAPACITY, (shard + 1) * SHARD_CAPACITY
+        ):
+            by_saga.setdefault(id, []).append(_parsed(dict(zip(NAMES[partial], columns))))
+    for id, key, saga, index, text, at, phase, end, ended, note, *others in rows:
         recovered, deadline, parent, labels = others
-        told = {
+        fields = {
             "number": id % SHARD_CAPACITY,
             "key": key,
             "parent": None if parent is None else parent_of(key),
             "saga": saga,
-            "definition": place,
+            "definition": index,
             "input": json.loads(text),
             "started": at,
             "deadline": deadline,
@@ -126,34 +136,36 @@ def _sagas(link: Source, log: int, rows: list[Row]) -> Iterator[Json]:
             "note": note,
             "labels": queries.labels_of(labels),
         }
-        parsed = None if end is None else json.loads(end)  # of a damaged shard, it may be open
-        yield told | {"end": parsed} | {word: of.get(id, []) for word, of in more.items()}
+        parsed = None if end is None else json.loads(end)  # an open saga of a damaged shard
+        yield fields | {"end": parsed} | {
+            partial: by_saga.get(id, []) for partial, by_saga in details.items()
+        }
 
 
-def _parsed(told: Json) -> Json:
-    """Values that are kept as JSON."""
+def _parsed(fields: Json) -> Json:
+    """Parse the values that are stored as JSON."""
     return {
-        word: json.loads(value) if word in ("value", "answer") and value is not None else value
-        for word, value in told.items()
+        name: json.loads(value) if name in ("value", "answer") and value is not None else value
+        for name, value in fields.items()
     }
 
 
 def _plans(lines: str, rows: list[Row], texts: list[str]) -> Iterator[Json]:
     names = [[step["name"] for step in tomllib.loads(text)["step"]] for text in texts]
-    keys = {id % SHARD_CAPACITY: (key, place) for id, key, _, place, *_ in rows}
-    histories = {number: Projection(names[place]) for number, (_, place) in keys.items()}
+    keys = {id % SHARD_CAPACITY: (key, index) for id, key, _, index, *_ in rows}
+    histories = {number: Projection(names[index]) for number, (_, index) in keys.items()}
     for event in map(json.loads, lines.splitlines()):
         number = event["saga"]
-        (key, place), history = keys[number], histories[number]
+        (key, index), history = keys[number], histories[number]
         history.add(0.0, event)
         if event["event"] == "adopt" and history.adopted:
             case, answer = history.adopted
-            told = {"number": number, "key": key, "definition": place}
-            yield told | {"case": case, "answer": answer}
+            fields = {"number": number, "key": key, "definition": index}
+            yield fields | {"case": case, "answer": answer}
 
 
 def _plans_of(lines: str, rows: list[Row], texts: list[str]) -> str:
-    """The plans; none of a log that cannot be read, as of a damaged shard."""
+    """Return the plans; none of a log that cannot be read, as of a damaged shard."""
     try:
         return _jsonl(_plans(lines, rows, texts))
     except (ValueError, LookupError, TypeError):
@@ -166,13 +178,13 @@ def _jsonl(rows: Iterator[Json]) -> str:
 
 @contextmanager
 def _locked(folder: pathlib.Path) -> Iterator[int]:
-    """One program at a time writes into a folder."""
+    """Lock a folder: one program at a time writes into it."""
     held = os.open(folder, os.O_RDONLY | os.O_DIRECTORY | os.O_CLOEXEC)
     try:
         fcntl.flock(held, fcntl.LOCK_EX)
         yield held
     finally:
-        fcntl.flock(held, fcntl.LOCK_UN)  # also where a process that was just forked still has it
+        fcntl.flock(held, fcntl.LOCK_UN)  # a forked process may still have it open
         os.close(held)
 
 

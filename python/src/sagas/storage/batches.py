@@ -1,8 +1,9 @@
-"""Commands to many sagas, for example all of a filter: at most 1,000 a transaction.
+"""Commands to many sagas, for example to all of a filter: at most 1,000 per transaction.
 
-A command is left in the store for each saga, as for one (`operator_requests`): it is carried out by
-the program that drives the saga, also by a later one. So a batch that is interrupted has done its
-last transaction or has not begun the next one. The same abort again goes on with the rest.
+A command is stored for each saga, as a command to one saga is (`operator_requests`). The program
+that drives the saga executes it, or a later program does. If a batch is interrupted, its last
+transaction is complete, or the next one has not begun. The same abort can be repeated, and
+continues with the rest.
 """
 
 from __future__ import annotations
@@ -22,13 +23,13 @@ from sagas.storage.queries import PHASES, RESOLVABLE, RESOLVE, UNDOES_CHILD, UND
 
 T = TypeVar("T")
 MOST = 1000
-"""Sagas of one transaction."""
+"""Maximum number of sagas per transaction."""
 LOOK = 0.02, 0.25
-"""Seconds between two looks for answers: at first, and at most."""
+"""Seconds between two polls for answers: the first pause, and the longest."""
 ABORTABLE = f"""{PHASES["open"]} AND NOT {UNDOES_CHILD} AND NOT EXISTS (
 SELECT 1 FROM operator_commands r
 WHERE r.key = s.key AND r.command = 'abort' AND (r.answer IS NULL OR r.answer = 'true'))"""
-"""The sagas that are open, that undo no child, and of which no abort was asked by a command."""
+"""The sagas that are open, that undo no child, and that no command has aborted."""
 UNDOING = f"{PHASES['open']} AND {UNDOES_CHILD}"
 TO_RESOLVE = f"{RESOLVABLE} AND note IS NULL"
 NOTED = """
@@ -38,15 +39,15 @@ INSERT INTO operator_commands(key, command, value, at, answer) VALUES(?, 'resolv
 
 @dataclasses.dataclass(slots=True)
 class BatchResult:
-    """What a command to many sagas came to.
+    """The result of a command to many sagas.
 
     Attributes:
-        done: The keys of the sagas for which it is carried out.
+        done: The keys of the sagas for which it is executed.
         refused: Why it was refused, by key.
-        waiting: The keys of those that have no answer yet: it is carried out once their program
-            comes to it.
-        undoing: The keys of those that an abort left out, because each undoes a child.
-        warnings: What may be misspelt, if the filter selects nothing: labels that no saga has.
+        waiting: The keys of the sagas without an answer: their program will execute it later.
+        undoing: The keys of the sagas that an abort left out, because each undoes a child.
+        warnings: What may be misspelled, if the filter selects nothing: labels that no saga
+            has.
     """
 
     done: list[str] = dataclasses.field(default_factory=list)
@@ -56,155 +57,161 @@ class BatchResult:
     warnings: list[str] = dataclasses.field(default_factory=list)
 
 
-def resolve_one(link: Source, key: str, note: str, by: str | None = None) -> bool:
-    """Mark one saga as looked after, in a transaction of the caller. False where it is not one
-    that waits for this."""
-    if not link.changed(RESOLVE, note, key):
+def resolve_one(connection: Source, key: str, note: str, by: str | None = None) -> bool:
+    """Mark one saga as resolved, in a transaction of the caller.
+
+    Return False if the saga is not one that waits for this.
+    """
+    if not connection.changed(RESOLVE, note, key):
         return False
-    link.changed(NOTED, key, json.dumps({"by": by, "note": clean(note)}), link.now())
+    connection.changed(NOTED, key, json.dumps({"by": by, "note": clean(note)}), connection.now())
     return True
 
 
 class Batch:
-    """A command to the sagas of a filter, over a connection of its own. For a thread."""
+    """A command to the sagas of a filter, over its own connection. For a thread."""
 
-    def __init__(self, link: Source, filter: Filter, stop: threading.Event | None = None) -> None:
-        self._link, self._filter, self._stop = link, filter, stop or threading.Event()
+    def __init__(
+        self, connection: Source, filter: Filter, stop: threading.Event | None = None
+    ) -> None:
+        self._connection, self._filter, self._stop = connection, filter, stop or threading.Event()
         self._result = BatchResult()
 
     def abort_count(self) -> int:
-        """How many sagas `abort` is for now."""
-        waiting = len(self._link.waiting_starts(self._filter))
+        """Return how many sagas `abort` would abort now."""
+        waiting = len(self._connection.waiting_starts(self._filter))
         return self._count(ABORTABLE, UNDOING_KEYS) + waiting
 
     def undoing_count(self) -> int:
-        """How many sagas `abort` leaves out now, because they undo children."""
+        """Return how many sagas `abort` would leave out, because they undo children."""
         return self._count(UNDOING, UNDOING_KEYS)
 
     def resolve_count(self) -> int:
-        """How many sagas `resolve` is for now."""
+        """Return how many sagas `resolve` would mark now."""
         return self._count(TO_RESOLVE)
 
-    def abort(self, told: dict[str, Any] | None, timeout: float | None = None) -> BatchResult:
-        """Ask to abort them, and wait for the answers.
+    def abort(self, command: dict[str, Any] | None, timeout: float | None = None) -> BatchResult:
+        """Request to abort the sagas, and wait for the answers.
 
         Args:
-            told: What is kept of the command.
-            timeout: Seconds to wait at most for the answers; None: as long as a program has the
-                store.
+            command: What is stored of the command.
+            timeout: Maximum number of seconds to wait for the answers. With None, wait as long
+                as a program has the store open.
         """
-        value, after, asked = json.dumps(told), -1, dict[int, str]()
-        for key in self._link.waiting_starts(self._filter):
-            if self._link.withdraw(key):
+        value, after, requests = json.dumps(command), -1, dict[int, str]()
+        for key in self._connection.waiting_starts(self._filter):
+            if self._connection.withdraw(key):
                 self._result.done.append(key)
         until = None if timeout is None else time.monotonic() + timeout
         while not self._stop.is_set():
-            with self._link.transaction():
-                lot = self._lot(ABORTABLE, after, UNDOING_KEYS)
-                left = [(self._link.leave(id, "abort", value), key) for id, key in lot]
-            if not lot:
+            with self._connection.transaction():
+                rows = self._next_rows(ABORTABLE, after, UNDOING_KEYS)
+                left = [(self._connection.add_request(id, "abort", value), key) for id, key in rows]
+            if not rows:
                 break
-            after = lot[-1][0]
-            asked = {number: key for number, key in left if number is not None}
-            self._link.tell("requests")
-            self._result.waiting += self._await(asked, until, self._answered).values()
+            after = rows[-1][0]
+            requests = {number: key for number, key in left if number is not None}
+            self._connection.notify("requests")
+            self._result.waiting += self._await(requests, until, self._answered).values()
         self._result.undoing += self._undoing()
         return self._result
 
     def _undoing(self) -> Iterator[str]:
-        """The keys of the sagas that `abort` leaves out."""
+        """Return the keys of the sagas that `abort` leaves out."""
         after = -1
-        while not self._stop.is_set() and (lot := self._lot(UNDOING, after, UNDOING_KEYS)):
-            yield from (key for _, key in lot)
-            after = lot[-1][0]
+        while not self._stop.is_set() and (rows := self._next_rows(UNDOING, after, UNDOING_KEYS)):
+            yield from (key for _, key in rows)
+            after = rows[-1][0]
 
-    def ask(self, what: str, told: Sequence[tuple[int, Any]], timeout: float) -> list[Any]:
-        """Ask something of sagas: of all of them first, and then wait for the answers.
+    def ask(self, command: str, values: Sequence[tuple[int, Any]], timeout: float) -> list[Any]:
+        """Send a request to each of some sagas, and then wait for all answers.
 
         Args:
-            what: The command.
-            told: The ids of the sagas, each with what is kept of the command.
-            timeout: Seconds to wait at most for all answers.
+            command: The command.
+            values: The ids of the sagas, each with what is stored of the command.
+            timeout: Maximum number of seconds to wait for all answers.
 
         Returns:
-            The answers, in the same order: None where none has come yet, False where the saga is
-            gone.
+            The answers, in the same order: None if an answer is missing, and False if the saga
+                does not exist any more.
         """
-        answers: list[Any] = [None] * len(told)
-        lots: list[dict[int, int]] = []
-        for first in range(0, len(told), MOST):
-            lots.append({})
-            with self._link.transaction():
-                for place, (id, value) in enumerate(told[first : first + MOST], first):
-                    number = self._link.leave(id, what, json.dumps(value))
+        answers: list[Any] = [None] * len(values)
+        requests_of_batches: list[dict[int, int]] = []
+        for first in range(0, len(values), MOST):
+            requests_of_batches.append({})
+            with self._connection.transaction():
+                for index, (id, value) in enumerate(values[first : first + MOST], first):
+                    number = self._connection.add_request(id, command, json.dumps(value))
                     if number is None:
-                        answers[place] = False
+                        answers[index] = False
                     else:
-                        lots[-1][number] = place
-            self._link.tell("requests")
+                        requests_of_batches[-1][number] = index
+            self._connection.notify("requests")
         until = time.monotonic() + timeout
-        for asked in lots:
-            self._await(asked, until, answers.__setitem__)
+        for requests in requests_of_batches:
+            self._await(requests, until, answers.__setitem__)
         return answers
 
     def resolve(self, note: str, by: str | None) -> BatchResult:
-        """Mark them as looked after.
+        """Mark the sagas as resolved.
 
         Args:
             note: What was done about them.
-            by: Who did it.
+            by: The operator who did it.
         """
         while not self._stop.is_set():
-            with self._link.transaction():
-                lot = self._lot(TO_RESOLVE, -1)
-                for _, key in lot:
-                    resolve_one(self._link, key, note, by)
-            if not lot:
+            with self._connection.transaction():
+                rows = self._next_rows(TO_RESOLVE, -1)
+                for _, key in rows:
+                    resolve_one(self._connection, key, note, by)
+            if not rows:
                 break
-            self._result.done += [key for _, key in lot]
+            self._result.done += [key for _, key in rows]
         return self._result
 
-    def _count(self, condition: str, *given: Any) -> int:
-        where, words = self._filter.where()
-        query = f"SELECT count(*) FROM sagas s WHERE {condition} AND {where}"
-        return int(self._link.ask(query, *given, *words)[0][0])
+    def _count(self, condition: str, *condition_parameters: Any) -> int:
+        matches, parameters = self._filter.where()
+        query = f"SELECT count(*) FROM sagas s WHERE {condition} AND {matches}"
+        return int(self._connection.ask(query, *condition_parameters, *parameters)[0][0])
 
-    def _lot(self, condition: str, after: int, *given: Any) -> Sequence[Row]:
-        """The next sagas of the filter. `given`: the words of the condition."""
-        where, words = self._filter.where()
-        query = f"""SELECT id, key FROM sagas s WHERE {condition} AND {where} AND id > ?
+    def _next_rows(self, condition: str, after: int, *condition_parameters: Any) -> Sequence[Row]:
+        """Return the next sagas of the filter. `condition_parameters`: those of the condition."""
+        matches, parameters = self._filter.where()
+        query = f"""SELECT id, key FROM sagas s WHERE {condition} AND {matches} AND id > ?
         ORDER BY id LIMIT {MOST}"""
-        return self._link.ask(query, *given, *words, after)
+        return self._connection.ask(query, *condition_parameters, *parameters, after)
 
     def _await(
-        self, asked: dict[int, T], until: float | None, answered: Callable[[T, Any], None]
+        self, requests: dict[int, T], until: float | None, answered: Callable[[T, Any], None]
     ) -> dict[int, T]:
-        """Wait for answers; return what has none, as far as nobody has the store, or in time.
+        """Wait for answers, and return the requests that have none.
 
-        Of a request that is gone, the answer is False."""
-        pause, most = LOOK
-        while asked and not self._stop.is_set():
-            marks = ", ".join("?" * len(asked))
+        It stops when no program has the store open, and at the deadline. If a request does not
+        exist any more, its answer is False.
+        """
+        pause, longest = LOOK
+        while requests and not self._stop.is_set():
+            marks = ", ".join("?" * len(requests))
             query = f"SELECT id, answer FROM operator_commands WHERE id IN ({marks})"
-            rows = {number: answer for number, answer in self._link.ask(query, *asked)}
-            for number, one in list(asked.items()):
+            rows = {number: answer for number, answer in self._connection.ask(query, *requests)}
+            for number, item in list(requests.items()):
                 if number not in rows or rows[number] is not None:
-                    answered(one, json.loads(rows.get(number) or "false"))
-                    del asked[number]
+                    answered(item, json.loads(rows.get(number) or "false"))
+                    del requests[number]
             is_late = until is not None and time.monotonic() >= until
-            if not asked or is_late or not self._link.is_driven():
+            if not requests or is_late or not self._connection.is_driven():
                 break
             self._stop.wait(pause)
-            pause = min(most, 2 * pause)
-        return asked
+            pause = min(longest, 2 * pause)
+        return requests
 
     def _answered(self, key: str, answer: Any) -> None:
         if answer is True:
             self._result.done.append(key)
         else:
-            said = (
+            error = (
                 reason(answer)
                 if isinstance(answer, dict)
                 else "it has ended, or was aborted before"
             )
-            self._result.refused[key] = said
+            self._result.refused[key] = error

@@ -1,8 +1,8 @@
 """A database whose large values are in a blob store.
 
-A value is put before the commit of the row that refers to it. Rows that are read have the values
-again, so nothing above this knows of it. A value whose commit was refused is an orphan, which
-`Blobs.sweep` deletes, unless the values are those of another store (`blob_marks`).
+A value is stored before the commit of the row that refers to it. Rows that are read have the values
+again, so nothing above this module knows of it. If the commit is refused, the value is an orphan.
+`Blobs.sweep` deletes orphans, unless the values belong to another store (`blob_marks`).
 """
 
 from __future__ import annotations
@@ -23,19 +23,19 @@ from sagas.definition.payloads import ABSENT, Payloads
 from sagas.storage.blob_marks import Location, Marks
 
 if TYPE_CHECKING:
-    from sagas.storage.interface import Database, Then
+    from sagas.storage.interface import Database, CommitCallback
 
 AT_ONCE = 8
-"""Values that are put, or got, at the same time."""
+"""Maximum number of values that are stored or fetched at the same time."""
 PAUSES = (0.02, 0.1, 0.4)
-"""Seconds until a value is asked for again that could not be got."""
+"""Seconds between the attempts to fetch a value that could not be fetched."""
 AGE = 86_400.0
 """Seconds after which a value without a row is an orphan: its commit was refused long ago."""
 INPUT, RESULT, SHAPE = 4, 5, 1
-"""The places of the texts in the rows of sagas, attempts and shapes."""
+"""The columns of the texts in the rows of sagas, attempts and shapes."""
 DONE = ("commit", "ok")
 EVENT, HELD = 4, ("commit", "undone")
-"""Of results, those that no report needs any more."""
+"""The events of results that no report needs any more, and their column."""
 PATTERN = HEAD + "%"
 REFERRED = (
     "SELECT input FROM sagas WHERE id >= ? AND id < ? AND input LIKE ? "
@@ -46,18 +46,18 @@ Row = tuple[Any, ...]
 
 
 def _without(row: Row) -> Row:
-    """A row in which values that are elsewhere are absent."""
+    """Return a row in which values of the blob store are absent."""
     return tuple(ABSENT if isinstance(cell, str) and Reference.of(cell) else cell for cell in row)
 
 
 def referred(rows: Iterable[Row]) -> list[str]:
-    """The keys to which rows of `REFERRED` refer."""
-    found = (Reference.of(text) for (text,) in rows)
-    return [one.key for one in found if one is not None]
+    """Return the keys to which rows of `REFERRED` refer."""
+    references = (Reference.of(text) for (text,) in rows)
+    return [reference.key for reference in references if reference is not None]
 
 
 def within(first: int, end: int) -> tuple[Any, ...]:
-    """The words of `REFERRED` for the sagas of these ids."""
+    """Return the parameters of `REFERRED` for the sagas of these ids."""
     return (first, end, PATTERN) * 3
 
 
@@ -65,8 +65,8 @@ class Blobs:
     """The large values of a store.
 
     Attributes:
-        prefix: What the keys of this store begin with: others may have theirs in the same place.
-        other: Where the store is whose values are there, if they are not this one's.
+        prefix: The prefix of this store's keys: several stores may share a blob store.
+        other: The location of the other store, if the values belong to one.
         under_way: The keys of values whose rows are being committed.
     """
 
@@ -85,21 +85,23 @@ class Blobs:
         return Marks(file, secret, self._call, self._store)
 
     async def name(self, file: str, secret: bytes) -> None:
-        """Take the name that is the store's own, if the values are. Else what is put has a name of
-        its own: the store whose values they are knows nothing of it, and would delete it.
+        """Take the store's own prefix, if the values belong to this store.
+
+        Otherwise new values get another prefix. The store to which the values belong does not know
+        them, and would delete them.
         """
         self._marks = self.mark(file, secret)
         self._own = hashlib.sha256(b"blobs" + secret).hexdigest()[:16]
         try:
             await self._renew()
-        except Exception as error:  # also what no blob store may raise: values are put all the same
-            told = error if isinstance(error, SagasError) else type(error).__name__
-            logger.warning("%s: whose the blobs are could not be seen: %s", self._path, told)
+        except Exception as error:  # a blob store may raise anything, and values are still stored
+            detail = error if isinstance(error, SagasError) else type(error).__name__
+            logger.warning("%s: whose the blobs are could not be seen: %s", self._path, detail)
             self.prefix = secrets.token_hex(8)
         self._is_named.set()
 
     async def is_own(self) -> bool:
-        """Whether the values are this store's, and no other's. Raises `StoreUnavailable`."""
+        """Whether the values belong to this store. Raises `StoreUnavailable`."""
         await self._is_named.wait()
         return await self._renew()
 
@@ -113,22 +115,28 @@ class Blobs:
                 self.prefix = secrets.token_hex(8)
         return self.other is None
 
-    async def _call(self, function: Callable[..., Any], *words: Any) -> Any:
-        """Raises `KeyError`, and `BlobUnavailable` for anything else that a blob store raises."""
+    async def _call(self, function: Callable[..., Any], *arguments: Any) -> Any:
+        """Call a function of the blob store.
+
+        Raises `KeyError`, and `BlobUnavailable` for any other exception of the blob store.
+        """
         try:
             if inspect.iscoroutinefunction(function):
-                return await function(*words)
-            return await asyncio.to_thread(function, *words)
+                return await function(*arguments)
+            return await asyncio.to_thread(function, *arguments)
         except KeyError:
             raise
-        except Exception as error:  # it may have the value in its text
+        except Exception as error:  # its text may contain the value
             name = type(error).__name__
             raise BlobUnavailable(f"{self._path}: the blob store raised {name}") from error
 
     # -- written
 
     def is_large(self, text: str | None) -> bool:
-        """Whether a value goes into the blob store; one that looks as a reference always does."""
+        """Whether a value goes into the blob store.
+
+        A value that looks like a reference always does.
+        """
         if text is None:
             return False
         if 4 * len(text) <= self._threshold:
@@ -137,30 +145,30 @@ class Blobs:
         return size > self._threshold or text.startswith(HEAD)
 
     def large_rows(self, batches: Sequence[Batch]) -> list[tuple[list[Any], int, int]]:
-        """Where the large values are: the rows, the place of one, and the place in it."""
-        found: list[tuple[list[Any], int, int]] = []
+        """Return the locations of large values: the rows, the row's index, and the column."""
+        large: list[tuple[list[Any], int, int]] = []
         for batch in batches:
-            for place, opened in enumerate(batch.opened):
+            for index, opened in enumerate(batch.opened):
                 if self.is_large(opened[4]):
-                    found.append((batch.opened, place, INPUT))
-            for place, result in enumerate(batch.results):
+                    large.append((batch.opened, index, INPUT))
+            for index, result in enumerate(batch.results):
                 if result[4] in DONE and self.is_large(result[5]):
-                    found.append((batch.results, place, RESULT))
+                    large.append((batch.results, index, RESULT))
             shapes: list[Any] = batch.rare.shapes if batch.rare else []
-            for place, (_, shape) in enumerate(shapes):
+            for index, (_, shape) in enumerate(shapes):
                 if self.is_large(shape):
-                    found.append((shapes, place, SHAPE))
-        return found
+                    large.append((shapes, index, SHAPE))
+        return large
 
     async def put_all(self, large: Sequence[tuple[list[Any], int, int]]) -> None:
-        """Put values, and references into their rows. Raises `StoreUnavailable`."""
+        """Store values, and put references into their rows. Raises `StoreUnavailable`."""
         await self._is_named.wait()
-        texts = [rows[place][cell] for rows, place, cell in large]
-        ids = [rows[place][0] for rows, place, _ in large]
+        texts = [rows[index][cell] for rows, index, cell in large]
+        ids = [rows[index][0] for rows, index, _ in large]
         references = await asyncio.gather(*map(self._put, ids, texts))
-        for (rows, place, cell), reference in zip(large, references):
-            row = rows[place]
-            rows[place] = (*row[:cell], reference, *row[cell + 1 :])
+        for (rows, index, cell), reference in zip(large, references):
+            row = rows[index]
+            rows[index] = (*row[:cell], reference, *row[cell + 1 :])
 
     async def _put(self, id: int, text: str) -> str:
         key = f"{self.prefix}/{id:x}/{secrets.token_hex(16)}"
@@ -173,8 +181,9 @@ class Blobs:
     # -- read
 
     async def text(self, text: str) -> str:
-        """Return a value as it was before it was put; a reference whose value is not there stays.
-        Raises `BlobUnavailable`.
+        """Return the original value of a stored text.
+
+        A reference whose value is missing is returned as it is. Raises `BlobUnavailable`.
         """
         reference = Reference.of(text)
         if reference is None:
@@ -187,7 +196,7 @@ class Blobs:
         return data.decode("utf-8", "surrogatepass")
 
     async def _got(self, key: str) -> bytes:
-        """Get a value, at the last of some tries. Raises `KeyError`, `BlobUnavailable`."""
+        """Fetch a value, with several attempts. Raises `KeyError`, `BlobUnavailable`."""
         for pause in (*PAUSES, None):
             try:
                 async with self._places:
@@ -201,24 +210,25 @@ class Blobs:
 
     async def rows(self, rows: Sequence[Row]) -> list[Row]:
         """Return rows with their values."""
-        found = list(rows)
-        places = [
+        whole_rows = list(rows)
+        references = [
             (number, cell, text)
             for number, row in enumerate(rows)
             for cell, text in enumerate(row)
             if isinstance(text, str) and text.startswith(HEAD)
         ]
-        texts = await asyncio.gather(*(self.text(text) for _, _, text in places))
-        for (number, cell, _), text in zip(places, texts):
-            row = found[number]
-            found[number] = (*row[:cell], text, *row[cell + 1 :])
-        return found
+        texts = await asyncio.gather(*(self.text(text) for _, _, text in references))
+        for (number, cell, _), text in zip(references, texts):
+            row = whole_rows[number]
+            whole_rows[number] = (*row[:cell], text, *row[cell + 1 :])
+        return whole_rows
 
     # -- deleted
 
     async def delete(self, keys: Sequence[str]) -> None:
-        """Delete values to which no row refers any more, unless they are another store's. Raises
-        `StoreUnavailable`.
+        """Delete values to which no row refers any more, unless they belong to another store.
+
+        Raises `StoreUnavailable`.
         """
         if keys and await self.is_own():
             await self._delete(keys)
@@ -228,14 +238,15 @@ class Blobs:
             await self._call(self._store.delete, key)
 
     async def sweep(self, read: Callable[..., Any]) -> int:
-        """Delete orphans: values that were put long ago, and to which no row refers. Of values that
-        are another store's nothing is deleted.
+        """Delete orphans: old values to which no row refers.
+
+        If the values belong to another store, nothing is deleted.
 
         Args:
-            read: Rows of a query, with their references.
+            read: Returns the rows of a query, with their references.
 
         Returns:
-            How many were deleted.
+            The number of deleted values.
         """
         if not await self.is_own():
             return 0
@@ -245,16 +256,16 @@ class Blobs:
             by_id.setdefault(int(key.split("/")[1], 16), []).append(key)
         count = 0
         for id, keys in by_id.items():
-            there = set(self.under_way)
-            there.update(referred(await read(REFERRED, *within(id, id + 1))))
-            orphans = [key for key in keys if key not in there]
+            referred_keys = set(self.under_way)
+            referred_keys.update(referred(await read(REFERRED, *within(id, id + 1))))
+            orphans = [key for key in keys if key not in referred_keys]
             await self._delete(orphans)
             count += len(orphans)
         return count
 
 
 class BlobDatabase:
-    """A database in which no row has a large value; for its callers each has."""
+    """A database whose rows have no large values; its callers see them in each row."""
 
     def __init__(self, inner: Database, blobs: Blobs) -> None:
         self._inner, self.blobs = inner, blobs
@@ -273,22 +284,25 @@ class BlobDatabase:
             return inner
         return cast("Database", cls(inner, Blobs(store, threshold, payloads, inner.path)))
 
-    async def open(self, drives: Any) -> Any:
-        """As of the database; then the blobs of this store have their name."""
-        found = await self._inner.open(drives)
+    async def open(self, check_functions: Any) -> Any:
+        """Open the database. Then the blobs of this store get their prefix."""
+        rows = await self._inner.open(check_functions)
         naming = self.blobs.name(self._inner.file, await self._inner.secret())
         self._naming = asyncio.get_running_loop().create_task(naming)
-        return found
+        return rows
 
     async def close(self) -> None:
-        """As of the database."""
+        """Close the database."""
         if self._naming is not None:
             self._naming.cancel()
             await asyncio.wait([self._naming])
         await self._inner.close()
 
-    def commit(self, batches: Sequence[Batch], then: Then, now: bool) -> None:
-        """As `CommitWriter.commit`. The values are put first; meanwhile nothing else is written."""
+    def commit(self, batches: Sequence[Batch], then: CommitCallback, now: bool) -> None:
+        """Store the large values, and then commit. See `CommitWriter.commit`.
+
+        Nothing else is written until the values are stored.
+        """
         large = self.blobs.large_rows(batches)
         if not large:
             self._inner.commit(batches, then, now)
@@ -298,22 +312,28 @@ class BlobDatabase:
         task.add_done_callback(self._putting.discard)
 
     async def _put(
-        self, large: Sequence[tuple[list[Any], int, int]], batches: Sequence[Batch], then: Then
+        self,
+        large: Sequence[tuple[list[Any], int, int]],
+        batches: Sequence[Batch],
+        then: CommitCallback,
     ) -> None:
-        def settled(*told: Any) -> None:
-            self.blobs.under_way.clear()  # one commit is made at a time
-            then(*told)
+        def committed(*result: Any) -> None:
+            self.blobs.under_way.clear()  # there is one commit at a time
+            then(*result)
 
         try:
             await self.blobs.put_all(large)
         except Exception as error:
-            settled(batches, error, frozenset())
+            committed(batches, error, frozenset())
         else:
-            self._inner.commit(batches, settled, True)
+            self._inner.commit(batches, committed, True)
 
-    async def load(self, log: int, epoch: int, born: Born | None) -> Loaded | None:
-        """As of the database: large values of open sagas are read when a function needs them."""
-        loaded = await self._inner.load(log, epoch, born)
+    async def load(self, shard: int, epoch: int, born: Born | None) -> Loaded | None:
+        """Load a shard. See `Database.load`.
+
+        The large values of open sagas are fetched when a function needs them.
+        """
+        loaded = await self._inner.load(shard, epoch, born)
         if loaded is not None:
             loaded.open = cast(Any, [_without(row) for row in loaded.open])
             held = [_without(row) if row[EVENT] in HELD else row for row in loaded.results]
@@ -321,11 +341,11 @@ class BlobDatabase:
         return loaded
 
     async def known(self, row: SagaRow) -> Known:
-        """As of the database."""
+        """See `StoreReader.known`."""
         return await self._whole(await self._inner.known(row))
 
     async def history(self, row: SagaRow) -> Known:
-        """As of the database."""
+        """See `StoreReader.history`."""
         return await self._whole(await self._inner.history(row))
 
     async def _whole(self, known: Known) -> Known:
@@ -333,18 +353,18 @@ class BlobDatabase:
         results = cast(Any, await self.blobs.rows(known.results))
         return known._replace(results=results, shape=shape)
 
-    async def read(self, query: str, *words: Any) -> list[Row]:
-        """As of the database."""
-        return await self.blobs.rows(await self._inner.read(query, *words))
+    async def read(self, query: str, *arguments: Any) -> list[Row]:
+        """See `StoreReader.read`."""
+        return await self.blobs.rows(await self._inner.read(query, *arguments))
 
-    async def read_stored(self, query: str, *words: Any) -> list[Row]:
-        """As of the database."""
-        return await self._inner.read(query, *words)
+    async def read_stored(self, query: str, *arguments: Any) -> list[Row]:
+        """See `StoreReader.read_stored`."""
+        return await self._inner.read(query, *arguments)
 
-    async def read_long(self, query: str, *words: Any) -> list[Row]:
-        """As of the database."""
-        return await self.blobs.rows(await self._inner.read_long(query, *words))
+    async def read_long(self, query: str, *arguments: Any) -> list[Row]:
+        """See `StoreReader.read_long`."""
+        return await self.blobs.rows(await self._inner.read_long(query, *arguments))
 
     async def swept(self) -> int:
-        """Delete what no row refers to; how many that were."""
+        """Delete the values to which no row refers, and return their number."""
         return await self.blobs.sweep(self._inner.read)

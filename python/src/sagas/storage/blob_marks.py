@@ -1,9 +1,10 @@
-"""The marks by which a store knows that the values in a blob store are its own.
+"""Marks by which a store knows that the values in a blob store are its own.
 
-A copy of a store refers to the values of the original, and does not know of those that the original
-put later: it would take them for orphans. So a store deletes values only if it has the mark that is
-in the blob store. A mark is a random token, which the store has too, and says where the store is.
-Each check puts a new one in its place, so that a copy has an older token, or is elsewhere.
+A copy of a store refers to the values of the original. It does not know the values that the
+original stores later, and would take them for orphans. So a store deletes values only if it has the
+mark that is in the blob store. A mark is a random token, which the store has too, and the store's
+location. Each check replaces the mark with a new one, so that a copy has an older token or another
+location.
 """
 
 from __future__ import annotations
@@ -21,8 +22,10 @@ from sagas.base.errors import StoreUnavailable
 from sagas.storage import admin, factory
 
 TURNS, PAUSE = 4, 0.25
-"""How often the marks are looked at before they are taken for another store's, and seconds between
-two looks: another node may be about to put a new one."""
+"""The number of checks before the marks count as those of another store, and the pause in seconds.
+
+Another node may be about to put a new mark.
+"""
 LATER = 10 * 86_400.0
 """Seconds by which the clocks of a blob store's machines may differ."""
 NOTED = "SELECT value FROM secrets WHERE name = 'blobs'"
@@ -35,57 +38,60 @@ Call = Callable[..., Awaitable[Any]]
 
 
 class Location(NamedTuple):
-    """Where a store is: its name for people, and what no copy has."""
+    """The location of a store: a name for people, and an id that no copy has."""
 
     name: str
     id: str
 
     def written(self) -> bytes:
-        """As a mark has it."""
+        """Return the location as a mark contains it."""
         return json.dumps({"store": self.name, "id": self.id}).encode()
 
     @classmethod
     def read(cls, data: bytes) -> Location:
-        """What a mark has."""
+        """Return the location that a mark contains."""
         try:
-            told = json.loads(data)
-            return cls(str(told["store"]), str(told["id"]))
+            fields = json.loads(data)
+            return cls(str(fields["store"]), str(fields["id"]))
         except (ValueError, KeyError, TypeError):
             return cls("another store", "")
 
 
 class Notes:
-    """What a store has of its marks: tokens, with blanks between. Each method is for a thread."""
+    """The tokens that a store has of its marks, separated by blanks.
+
+    Each method is for a thread.
+    """
 
     def __init__(self, file: str) -> None:
         self._file = file
 
     def location(self) -> Location:
-        """Where the store is."""
-        with admin.writing(self._file) as link:
+        """Return the location of the store."""
+        with admin.writing(self._file) as connection:
             if factory.is_url(self._file):
-                server = link.ask(SERVER)[0][0] if link.ask(MAY)[0][0] else ""
-                return Location(link.name, f"{server}/{link.ask(DATABASE)[0][0]}")
+                server = connection.ask(SERVER)[0][0] if connection.ask(MAY)[0][0] else ""
+                return Location(connection.name, f"{server}/{connection.ask(DATABASE)[0][0]}")
             path = os.path.realpath(self._file)
             return Location(path, f"{path} {os.stat(path).st_ino}")
 
     def tokens(self) -> str:
-        """The tokens that are noted."""
-        with admin.writing(self._file) as link:
-            return "".join(value for (value,) in link.ask(NOTED))
+        """Return the tokens that the store has."""
+        with admin.writing(self._file) as connection:
+            return "".join(value for (value,) in connection.ask(NOTED))
 
     def change(self, before: str, tokens: str) -> bool:
-        """Note other tokens, unless others than `before` are noted by now."""
-        with admin.writing(self._file) as link:
-            link.changed(NOTE)
-            return bool(link.changed(CHANGE, tokens, before))
+        """Replace the tokens, unless they are no longer those of `before`."""
+        with admin.writing(self._file) as connection:
+            connection.changed(NOTE)
+            return bool(connection.changed(CHANGE, tokens, before))
 
 
 class Marks:
     """The marks of one store in a blob store."""
 
     def __init__(self, file: str, secret: bytes, call: Call, store: Any) -> None:
-        """`call`: calls a function of the blob store."""
+        """Create the marks of a store. `call` calls a function of the blob store."""
         self._notes, self._call, self._store = Notes(file), call, store
         self._prefix = hashlib.sha256(b"marks" + secret).hexdigest()[:16]
         self._mine: str | None = None
@@ -94,71 +100,79 @@ class Marks:
         return f"{self._prefix}/{token}"
 
     async def _there(self) -> dict[str, Location]:
-        """The marks that are in the blob store."""
-        found = {}
+        """Return the marks that are in the blob store, by token."""
+        marks = {}
         for key in await self._call(self._store.keys, f"{self._prefix}/", time.time() + LATER):
             try:
                 data: bytes = await self._call(self._store.get, key)
-            except KeyError:  # deleted meanwhile
+            except KeyError:  # another program deleted it
                 continue
-            found[key.rpartition("/")[2]] = Location.read(data)
-        return found
+            marks[key.rpartition("/")[2]] = Location.read(data)
+        return marks
 
     async def renew(self) -> Location | None:
-        """Put a new mark in place of those of this store.
+        """Replace the marks of this store with a new one.
 
         Returns:
-            None if the values are this store's; else where the store is whose they are.
+            None if the values belong to this store, else the location of the store that owns
+                them.
 
         Raises:
             StoreUnavailable: The blob store or the database does not answer.
         """
-        here = await _beside(self._notes.location)
+        own_location = await _in_thread(self._notes.location)
         for turn in range(TURNS):
             if turn:
                 await asyncio.sleep(PAUSE)
-            noted: str = await _beside(self._notes.tokens)
-            there = await self._there()
+            noted: str = await _in_thread(self._notes.tokens)
+            marks = await self._there()
             own = set(noted.split())
-            others = [place for token, place in there.items() if token not in own]
-            others += [place for place in there.values() if place.id != here.id]
-            if not others and await self._replace(noted, [*own], here):
+            others = [location for token, location in marks.items() if token not in own]
+            others += [location for location in marks.values() if location.id != own_location.id]
+            if not others and await self._replace(noted, [*own], own_location):
                 return None
         if not others:
-            raise StoreUnavailable(f"{here.name}: other nodes change the marks of the blob store")
-        if self._mine is not None and self._mine not in there:
-            # this store had the values, and another one took them: neither deletes any from now on
-            await self._call(self._store.put, self._key(self._mine), here.written())
+            raise StoreUnavailable(
+                f"{own_location.name}: other nodes change the marks of the blob store"
+            )
+        if self._mine is not None and self._mine not in marks:
+            # another store took the values of this one: neither deletes any from now on
+            await self._call(self._store.put, self._key(self._mine), own_location.written())
         return others[0]
 
     async def take(self) -> None:
-        """Put a mark of this store in place of all that there are."""
-        here = await _beside(self._notes.location)
+        """Replace all marks with one of this store."""
+        own_location = await _in_thread(self._notes.location)
         for _ in range(TURNS):
-            noted: str = await _beside(self._notes.tokens)
-            if await self._replace(noted, [*await self._there()], here):
+            noted: str = await _in_thread(self._notes.tokens)
+            if await self._replace(noted, [*await self._there()], own_location):
                 return
-        raise StoreUnavailable(f"{here.name}: other nodes change the marks of the blob store")
+        raise StoreUnavailable(
+            f"{own_location.name}: other nodes change the marks of the blob store"
+        )
 
-    async def _replace(self, noted: str, before: list[str], here: Location) -> bool:
-        """Put a mark in place of others. False: another program notes tokens, too."""
+    async def _replace(self, noted: str, before: list[str], own_location: Location) -> bool:
+        """Replace marks with a new one.
+
+        Return False if another program changes the tokens, too.
+        """
         new = secrets.token_hex(16)
         both = " ".join([*noted.split(), new])
-        if not await _beside(self._notes.change, noted, both):
+        if not await _in_thread(self._notes.change, noted, both):
             return False
-        await self._call(self._store.put, self._key(new), here.written())
+        await self._call(self._store.put, self._key(new), own_location.written())
         for token in before:
             await self._call(self._store.delete, self._key(token))
-        if not await _beside(self._notes.change, both, new):
+        if not await _in_thread(self._notes.change, both, new):
             await self._call(self._store.delete, self._key(new))
             return False
         self._mine = new
         return True
 
 
-async def _beside(function: Callable[..., Any], *words: Any) -> Any:
-    """Ask the database in a thread."""
+async def _in_thread(function: Callable[..., Any], *arguments: Any) -> Any:
+    """Query the database in a thread."""
     try:
-        return await asyncio.to_thread(function, *words)
+        return await asyncio.to_thread(function, *arguments)
     except (admin.Trouble, OSError) as error:
         raise StoreUnavailable(str(error)) from error

@@ -9,14 +9,14 @@ from sagas.base.module_values import loaded
 from sagas.storage.folder_blobs import FolderBlobStore
 
 
-def blobs_of(place: str) -> Any:
+def blobs_of(location: str) -> Any:
     """Return the blob store that an option names.
 
     Raises:
         ValueError: It is neither a folder nor something that a module has.
     """
-    if ":" in place:
-        return loaded("--blobs", place)
-    if pathlib.Path(place).exists() and not pathlib.Path(place).is_dir():
-        raise ValueError(f"--blobs {place}: this is a file; pass a directory, or MODULE:NAME")
-    return FolderBlobStore(place)
+    if ":" in location:
+        return loaded("--blobs", location)
+    if pathlib.Path(location).exists() and not pathlib.Path(location).is_dir():
+        raise ValueError(f"--blobs {location}: this is a file; pass a directory, or MODULE:NAME")
+    return FolderBlobStore(location)

@@ -1,8 +1,8 @@
-"""The table `webhook_deliveries`: what is posted to webhooks, and how that went.
+"""The table `webhook_deliveries`: posts to webhooks, and their results.
 
-A row is written in the commit of what it tells of (core/announcements.py). Whoever posts it claims
-it first: then nobody else claims it until `due`, so that it is posted again where that program
-ends. How a post went is written only under the newest claim.
+A row is written in the commit of the event that it reports (core/announcements.py). A program
+claims a delivery before it posts it. No other program claims it until `due`. So if the program
+ends, the delivery is posted again. The result of a post is written only under the newest claim.
 """
 
 from __future__ import annotations
@@ -15,7 +15,7 @@ from sagas.core.batch import Batch
 
 
 class DeliveryState(enum.StrEnum):
-    """Where a delivery stands."""
+    """The state of a delivery."""
 
     PENDING = "pending"
     DELIVERED = "delivered"
@@ -24,7 +24,7 @@ class DeliveryState(enum.StrEnum):
 
 
 class Claimed(NamedTuple):
-    """A delivery that is to be posted now. `attempts`: with this one."""
+    """A delivery to be posted now. `attempts` includes this one."""
 
     id: str
     type: str
@@ -35,8 +35,11 @@ class Claimed(NamedTuple):
 
 
 class Posted(NamedTuple):
-    """How a post went: the state after it, the status of the answer, why there was none, and
-    seconds until the next attempt, or None."""
+    """The result of a post.
+
+    It has the new state of the delivery, the status of the response, the error if there was none,
+    and the seconds until the next attempt, or None.
+    """
 
     state: DeliveryState
     status: Optional[int]
@@ -71,13 +74,16 @@ COLUMNS = "id, webhook, type, saga, key, body, at"
 
 
 class Deliveries(Protocol):
-    """The table, for a program that has the store open. All raise `StoreUnavailable`."""
+    """The table, for a program that has the store open.
+
+    All methods raise `StoreUnavailable`.
+    """
 
     def begin(self, write: Callable[[Batch], Awaitable[None]], clock: Callable[[], float]) -> None:
-        """`write`: puts a batch into the next transaction."""
+        """Start the use of the table. `write` adds a batch to the next transaction."""
 
-    async def change(self, text: str, **words: Any) -> list[tuple[Any, ...]]:
-        """Carries out one of these statements, in a transaction of its own."""
+    async def change(self, text: str, **parameters: Any) -> list[tuple[Any, ...]]:
+        """Execute one of these statements in its own transaction, and return its rows."""
 
-    async def ask(self, text: str, **words: Any) -> list[tuple[Any, ...]]:
-        """Rows of one that changes nothing."""
+    async def ask(self, text: str, **parameters: Any) -> list[tuple[Any, ...]]:
+        """Return the rows of a statement that changes nothing."""

@@ -1,11 +1,10 @@
-"""The table `external_attempts`: its statements, for both databases.
+"""The table `external_attempts`: attempts that external workers execute.
 
-Work done elsewhere, as a store's table `external_attempts` has it: what may be asked of it, in
-each database's words.
+The module has the interface of the table, and the statements that both databases share.
 
-The row of an attempt is written in the commit that offers it. Any node claims it, with a lease
-that ends by the database's clock, and takes its report; the node that drives its shard reports
-that into the shard, and settles the row in the same commit, under the shard's epoch.
+The row of an attempt is written in the commit that offers it. Any node claims it, with a lease that
+ends by the database's clock, and accepts its report. The node that drives the shard of the attempt
+writes the report into the shard, and closes the row in the same commit, under the shard's epoch.
 """
 
 from __future__ import annotations
@@ -24,9 +23,12 @@ REPORTED = "outcome IN ('succeeded', 'failed', 'failed_permanently', 'unknown')"
 REPORTED_IN_PAIRS = (
     "(outcome IN ('succeeded', 'failed') OR outcome IN ('failed_permanently', 'unknown'))"
 )
-"""The same, for SQLite: it makes a table for each list of more than two values whenever it looks at
-one. Measured on 2026-11-28, in instructions: an update of an outcome takes 50,000 in place of
-112,000 by the condition of the index."""
+"""The same condition, for SQLite.
+
+SQLite makes a temporary table whenever it evaluates a list of more than two values. Measured on
+2026-11-28: an update of an outcome takes 50,000 instructions instead of 112,000 with the condition
+of the index.
+"""
 OFFERED_AGAIN = """
 task = excluded.task, lease = CASE WHEN excluded.lease IS NULL THEN e.lease
   ELSE greatest(excluded.lease, coalesce(e.lease, 0) + 1) END,
@@ -35,31 +37,45 @@ until = CASE WHEN e.outcome IS NULL THEN e.until END, outcome = NULL,
 cancelled = coalesce(excluded.cancelled, e.cancelled)
 WHERE e.outcome IS NULL OR e.outcome IN ('suspended', 'withdrawn') OR e.outcome = 'person'
 """
-"""One that is offered already keeps its place and its lease; what a worker reported stands. The
-task may have a name that an older release gave it."""
-TAKES = """(
+"""What changes if an attempt is offered again.
+
+Its position in the queue and its lease stay, and so does a worker's report. The task may have a
+name that an older release gave it.
+"""
+REPORT_COUNTS = """(
   {outcome} = 'succeeded' AND lease >= {lease}
     AND (outcome IS NULL OR outcome IN ('unknown', 'suspended')
       OR outcome IN ('failed', 'failed_permanently'))
   OR lease = {lease} AND (reported IS NULL OR reported <> {lease})
     AND (outcome IS NULL OR outcome = 'suspended' AND {outcome} <> 'unknown'))"""
-"""Whether a report counts: *done* under any lease, the others under the newest. *Done* takes the
-place of a failure that is not settled yet, and *unknown* gives way to it."""
+"""Whether a report counts: a success under any lease, the other outcomes under the newest lease.
+
+A success replaces a failure that no commit has handled yet, and `unknown` gives way to it.
+"""
 
 
 UNCLAIMED = f"lease IS NULL AND ({OPEN} OR outcome = 'withdrawn')"
-"""Whether an attempt may be withdrawn. Also one that is withdrawn: that answer may be lost."""
+"""Whether an attempt may be withdrawn.
+
+An attempt that is already withdrawn counts too, because the first answer may have been lost.
+"""
 
 
 def earlier(since: float, worker: str, lease: int, until: float | None) -> str:
-    """The spans of a lease that ended without a report, and of the wait for the next worker."""
+    """Return the spans of a lease that ended without a report, as JSON.
+
+    They include the wait for the next worker, if the lease has expired.
+    """
     ended = [] if until is None else [["external", until, None]]
     return json.dumps([[LEASED_WORD, since, None, worker, lease], *ended])
 
 
 class Claim(NamedTuple):
-    """An attempt that was claimed, for how many seconds, why its saga is being undone, if it is,
-    and whether an earlier lease of it had run out."""
+    """A claimed attempt.
+
+    It has the seconds of its lease, why its saga is being undone, if it is, and whether an earlier
+    lease of it had expired.
+    """
 
     attempt: str
     lease: int
@@ -71,17 +87,20 @@ class Claim(NamedTuple):
     is_takeover: bool
 
 
-class Wanted(NamedTuple):
-    """A claim of attempts of these tasks: the maximum number, and the seconds of a lease."""
+class ClaimRequest(NamedTuple):
+    """A claim of attempts of these tasks.
+
+    It has the maximum number of attempts, and the seconds of a lease.
+    """
 
     tasks: tuple[str, ...]
-    most: int
+    limit: int
     seconds: float
     worker: str
 
 
-class Reported(NamedTuple):
-    """How an attempt ended, as it is reported under a lease."""
+class ReportRequest(NamedTuple):
+    """The outcome of an attempt, as a worker reports it under a lease."""
 
     attempt: str
     lease: int
@@ -89,10 +108,10 @@ class Reported(NamedTuple):
     value: str
 
 
-Asked = Union[Wanted, Reported]
+ExternalRequest = Union[ClaimRequest, ReportRequest]
 
 
-class Beat(NamedTuple):
+class Heartbeat(NamedTuple):
     """For how many seconds a lease holds, and why the task is to be undone, if it is."""
 
     seconds: float
@@ -100,8 +119,10 @@ class Beat(NamedTuple):
 
 
 class Row(NamedTuple):
-    """What is kept of an attempt: the newest lease, how it ended, and under which lease that was
-    said."""
+    """What is stored of an attempt.
+
+    It has the newest lease, the outcome, and the lease under which that outcome was reported.
+    """
 
     lease: int | None
     outcome: str | None
@@ -110,15 +131,19 @@ class Row(NamedTuple):
 
 
 class Report(NamedTuple):
-    """How an attempt ended, as it was reported."""
+    """The outcome of an attempt, as it was reported."""
 
     attempt: str
     outcome: str
     value: str
 
 
-class Waiting(NamedTuple):
-    """Of a task how many wait for a worker, since when the first, and how many are leased."""
+class QueueState(NamedTuple):
+    """The queue of one task.
+
+    It has the number of attempts that wait for a worker, the time of the oldest one, and the number
+    of leases.
+    """
 
     task: str
     ready: int
@@ -127,10 +152,13 @@ class Waiting(NamedTuple):
 
 
 class ExternalAttempts(Protocol):
-    """The table, for a program that has the store open. All raise `StoreUnavailable`."""
+    """The table, for a program that has the store open.
+
+    All methods raise `StoreUnavailable`.
+    """
 
     deliveries: Deliveries
-    """What is posted to webhooks."""
+    """The deliveries to webhooks."""
 
     def begin(
         self,
@@ -138,35 +166,45 @@ class ExternalAttempts(Protocol):
         clock: Callable[[], float],
         unwanted: Callable[[Sequence[Claim]], object],
     ) -> None:
-        """`write`: puts a batch into the next transaction. `unwanted`: called with claims whose
-        caller was cancelled before it received them."""
+        """Start the use of the table.
+
+        Args:
+            write: Adds a batch to the next transaction.
+            clock: Returns the time of attempts and leases.
+            unwanted: Called with claims whose caller was cancelled before it received them.
+        """
 
     async def claim(
-        self, tasks: Sequence[str], limited: Sequence[str], most: int, seconds: float, worker: str
+        self, tasks: Sequence[str], limited: Sequence[str], limit: int, seconds: float, worker: str
     ) -> list[Claim]:
-        """Leases of attempts that wait, those first that have waited longest. `limited`: those of
-        the tasks that have a concurrency."""
+        """Lease attempts that wait, the oldest first.
 
-    async def heartbeat(self, attempt: str, lease: int, seconds: float) -> Beat | None:
-        """Keeps a lease; None where it is not the newest, or is over."""
+        `limited`: those of the tasks that have a concurrency limit.
+        """
+
+    async def heartbeat(self, attempt: str, lease: int, seconds: float) -> Heartbeat | None:
+        """Extend a lease. Return None if it is not the newest one, or has ended."""
 
     async def advance(self, attempt: str, fraction: float, detail: str | None, at: float) -> None:
-        """Keeps how far the worker is that has an attempt."""
+        """Store the progress of an attempt."""
 
     async def report(self, attempt: str, lease: int, outcome: str, value: str) -> int | None:
-        """Keeps how an attempt ended, and gives its shard; None where it does not count."""
+        """Store the outcome of an attempt, and return its shard.
+
+        Return None if the report does not count.
+        """
 
     async def find(self, attempt: str) -> Row | None:
-        """What is kept of an attempt."""
+        """Return what is stored of an attempt."""
 
     async def outcomes(self, attempts: Sequence[str]) -> dict[str, str | None]:
-        """The outcomes of these attempts, as far as they have rows; None of open ones."""
+        """Return the outcomes of those attempts that have rows; None for open ones."""
 
     async def reported(self, shards: Sequence[int]) -> list[Report]:
-        """What was reported of attempts of these shards, and is not settled."""
+        """Return the reports on attempts of these shards that no commit has handled."""
 
-    async def waiting(self) -> list[Waiting]:
-        """What waits for workers, or is leased, by task."""
+    async def waiting(self) -> list[QueueState]:
+        """Return what waits for workers, or is leased, by task."""
 
-    async def tell(self) -> None:
-        """Wakes the node that drives a shard of which something was reported."""
+    async def notify_owners(self) -> None:
+        """Wake the nodes that drive shards with new reports."""

@@ -1,4 +1,4 @@
-"""The database that a store's name means."""
+"""The database that a store's name selects."""
 
 from __future__ import annotations
 
@@ -11,7 +11,7 @@ from sagas.definition import definition_text
 from sagas.definition.compiled import digest_of
 from sagas.definition.shelf import Shelf
 from sagas.storage.interface import Database
-from sagas.storage.record_file import told_path
+from sagas.storage.record_file import record_path
 from sagas.storage.sqlite.storage import Sqlite
 
 SCHEMES = ("postgresql:", "postgres:")
@@ -21,17 +21,19 @@ NO_FILE = re.compile(
     r"|(?:host|hostaddr|port|dbname|user|password|passfile|service)\s*=|\w+\s*=.*\s\w+\s*=",
     re.IGNORECASE | re.DOTALL,
 )
-"""What is meant for a database, and is no URL of one."""
+"""Names that are meant for a database, and are not a valid URL of one."""
 
 
 def is_url(name: str) -> bool:
-    """Whether it names a PostgreSQL database, and not a file."""
+    """Whether a name is that of a PostgreSQL database, and not of a file."""
     return name.startswith(SCHEMES)
 
 
 def check_name(name: str) -> None:
-    """Raises `InvalidStore`, with what to give instead, where it is neither a file's nor the URL
-    of a PostgreSQL database. What may have a password is not repeated.
+    """Check that a name is the path of a file, or the URL of a PostgreSQL database.
+
+    Raises `InvalidStore`, which says what to write instead. It repeats no text that may have a
+    password.
     """
     if is_url(name):
         return
@@ -40,22 +42,22 @@ def check_name(name: str) -> None:
             f"{name}: must be the path of a file. In memory, for a test: sagas.testing.run"
         )
     text = name.strip()
-    found = NO_FILE.match(text)
-    if found and found["scheme"] == "sqlite":
+    match = NO_FILE.match(text)
+    if match and match["scheme"] == "sqlite":
         raise InvalidStore(
             f"{name}: name a SQLite store by its path: "
             f"{text[len('sqlite://'):].removeprefix('/')}"
         )
-    if found:
-        kind = f"{found['scheme']}://" if found["scheme"] else "a list of words"
-        if found["url"] or is_url(text):
-            kind = "a URL behind a space" if is_url(text) else "a misspelled URL"
-        raise InvalidStore(f"{kind}: a store is an SQLite file, or {FORM}")
+    if match:
+        form = f"{match['scheme']}://" if match["scheme"] else "a list of words"
+        if match["url"] or is_url(text):
+            form = "a URL behind a space" if is_url(text) else "a misspelled URL"
+        raise InvalidStore(f"{form}: a store is an SQLite file, or {FORM}")
 
 
 def missing(error: ImportError) -> InvalidStore:
-    """What to do where PostgreSQL's client is not installed."""
-    if error.name is None:  # psycopg is there, and finds no libpq
+    """Return the error for a missing PostgreSQL client, with what to install."""
+    if error.name is None:  # psycopg is installed, but does not find libpq
         return InvalidStore(
             f"PostgreSQL: {str(error).splitlines()[0]} psycopg needs libpq: apt-get install "
             "libpq5, or pip install 'psycopg[binary]'"
@@ -68,17 +70,19 @@ def missing(error: ImportError) -> InvalidStore:
 
 def make(
     name: str,
-    shelf: Shelf,
+    definitions: Shelf,
     node: str | None,
     lease: float,
-    most: int,
+    max_connections: int,
     transactions: Callable[..., Any],
     record: str | None = None,
 ) -> Database:
-    """The database of that name, not yet opened. `transactions` and `record`: as of `PostgreSQL`;
-    without the latter the environment says it.
+    """Return the database of that name, not yet opened.
 
-    Raises `InvalidStore` where what it needs is not installed, and `DefinitionError`.
+    `transactions` and `record` are those of `PostgreSQL`. Without `record`, the environment names
+    the file.
+
+    Raises `InvalidStore` if something that it needs is not installed, and `DefinitionError`.
     """
     check_name(name)
     if not is_url(name):
@@ -89,7 +93,7 @@ def make(
             )
         for step in (
             step
-            for saga in shelf.sagas.values()
+            for saga in definitions.sagas.values()
             for step in saga.all_steps
             if step.run.transaction or step.undo.transaction
         ):
@@ -97,27 +101,27 @@ def make(
                 f"{step.where}: saga {step.saga.name!r}, step {step.name!r}: transaction=True "
                 f"needs PostgreSQL, and {name} is a SQLite file"
             )
-        return Sqlite(name, shelf.payloads.codec is not None)
+        return Sqlite(name, definitions.payloads.codec is not None)
     try:
         from sagas.storage.postgresql.storage import PostgreSQL
     except ImportError as error:
         raise missing(error) from error
-    names = {f"{kind.name}/{kind.version}": kind.text for kind in shelf.kinds}
-    names |= {
+    compiled_names = {f"{kind.name}/{kind.version}": kind.text for kind in definitions.kinds}
+    compiled_names |= {
         f"{saga.name}/{saga.version}": definition_text.declared(saga)
-        for saga in shelf.sagas.values()
+        for saga in definitions.sagas.values()
         if saga.is_shaped
     }
-    kinds = [f"{name}/{digest_of(text)}" for name, text in names.items()]
+    kinds = [f"{name}/{digest_of(text)}" for name, text in compiled_names.items()]
     return PostgreSQL(
         name,
         node=node,
         lease=lease,
-        most=most,
-        sagas=[*names, *kinds],
+        max_connections=max_connections,
+        sagas=[*compiled_names, *kinds],
         kinds=kinds,
-        version=shelf.shelf,
+        version=definitions.shelf,
         transactions=transactions,
-        record=told_path(record),
-        encodes=shelf.payloads.codec is not None,
+        record=record_path(record),
+        encodes=definitions.payloads.codec is not None,
     )

@@ -1,4 +1,4 @@
-"""Which sagas a list or a command means."""
+"""The sagas that a list or a command selects."""
 
 from __future__ import annotations
 
@@ -17,26 +17,28 @@ MISSES = "('missed', 'fail', 'undo_missed', 'undo_fail')"
 """The events of attempts whose value has an error."""
 LABELED = "s.id IN (SELECT id FROM labels WHERE name = ? AND value = ?)"
 WITH_LABEL = "(SELECT b.value FROM labels b WHERE b.id = s.id AND b.name = ?) = ?"
-"""For sagas that come in an order, or that something else has selected: each one's label is looked
-up."""
+"""For sagas in an order, or sagas that another condition has selected.
+
+The label of each saga is looked up.
+"""
 KEYED = "s.id IN (SELECT id FROM sagas WHERE instr(key, ?) > 0)"
-"""The keys alone are looked through, by their index."""
+"""Only the keys are scanned, by their index."""
 WITH_ERROR = f"""(EXISTS (SELECT 1 FROM attempts x WHERE x.id = s.id AND x.event IN {MISSES}
   AND instr({ERROR}, ?) > 0)
   OR EXISTS (SELECT 1 FROM suspensions x WHERE x.id = s.id AND x.number > 0
   AND instr(x.detail, ?) > 0))"""
-"""For few sagas: each one's attempts are looked up."""
+"""For few sagas: the attempts of each one are looked up."""
 AMONG_ERRORS = f"""s.id IN (
   SELECT x.id FROM attempts x WHERE x.event IN {MISSES} AND instr({ERROR}, ?) > 0
   UNION SELECT x.id FROM suspensions x WHERE x.number > 0 AND instr(x.detail, ?) > 0)"""
-"""For many: all attempts are looked through once."""
+"""For many sagas: all attempts are scanned once."""
 IN_ORDER = {
     phase: text.replace(IN_OPEN_LOGS, "").replace(f"{PLANNED} AND", f"{PLANNED} IS TRUE AND")
     for phase, text in PHASES.items()
 }
-"""As `PHASES`, for sagas that come in an order: so that no other index is used."""
+"""As `PHASES`, for sagas in an order: no other index is used."""
 FEW = ("open", "stuck", "recovered", "undo_failed", "resolved")
-"""The phases that few sagas of a store are in."""
+"""The phases that few sagas of a store have."""
 
 
 @dataclasses.dataclass(frozen=True, slots=True)
@@ -44,66 +46,78 @@ class Scope:
     """The sagas that a caller may see.
 
     Attributes:
-        definitions: The names of their definitions; None: all. A saga that undoes a child goes
-            with the child's definition.
-        keys: Their keys, or with `*` at the end what these begin with; None: all. A child has the
-            key of its root.
+        definitions: The names of their definitions, or None for all. A saga that undoes a child
+            belongs to the child's definition.
+        keys: Their keys, or prefixes of keys with `*` at the end, or None for all. A child has
+            the key of its root.
     """
 
     definitions: frozenset[str] | None = None
     keys: frozenset[str] | None = None
 
     def has_definition(self, name: str | None) -> bool:
-        """Whether sagas of a definition are in it; what is of none is only in that of all."""
+        """Whether sagas of a definition are in the scope.
+
+        What belongs to no definition is only in the scope of all.
+        """
         return self.definitions is None or name in self.definitions
 
     def may_have(self, name: str | None) -> bool:
-        """Whether sagas of a definition may be in it: also of one that undoes children."""
+        """Whether sagas of a definition may be in the scope.
+
+        The definition may be one that undoes children of the scope.
+        """
         return self.has_definition(name) or name in self._undoing
 
     def has_saga(self, name: str | None, key: str | None) -> bool:
-        """Whether a saga of a definition, and with a key, is in it."""
+        """Whether a saga of a definition, and with a key, is in the scope."""
         is_undoing = key is not None and undoes_child(key) and name in self._undoing
         return (self.has_definition(name) or is_undoing) and self.has_key(key)
 
     @property
     def _undoing(self) -> frozenset[str]:
-        """The names of the definitions that undo children of its own."""
+        """The names of the definitions that undo children of the scope's definitions."""
         return frozenset(map(name_of, self.definitions or ()))
 
     def has_key(self, key: str | None) -> bool:
-        """Whether a saga's key is in it; what is of no saga is only in that of all."""
+        """Whether a saga's key is in the scope.
+
+        What belongs to no saga is only in the scope of all.
+        """
         if self.keys is None:
             return True
         if key is None:
             return False
         root = root_of(key)
         return any(
-            root.startswith(one[:-1]) if one.endswith("*") else root == one for one in self.keys
+            root.startswith(pattern[:-1]) if pattern.endswith("*") else root == pattern
+            for pattern in self.keys
         )
 
     def where(self) -> tuple[str, list[Any]]:
-        """Return a condition on rows of `sagas`, which has the name `s`, and its words."""
-        wheres, words = ["1 = 1"], list[Any]()
+        """Return a condition on rows of `sagas AS s`, and its parameters."""
+        conditions, parameters = ["1 = 1"], list[Any]()
         if self.definitions:
             own, undoing = sorted(self.definitions), sorted(self._undoing)
             of_own, of_undoing = (", ".join("?" * len(some)) for some in (own, undoing))
-            wheres.append(
+            conditions.append(
                 f"s.saga IN ({of_own}, {of_undoing}) AND (s.saga IN ({of_own}) OR {UNDOES_CHILD})"
             )
-            words += [*own, *undoing, *own, UNDOING_KEYS]
+            parameters += [*own, *undoing, *own, UNDOING_KEYS]
         elif self.definitions is not None:
-            wheres.append("1 = 0")
+            conditions.append("1 = 0")
         if self.keys is not None:
-            some = [_keyed(one) for one in sorted(self.keys)]
-            wheres.append(f"({' OR '.join(condition for condition, _ in some)})")
-            words += [word for _, more in some for word in more]
-        return " AND ".join(wheres), words
+            some = [_keyed(pattern) for pattern in sorted(self.keys)]
+            conditions.append(f"({' OR '.join(condition for condition, _ in some)})")
+            parameters += [word for _, more in some for word in more]
+        return " AND ".join(conditions), parameters
 
 
 def _keyed(pattern: str) -> tuple[str, list[Any]]:
-    """A condition that a saga, or its root, has a key, and its words. A prefix may end within what
-    is between a root's key and a step."""
+    """Return a condition that a saga, or its root, has a key, and its parameters.
+
+    A prefix may end within the separator between a root's key and a step.
+    """
     text = pattern.removesuffix("*")
     if pattern == text:
         below = text + BELOW
@@ -119,17 +133,17 @@ EVERYTHING, NOTHING = Scope(), Scope(definitions=frozenset())
 
 @dataclasses.dataclass(frozen=True, slots=True)
 class Filter:
-    """Sagas that have all of this.
+    """A selection of sagas. A saga must match all attributes.
 
     Attributes:
         phase: One of `queries.PHASES`.
         saga: The name of their definition.
-        labels: Their labels, as far as they are asked for.
-        search: What their keys contain.
-        scope: The sagas that are looked at.
-        started_after: Seconds of wall time, and they were started then or later.
-        started_before: They were started earlier.
-        error: A part of what an attempt raised.
+        labels: Labels that they have.
+        search: A text that their keys contain.
+        scope: The sagas that the caller may see.
+        started_after: They started at this time or later, in seconds of wall time.
+        started_before: They started before this time.
+        error: A part of an error that an attempt raised.
     """
 
     phase: str | None = None
@@ -142,50 +156,55 @@ class Filter:
     error: str | None = None
 
     @property
-    def saga_words(self) -> list[str]:
-        """The name of their definition, where it is asked for."""
+    def saga_parameters(self) -> list[str]:
+        """The name of their definition as a list of parameters."""
         return [] if self.saga is None else [self.saga]
 
     def where(
         self, of_few: bool = False, in_order: bool = False, each_label: bool = False
     ) -> tuple[str, list[Any]]:
-        """Return a condition on rows of `sagas`, which has the name `s`, and its words.
+        """Return a condition on rows of `sagas AS s`, and its parameters.
 
-        `of_few`: something else has selected few of them already; `in_order`: they are gone through
-        one by one, by an index that gives their order, until there are enough; `each_label`: more
-        have a label than are found otherwise. A + keeps the databases from the index of the starts,
-        which leads to more sagas than others."""
+        A + keeps the databases from using the index of start times, which selects more sagas than
+        the other conditions.
+
+        Args:
+            of_few: Another condition has already selected few sagas.
+            in_order: The sagas are scanned one by one in the order of an index, until there are
+                enough.
+            each_label: Most sagas have the label, so that the label of each is looked up.
+        """
         of_few = of_few or in_order
-        within, words = self.scope.where()
-        wheres = [within]
+        within, parameters = self.scope.where()
+        conditions = [within]
         if self.phase is not None:
-            wheres.append((IN_ORDER if in_order else PHASES)[self.phase])
+            conditions.append((IN_ORDER if in_order else PHASES)[self.phase])
         if self.saga is not None:
-            wheres.append("s.saga = ?")
-        words += self.saga_words
+            conditions.append("s.saga = ?")
+        parameters += self.saga_parameters
         for label in self.labels.items():
-            wheres.append(WITH_LABEL if in_order or each_label else LABELED)
-            words += label
+            conditions.append(WITH_LABEL if in_order or each_label else LABELED)
+            parameters += label
         if self.search:
-            wheres.append(KEYED if not of_few else "instr(s.key, ?) > 0")
-            words.append(self.search)
+            conditions.append(KEYED if not of_few else "instr(s.key, ?) > 0")
+            parameters.append(self.search)
         times, bounds = self.times()
-        wheres += [f"+{condition}" for condition in times]
-        words += bounds
+        conditions += [f"+{condition}" for condition in times]
+        parameters += bounds
         if self.error:
             is_few = of_few or bool(self.labels) or self.phase in FEW
-            wheres.append(WITH_ERROR if is_few else AMONG_ERRORS)
-            words += [self.error, self.error]
-        return " AND ".join(wheres), words
+            conditions.append(WITH_ERROR if is_few else AMONG_ERRORS)
+            parameters += [self.error, self.error]
+        return " AND ".join(conditions), parameters
 
     def times(self) -> tuple[list[str], list[Any]]:
-        """Return the conditions on the starts, and their words."""
+        """Return the conditions on the start times, and their parameters."""
         bounds = (("s.at >= ?", self.started_after), ("s.at < ?", self.started_before))
-        given = [(condition, word) for condition, word in bounds if word is not None]
-        return [condition for condition, _ in given], [word for _, word in given]
+        bounds_in_use = [(condition, word) for condition, word in bounds if word is not None]
+        return [condition for condition, _ in bounds_in_use], [word for _, word in bounds_in_use]
 
     @property
     def has_times_alone(self) -> bool:
-        """Whether nothing but the starts selects them."""
+        """Whether only the start times select them."""
         is_of_any = self.phase is None and self.saga is None and self.scope == EVERYTHING
         return is_of_any and not (self.labels or self.search or self.error)

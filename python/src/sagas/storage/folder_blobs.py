@@ -16,12 +16,12 @@ PART, TRIES = ".part", 3
 class FolderBlobStore:
     """Keep large values as files of a folder, which all nodes and clients reach.
 
-    A value is written under another name, synced, and renamed; then its folder is synced. The files
+    A value is written under another name, synced, and renamed. Then its folder is synced. The files
     have the mode 0600: all programs run as one user.
     """
 
     def __init__(self, path: str | os.PathLike[str]) -> None:
-        """Take a folder, which is made with the first value.
+        """Use a folder, which is created with the first value.
 
         Args:
             path: The folder.
@@ -40,7 +40,7 @@ class FolderBlobStore:
             try:
                 self._put(path, data)
                 return
-            except FileNotFoundError:  # its folder was empty for a moment, and was deleted
+            except FileNotFoundError:  # another program deleted its empty folder
                 if is_last:
                     raise
 
@@ -59,7 +59,7 @@ class FolderBlobStore:
         _sync(path.parent)
 
     def _make(self, folder: pathlib.Path) -> None:
-        """Make a folder, so that it survives a crash."""
+        """Create a folder, so that it survives a crash."""
         if folder.is_dir():
             return
         self._make(folder.parent)
@@ -72,19 +72,19 @@ class FolderBlobStore:
             return self._path(key).read_bytes()
         except FileNotFoundError:
             if not self._folder.is_dir():
-                raise  # it is not mounted, say
+                raise  # for example, it is not mounted
             raise KeyError(key) from None
 
     def delete(self, key: str, /) -> None:
         """Delete a value. See `BlobStore.delete`."""
         path = self._path(key)
         path.unlink(missing_ok=True)
-        with contextlib.suppress(OSError):  # it has other values
+        with contextlib.suppress(OSError):  # the folder has other values
             path.parent.rmdir()
 
     def keys(self, prefix: str, before: float, /) -> Iterator[str]:
         """Return the keys of older values. See `BlobStore.keys`."""
-        found = []
+        keys = []
         for folder, _, names in os.walk(self._folder / prefix.rstrip("/")):
             for name in names:
                 path = pathlib.Path(folder, name)
@@ -93,12 +93,12 @@ class FolderBlobStore:
                         if name.endswith(PART):  # of a program that was killed
                             path.unlink()
                         else:
-                            found.append(path.relative_to(self._folder).as_posix())
-        return iter(found)
+                            keys.append(path.relative_to(self._folder).as_posix())
+        return iter(keys)
 
 
 def _private(path: str, flags: int) -> int:
-    """Make a file that no other user may read."""
+    """Create a file that no other user may read."""
     return os.open(path, flags, 0o600)
 
 

@@ -1,17 +1,16 @@
-"""The interfaces that both databases implement.
+"""Interfaces of a store's database: `Sqlite` and `PostgreSQL` implement them.
 
-What a store's database has to do: `Sqlite` and `PostgreSQL` meet it, and nothing else of the
-package knows which of them it is. Commits need a `CommitWriter`, questions a `StoreReader`; only
-the coordinator and its parts need all of a `Database`.
+Nothing else of the package knows which database a store has. Commits need a `CommitWriter`, and
+questions need a `StoreReader`. Only the coordinator and its parts need a whole `Database`.
 
-It holds keys, inputs, results, ends and the lines of each log, and it is the only truth. What
-one commit holds is a list of `Batch`es (records.py); a batch is what one log gained at once, and
-after its commit, and only then, functions are called and callers told.
+A database holds keys, inputs, results, outcomes and the event log of each shard. It is the only
+truth. A commit writes a list of `Batch` objects (core/batch.py). A batch is what one shard gained
+at once. Functions are called, and callers are answered, only after the commit of their batch.
 
-A batch that opens a saga whose key is taken, where nobody has looked for that (`Batch.guessed`),
-is not written, and its `then` is called with `Lost`. A database that is `shared` has more than
-one node: there each log has an owner and an epoch, which grows at each `load`, and so it is with
-a batch whose log or epoch is not its writer's any more.
+A batch may open a saga without a lookup of its key (`Batch.guessed`). If the key is taken, the
+batch is not written, and its `then` is called with `Lost`. A database that is `shared` has more
+than one node: each shard has an owner and an epoch, which grows at each `load`. A batch is also
+lost if its shard or epoch is no longer that of its writer.
 """
 
 from __future__ import annotations
@@ -46,292 +45,323 @@ if TYPE_CHECKING:
     from sagas.definition.task import Task
     from sagas.storage.blob_layer import Blobs
 
-Then = Callable[[Sequence[Batch], "BaseException | None", frozenset[int]], None]
-"""What was given to be written; None, or what kept it from being written (as far as is known);
-and the logs of which nothing was written (`Lost`).
+CommitCallback = Callable[[Sequence[Batch], "BaseException | None", frozenset[int]], None]
+"""Called with the batches, the error or None, and the shards that were lost.
+
+The error is what kept the batches from being written, as far as that is known. Nothing was written
+of the shards that were lost (`Lost`).
 """
 
-Drives = Callable[[list[str], list[int], Sequence[CompletedChild]], "str | None"]
-"""Of a log's definitions, of the places of those that have open sagas, and of the completed
-children below these: None where this program has all functions, else what it lacks.
+FunctionCheck = Callable[[list[str], list[int], Sequence[CompletedChild]], "str | None"]
+"""Return None if this program has all functions of a shard, else what is missing.
+
+It takes the definitions of the shard, the indexes of those that have open sagas, and the completed
+children below these sagas.
 """
 
 
 class Reader(Protocol):
     """A connection that only reads. One thread at a time may use it."""
 
-    def rows(self, query: str, *words: Any) -> list[tuple[Any, ...]]:
-        """Rows of a query that SQLite and PostgreSQL both understand, with `?` for each word.
-        Raises `StoreUnavailable`.
+    def rows(self, query: str, *parameters: Any) -> list[tuple[Any, ...]]:
+        """Return the rows of a query.
+
+        SQLite and PostgreSQL both understand the query, which has a `?` for each parameter. Raises
+        `StoreUnavailable`.
         """
 
     def close(self) -> None:
-        """Ends it."""
+        """Close the connection."""
 
 
 class Peers(Protocol):
-    """What services of one database ask of each other, and tell each other."""
+    """Calls and messages between the services of one database."""
 
     node: str
     answers: dict[str, Callable[[Any], Awaitable[Any]]]
-    """What this one does at a call, by the call's word."""
-    hear: Callable[..., object]
-    """Another one told this to all."""
+    """The handler of each command that another node may call."""
+    on_message: Callable[..., object]
+    """Called with each message that another node broadcast."""
     missed: Callable[..., object]
-    """Something that was told may not have been heard."""
+    """Called if this node may have missed a message."""
     others: set[str]
-    """The other nodes that answer, as far as is known here."""
+    """The other nodes that answer, as far as this node knows."""
 
     async def open(self) -> None:
-        """Makes itself known to the others."""
+        """Announce this node to the others."""
 
     async def close(self) -> None:
-        """The others ask nothing more of this node."""
+        """Stop: the other nodes call this one no more."""
 
     async def owner(self, shard: str) -> str | None:
-        """The node that has a shard, by the shard's name, where it answers."""
+        """Return the node that owns the shard with this name, if that node answers."""
 
-    async def call(self, node: str, what: str, told: Any) -> Any:
-        """Asks a node, and gives its answer. Raises `OwnerUnavailable`, `StoreUnavailable`."""
+    async def call(self, node: str, command: str, payload: Any) -> Any:
+        """Call another node, and return its answer.
 
-    async def ask_all(self, what: str) -> list[Any]:
-        """What each of the others answers, as far as it does."""
+        Raises `OwnerUnavailable`, `StoreUnavailable`.
+        """
 
-    def tell(self, told: Any) -> bool:
-        """Tells all others, in a moment; false where that is too long."""
+    async def call_all(self, command: str) -> list[Any]:
+        """Return the answers of all other nodes that answer."""
+
+    def broadcast(self, message: Any) -> bool:
+        """Send a message to all other nodes soon. Return False if it is too long."""
 
 
 class Watcher(Protocol):
-    """Who is called, in the loop, when there may be something new."""
+    """What the database calls, in the loop, when something may have changed."""
 
     def look(self) -> None:
-        """There may be requests or starts."""
+        """There may be new requests or starts."""
 
-    def lapsed(self, is_older: bool = False) -> None:
-        """The lease ran out meanwhile, or another server took over: whatever this node has may
-        be another's now, or be otherwise. `is_older`: what was told may be missing there.
+    def lease_expired(self, is_older: bool = False) -> None:
+        """The lease expired for a time, or another server has taken over.
+
+        Each shard of this node may now belong to another one, or have other contents. `is_older`:
+        the server may lack commits that were acknowledged.
         """
 
     def taken(self, rows: list[LogRow]) -> None:
-        """Logs that are this node's from now on."""
+        """This node owns these shards from now on."""
 
-    def vacant(self) -> None:
-        """Some node gave places of a step back (`Database.admit`)."""
+    def slots_freed(self) -> None:
+        """Some node freed slots of a step (`Database.admit`)."""
 
     def reported(self) -> None:
-        """Somebody reported an attempt that is done elsewhere."""
+        """A report of an external attempt arrived."""
 
     def offered(self) -> None:
-        """Another node has something for workers."""
+        """Another node offers something to workers."""
 
     def refused(self, error: InvalidStore) -> None:
-        """The server has no tables of the store, and this node may not make them."""
+        """The server has no tables of the store, and this node may not create them."""
 
     def logs(self) -> list[int]:
-        """The logs that this node drives, as far as it knows."""
+        """Return the shards that this node drives, as far as it knows."""
 
 
 class CommitWriter(Protocol):
     """What commits need of a store's database."""
 
     shared: bool
-    """Whether other nodes may have logs of it."""
+    """Whether other nodes may own shards of it."""
 
     @property
     def path(self) -> str:
-        """Its name in messages: the file, or the URL without its password."""
+        """The name for messages: the file, or the URL without its password."""
 
     @property
-    def takes(self) -> float:
-        """Seconds that a commit takes of late, while which this program does other things; 0
-        where there is no sense in holding one back.
+    def commit_seconds(self) -> float:
+        """Seconds that a recent commit took, while this program does other things.
+
+        It is 0 if it never makes sense to hold back a commit.
         """
 
     @property
     def commits(self) -> int:
-        """How many transactions were written."""
+        """The number of transactions that were written."""
 
-    def commit(self, batches: Sequence[Batch], then: Then, now: bool) -> None:
-        """One transaction for all; `then` is called in the loop. One at a time: not again before
-        `then`. `now`: it may be called before this returns.
+    def commit(self, batches: Sequence[Batch], then: CommitCallback, now: bool) -> None:
+        """Write all batches in one transaction, and call `then` in the loop.
+
+        There is one commit at a time: the next one may begin only after `then`. With `now`, `then`
+        may be called before this returns.
         """
 
-    def settle(self) -> None:
-        """Calls `then` of a commit that was over when `commit` returned, and did not call it. Of
-        a database that is not shared it is called in the loop's next turn behind each such
+    def finish_commit(self) -> None:
+        """Call `then` of a commit that had ended when `commit` returned.
+
+        If the database is not shared, it is called in the loop's next turn after each such
         `commit`.
         """
 
 
 class StoreReader(Protocol):
-    """What questions need of it. `find_now` and `find_many` are for a file, and are answered at
-    once. What cannot be read raises `StoreUnavailable`.
+    """What questions need of a store's database.
+
+    `find_now` and `find_many` are for a file, and answer at once. All raise `StoreUnavailable` if
+    something cannot be read.
     """
 
-    async def read(self, query: str, *words: Any) -> list[tuple[Any, ...]]:
-        """Rows of a query that SQLite and PostgreSQL both understand, with `?` for each word."""
+    async def read(self, query: str, *parameters: Any) -> list[tuple[Any, ...]]:
+        """Return the rows of a query.
 
-    async def read_stored(self, query: str, *words: Any) -> list[tuple[Any, ...]]:
-        """As `read`, with references in place of values that are outside of the database."""
+        SQLite and PostgreSQL both understand the query, which has a `?` for each parameter.
+        """
 
-    async def read_long(self, query: str, *words: Any) -> list[tuple[Any, ...]]:
-        """As `read`, of what may be many megabytes."""
+    async def read_stored(self, query: str, *parameters: Any) -> list[tuple[Any, ...]]:
+        """As `read`, with references in place of values that are in a blob store."""
 
-    async def text(self, log: int) -> str:
-        """A log's lines, which may be many megabytes."""
+    async def read_long(self, query: str, *parameters: Any) -> list[tuple[Any, ...]]:
+        """As `read`, for rows that may have many megabytes."""
+
+    async def text(self, shard: int) -> str:
+        """Return a shard's event log, which may have many megabytes."""
 
     async def known(self, row: SagaRow) -> Known:
-        """What the store has of a saga. Raises `NoSuchSaga` where it was let go meanwhile."""
+        """Return what the store has of a saga. Raises `NoSuchSaga` if it was deleted."""
 
     async def history(self, row: SagaRow) -> Known:
-        """As `known`, with its log's chunks."""
+        """As `known`, with the chunks of the event log that name the saga."""
 
     def reader(self) -> Reader:
-        """Another connection, for a thread that only reads."""
+        """Return another connection, for a thread that only reads."""
 
     def find_now(self, key: str) -> SagaRow | None:
-        """As `find`."""
+        """Return the saga with this key at once. See `Database.find`."""
 
     def find_many(self, keys: Sequence[str]) -> dict[str, SagaRow]:
-        """The sagas with these keys, by key, as far as they are there."""
+        """Return the sagas that have these keys, by key."""
 
 
 class Database(CommitWriter, StoreReader, Protocol):
-    """What the coordinator needs of it. All calls are for the event loop in which it was opened.
-    What cannot be read or written raises `StoreUnavailable`.
+    """What the coordinator needs of a store's database.
+
+    All calls are for the event loop in which it was opened. They raise `StoreUnavailable` if
+    something cannot be read or written.
     """
 
     @property
     def file(self) -> str:
-        """Its name for who opens it again: the file's whole path, or the URL."""
+        """The name by which a program opens it again: the file's whole path, or the URL."""
 
     external: ExternalAttempts
-    """Work done elsewhere."""
+    """The table of external attempts."""
 
     @property
     def record(self) -> RecordFile | None:
-        """Where the program writes what it heard of the store and acknowledged, if it does."""
+        """The record that this program writes of commits and acknowledgements, if any."""
 
     @property
     def blobs(self) -> Blobs | None:
-        """Where large values are, if they are outside."""
+        """The blob store of large values, if there is one."""
 
     @property
-    def sought(self) -> int:
-        """How many keys are looked for (`find`): most of them are about to be started."""
+    def pending_lookups(self) -> int:
+        """The number of keys that are being looked up: most are about to be started."""
 
     # -- opening and closing
 
-    async def open(self, drives: Drives) -> list[LogRow]:
-        """Makes or migrates the tables; gives the logs that are not closed and that this program
-        drives from now on, in order.
+    async def open(self, check_functions: FunctionCheck) -> list[LogRow]:
+        """Create or migrate the tables, and return the open shards that this program drives.
 
-        Raises `StoreLocked`, `StoreUnavailable`, `StoreSchemaTooNew`, `InvalidStore`.
+        The shards are in order. Raises `StoreLocked`, `StoreUnavailable`, `StoreSchemaTooNew`,
+        `InvalidStore`.
         """
 
     async def secret(self) -> bytes:
-        """A secret of the store, which is made when it is asked for first: leases are signed by
-        it."""
+        """Return the store's secret, which signs leases. The first call creates it."""
 
     def peers(self) -> Peers | None:
-        """What this node and the others ask of each other; None where there are none."""
+        """Return the calls between this node and others; None if there are no other nodes."""
 
     def watch(self, watcher: Watcher) -> None:
-        """Begins to call the watcher."""
+        """Begin to call the watcher."""
 
     async def close(self) -> None:
-        """Ends behind what was given to be written. A node's logs are free for others at once."""
+        """Close after the commits under way. Other nodes can take the shards at once."""
 
-    # -- shards and places
+    # -- shards and slots
 
-    def new_log(self) -> int:
-        """The number of a log that is to be born (`Batch.born`)."""
+    def new_shard(self) -> int:
+        """Return the number of a shard that is about to be created (`Batch.born`)."""
 
     @property
-    def line(self) -> str:
-        """The server's timeline, as far as it is known; empty of a file."""
+    def timeline(self) -> str:
+        """The server's timeline, as far as it is known. A file has the empty one."""
 
     def holds(self) -> bool:
-        """Whether the logs are still this program's: looked at before each function begins."""
+        """Whether this program still owns its shards. It is read before each function call."""
 
     @property
     def inside(self) -> StepCaller | None:
-        """How functions are called in transactions: `attempt.record` tells what became of
-        one. None where there are none.
+        """What calls functions in transactions; None if there are no transactions.
+
+        `attempt.record` has the state of such a call.
         """
 
     async def admit(self, name: str, bounds: Bounds, want: int, have: Sequence[int]) -> Grant:
-        """Takes up to `want` places of a step for calls that begin now, over all nodes; of those
-        of its limit this node `have`s just these, and gives back the others. One call at a time
-        for each name.
+        """Take slots of a step for calls that begin now, over all nodes.
 
-        Raises `StoreUnavailable`; then nobody knows what was taken, and the next call makes that
-        good, but for places of a rate.
+        Of the slots of the step's limit this node keeps those of `have`, and frees the others.
+        There is one call at a time for each name.
+
+        Raises `StoreUnavailable`. Then the outcome is unknown. The next call corrects it, except
+        for slots of a rate limit.
+
+        Args:
+            want: Maximum number of slots to take.
+            have: The slots of the limit that this node keeps.
         """
 
     # -- reading, for the coordinator
 
     async def find(self, key: str) -> SagaRow | None:
-        """The saga with this key. Its input may be a reference to a value outside."""
+        """Return the saga with this key. Its input may be a reference to a blob."""
 
-    async def load(self, log: int, epoch: int, born: Born | None) -> Loaded | None:
-        """A log as a pump takes it up; None where it is another node's, or is not there. What of
-        it was on its way to the database is written now, or never will be. `born`: its row,
-        until a commit is known to hold it: then it may not be there, and is empty.
+    async def load(self, shard: int, epoch: int, born: Born | None) -> Loaded | None:
+        """Return a shard as a runner loads it; None if another node owns it, or it is gone.
+
+        Any commit of the shard that is on its way is in the result, or will never be written.
+        `born`: the row of the shard, until a commit is known to hold it. Then the shard may not
+        exist yet, and is empty.
         """
 
-    def forget(self, log: int) -> None:
-        """What is known of a log does not count any more: its data is damaged, and an operator may
-        delete it."""
+    def forget(self, shard: int) -> None:
+        """Forget what is known of a shard: it is damaged, and an operator may delete it."""
 
-    async def spare(self, log: int) -> bool:
-        """Gives a log back, of which this program cannot read something, for another node to take.
-        False where none has come since that was tried.
+    async def spare(self, shard: int) -> bool:
+        """Release a shard that this program cannot read completely.
 
-        Raises `StoreUnavailable`."""
-
-    async def take_up(self, log: int, epoch: int) -> tuple[str, int] | None:
-        """A log's lines and how many events they are, for who goes on behind them; None where it
-        is not this program's under that epoch.
-
-        No lines of it may be on their way.
+        Another node may take it. Return False if no node has come since the last try. Raises
+        `StoreUnavailable`.
         """
 
-    async def requests(self, after: int, most: int) -> list[Request]:
-        """What was asked of the sagas of this program's logs, and has no answer: `most` of it at
-        once, behind the request with the number `after`."""
+    async def take_up(self, shard: int, epoch: int) -> tuple[str, int] | None:
+        """Return a shard's event log and its number of events, for a program that appends to it.
+
+        Return None if this program does not own the shard under that epoch. No commit of the shard
+        may be on its way.
+        """
+
+    async def requests(self, after: int, limit: int) -> list[Request]:
+        """Return up to `limit` unanswered requests of this program's shards, after an id."""
 
     async def starts(
-        self, most: int, under_way: Sequence[int] | None, left: Sequence[int] = ()
+        self, limit: int, under_way: Sequence[int] | None, left: Sequence[int] = ()
     ) -> list[Start]:
-        """Sagas that clients started: they are this program's to open, `most` at once. With
-        `under_way` also those that were, and are not among these. Those of `left` stay where they
-        are.
+        """Return up to `limit` sagas that clients started, for this program to open.
+
+        With `under_way`, also return those that this program took before and that are not among
+        these. The starts of `left` are not taken.
         """
 
-    async def give_back(self, start: int, why: str | None) -> None:
-        """Give back a start that this node took (`starts`), and has not begun.
+    async def give_back(self, start: int, reason: str | None) -> None:
+        """Release a start that this node took (`starts`), and that it did not open.
 
         Args:
             start: Its id.
-            why: Why the saga cannot be started: its input gives it no steps, say. No node takes it
-                again until it is started anew. With None, another node may take it.
+            reason: Why the saga cannot be started, for example because its input yields no
+                steps. No node takes it again until it is started again. With None, another node
+                may take it.
         """
 
-    async def ask(self, row: SagaRow, what: str, value: str, payloads: Payloads) -> Any:
-        """Leaves a request for the node that has this very saga; waits for its answer, parsed."""
+    async def ask(self, row: SagaRow, command: str, value: str, payloads: Payloads) -> Any:
+        """Add a request for the node that owns this saga, and return its parsed answer."""
 
     async def replicated(self) -> None:
-        """Returns once what was read is on the synchronous standbys, where there are any."""
+        """Return once all synchronous standbys have what was read."""
 
-    async def news(self, id: int, turn: int) -> None:
-        """Returns when the saga may have ended elsewhere, or after a while, which is longer each
-        turn: who waits looks again.
+    async def wait_for_end(self, id: int, turn: int) -> None:
+        """Return when the saga may have ended elsewhere, or after a pause.
+
+        The pause grows with each turn. The caller then looks again.
         """
 
 
 class StepCaller(StepTransactions, Protocol):
-    """Calls functions in transactions, over connections of their own."""
+    """Calls functions in transactions, over connections of its own."""
 
     async def call(
         self,
@@ -341,19 +371,23 @@ class StepCaller(StepTransactions, Protocol):
         executor: Executor | None,
         late: Callable[[str], object] | None,
     ) -> Outcome | None:
-        """Calls a function in a transaction that holds its result. Raises `Lost` where nobody
-        knows whether that was committed.
+        """Call a function in a transaction that holds its result.
+
+        Raises `Lost` if it is unknown whether the transaction was committed.
         """
 
-    def let_go(self) -> None:
-        """Ends the connections that rest."""
+    def close_idle(self) -> None:
+        """Close the idle connections."""
 
     async def close(self) -> None:
-        """Ends all of them."""
+        """Close all connections."""
 
 
 MakesTransactions = Callable[
     [str, str, str, Callable[[], str], Callable[[int], Optional[Tail]], int], StepCaller
 ]
-"""Of the URL, its name in messages, the node, what gives the server's timeline, what gives a log's
-last chunk, and how many calls there may be at once."""
+"""Makes a `StepCaller`.
+
+It takes the URL, the URL's name in messages, the node, a function for the server's timeline, a
+function for the last chunk of a shard's log, and the maximum number of parallel calls.
+"""

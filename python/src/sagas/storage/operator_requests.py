@@ -1,7 +1,6 @@
-"""Statements that leave operator commands in the store.
+"""Statements that add requests of operators, and the errors of their answers.
 
-What operators ask of the program that has a store: the statements that leave it there, and the
-errors that an answer names.
+The program that drives a saga executes the requests for it.
 """
 
 from __future__ import annotations
@@ -15,48 +14,62 @@ from sagas.definition.capacity import SHARD_CAPACITY
 WITHDRAW = """
 WITH gone AS (DELETE FROM pending_starts WHERE key = ? AND node IS NULL RETURNING id, commands)
 SELECT 'begun ' || id FROM gone
-UNION ALL SELECT 'answered ' || (one ->> 0) FROM gone, jsonb_array_elements(commands) one
+UNION ALL
+SELECT 'answered ' || (request ->> 0) FROM gone, jsonb_array_elements(commands) request
 """
-"""Takes a client's start back, with what was asked of it. The rows are words to be told behind it
-(`notifications.SAY`), so that whoever waits for either looks at once. No row where no start has the
-key, or a node has taken it.
+"""Withdraw a client's start, with the requests for it.
 
-Of one that a node has taken the saga may be in a log in the next moment, though the node is not
-heard of any more: that is aborted as a saga.
+The rows are the messages to send afterwards (`notifications.NOTIFY`). They wake the callers that
+wait for the start or for a request. No row is returned if no start has the key, or if a node has
+taken it.
+
+If a node has taken the start, its saga may be in a shard a moment later, even if the node does not
+answer any more. Such a saga is aborted as a saga.
 """
 WITHDRAW_START = WITHDRAW.replace("key = ?", "id = ?")
-"""The same of this very start."""
+"""The same for the start with this id."""
 ASK = f"""
 INSERT INTO operator_commands(key, command, value, at, saga)
 SELECT s.key, ?, ?, extract(epoch FROM now()), s.id
 FROM sagas s JOIN shards l ON l.shard = s.id / {SHARD_CAPACITY}
 WHERE s.id = ? FOR KEY SHARE OF l RETURNING id
 """
-"""Leaves a request for a saga. No row where it is gone: one that is let go meanwhile takes its
-log's row away first, and then what was asked of it."""
+"""Add a request for a saga. No row is returned if the saga is gone.
+
+A program that deletes a saga deletes the row of its shard first, and then the requests.
+"""
 ASK_START = """
 UPDATE pending_starts SET commands = commands || jsonb_build_array(
   jsonb_build_array(nextval('operator_commands_id_seq'), ?::text, ?::text,
     extract(epoch FROM now())))
 WHERE id = ? RETURNING (commands -> -1 ->> 0)::bigint
 """
-"""Leaves one for a client's start, in its own row. No row where it is gone, or is a saga by now."""
+"""Add a request for a client's start, in the row of the start.
+
+No row is returned if the start is gone, or has become a saga.
+"""
 ANSWER = """
 SELECT r.id IS NOT NULL, r.answer, i.id IS NOT NULL, i.id IS NOT NULL AND i.node IS NULL
 FROM (SELECT) one LEFT JOIN operator_commands r ON r.id = ? LEFT JOIN pending_starts i ON i.id = ?
 """
-"""Of a request's id and of the start that it was asked of: whether there is a saga that is asked,
-its answer, and whether the start is there still, and no node has taken it. All is of one moment."""
+"""For a request's id and the id of its start: the state of the request.
+
+The columns are: whether the request is one for a saga, its answer, whether the start still exists,
+and whether no node has taken it. All are of one moment.
+"""
 ERRORS = {
-    kind.__name__: kind
-    for kind in vars(errors).values()
-    if isinstance(kind, type) and issubclass(kind, SagasError)
+    error_type.__name__: error_type
+    for error_type in vars(errors).values()
+    if isinstance(error_type, type) and issubclass(error_type, SagasError)
 }
-"""Those that an answer may name. One of a later release may name another."""
+"""The errors that an answer may name.
+
+An answer of a later release may name another one.
+"""
 
 
-def told(answer: Any) -> Any:
-    """The answer to a request; raises the error that it names."""
+def checked_answer(answer: Any) -> Any:
+    """Return the answer to a request, or raise the error that it names."""
     if isinstance(answer, dict) and "error" in answer:
         name = str(answer["error"]).partition(": ")[0]
         raise ERRORS.get(name, SagasError)(reason(answer))
@@ -64,6 +77,6 @@ def told(answer: Any) -> Any:
 
 
 def reason(answer: dict[str, Any]) -> str:
-    """Why a request was refused, without the error's name."""
+    """Return why a request was refused, without the error's name."""
     name, _, text = str(answer["error"]).partition(": ")
     return text or name

@@ -1,8 +1,8 @@
-"""The record of a program: the answers to its commits, and what it acknowledged.
+"""The record of a program: the replies to its commits, and its acknowledgements.
 
-Each line is one event. An acknowledgement is written before the program makes it, behind all that
-the program heard before. `sagas store URL record` merges records with what the database has
-(`core.fleet_record`). `core.record_lines` has the lines.
+Each line is one event. An acknowledgement is recorded before the program sends it, and after all
+replies that the program has received. `sagas store URL record` merges records with what the
+database has (`core.fleet_record`). `core.record_lines` defines the lines.
 """
 
 from __future__ import annotations
@@ -16,131 +16,141 @@ from sagas.base.errors import InvalidStore
 from sagas.base.logger import logger
 
 VARIABLE = "SAGAS_RECORD"
-"""The environment variable that names the file for stores that are given none."""
+"""The environment variable that names the file for stores without the option."""
 MOST = 32
-"""Texts that wait to be written, at most. Each has one line or two."""
+"""Maximum number of texts that wait to be written. Each has one line or two."""
 BEYOND = 999_999_999
-"""More events than a shard ever has: what an acknowledgement of unknown cause rests on."""
+"""More events than a shard ever has.
+
+An acknowledgement of unknown cause rests on this number.
+"""
 WRITTEN_IN_PART = "it was written in part"
 DIGESTS = BEYOND - 1
-"""How many numbers name a digest."""
+"""The number of distinct digest numbers."""
 EDGES = "call", "wake", "reply", "read"
-"""Where something is acknowledged that rests on a number of events."""
-Line = tuple[int, int, str]
+"""The points at which a program acknowledges something."""
+Term = tuple[int, int, str]
 """Shard, epoch and timeline."""
 
 
 class Session:
-    """What a record has of one takeover of a shard. `storage.postgresql` begins it, and what is
-    acknowledged under it may be noted before.
+    """What a record has of one takeover of a shard.
+
+    `storage.postgresql` begins it. What is acknowledged under it may be recorded before.
 
     Attributes:
         epoch: The epoch.
         timeline: The timeline of the server.
-        present: The epoch if its server is the present one, else -1. It holds only for the last
-            session of a shard.
-        words: What each line has after its first word.
-        sends: A `sent` line, to be formatted with its numbers.
-        hears: A `heard` line, to be formatted with its number.
-        tells: A `told` line for each edge, to be formatted with its number.
-        wholes: A `sent`, a `heard` and a `told` line for each edge, to be formatted together.
-        digest: Of the whole event log, by the last answer.
-        told: How many events the last acknowledgement at each edge rests on.
-        most: The most of them.
+        present: The epoch if its server is the present one, else -1. It is valid only for the
+            last session of a shard.
+        fields: What each line has after its first word.
+        sent_line: A `sent` line, to be formatted with its numbers.
+        heard_line: A `heard` line, to be formatted with its number.
+        told_lines: A `told` line for each edge, to be formatted with its number.
+        combined_lines: A `sent`, a `heard` and a `told` line for each edge, to be formatted
+            together.
+        digest: The digest of the whole event log, by the last reply.
+        acknowledged: The number of events on which the last acknowledgement at each edge rests.
+        max_acknowledged: The maximum of these numbers.
     """
 
     __slots__ = (
         "epoch",
         "timeline",
         "present",
-        "words",
-        "sends",
-        "hears",
-        "tells",
-        "wholes",
+        "fields",
+        "sent_line",
+        "heard_line",
+        "told_lines",
+        "combined_lines",
         "digest",
-        "told",
-        "most",
+        "acknowledged",
+        "max_acknowledged",
     )
 
-    def __init__(self, run: str, line: Line, digest: int) -> None:
-        shard, self.epoch, self.timeline = line
+    def __init__(self, run: str, term: Term, digest: int) -> None:
+        shard, self.epoch, self.timeline = term
         self.present = -1
-        self.words = f" {run} {shard} {self.epoch} {self.timeline} ".encode()
-        words = self.words.replace(b"%", b"%%")
-        self.sends, self.hears = b"sent%b%%d %%d\n" % words, b"heard%b%%d\n" % words
-        self.tells = {edge: b"told%b%%d %b\n" % (words, edge.encode()) for edge in EDGES}
-        self.wholes = {edge: self.sends + self.hears + self.tells[edge] for edge in EDGES}
+        self.fields = f" {run} {shard} {self.epoch} {self.timeline} ".encode()
+        escaped = self.fields.replace(b"%", b"%%")
+        self.sent_line, self.heard_line = b"sent%b%%d %%d\n" % escaped, b"heard%b%%d\n" % escaped
+        self.told_lines = {edge: b"told%b%%d %b\n" % (escaped, edge.encode()) for edge in EDGES}
+        self.combined_lines = {
+            edge: self.sent_line + self.heard_line + self.told_lines[edge] for edge in EDGES
+        }
         self.digest = digest
-        self.told = dict.fromkeys(EDGES, -1)
-        self.most = -1
+        self.acknowledged = dict.fromkeys(EDGES, -1)
+        self.max_acknowledged = -1
 
 
 Rest = tuple[Session, int]
 """What an acknowledgement rests on: a session of a shard, and a number of its events."""
 Heard = tuple[Session, int, int, int]
-"""A chunk that the server has: its session, how many events were before it, the number of the
-digest after it, and how many events there are.
+"""A chunk that the server has.
+
+It has the session, the number of events before the chunk, the number of the digest after it, and
+the number of events after it.
 """
 
 
 class Commit(Protocol):
-    """What is written at once.
+    """What one commit writes.
 
     Attributes:
-        parts: Its rows. Those of `lines` are chunks of event logs, and those of `born` new shards.
-        events: How many events each shard has after it.
+        parts: Its rows. Those of `lines` are chunks of event logs, and those of `born` are new
+            shards.
+        events: The number of events of each shard after it.
     """
 
     parts: dict[str, Sequence[Any]]
     events: dict[int, int]
 
 
-def told_path(told: str | None) -> str | None:
+def record_path(path: str | None) -> str | None:
     """Return the given file; else the one that the environment names, if any."""
-    return told or os.environ.get(VARIABLE) or None
+    return path or os.environ.get(VARIABLE) or None
 
 
 class RecordFile:
-    """A file to which lines are added.
+    """A file to which lines are appended.
 
-    An acknowledgement that rests on more than those before it is written at once, after all lines
-    of what was heard before it. Other lines wait for such a write. So a program that is killed
+    An acknowledgement that rests on more events than those before it is written at once, after all
+    lines of the replies before it. Other lines wait for such a write. So a program that is killed
     loses only lines at the end. Several programs of one machine may share a file: each line names
     its program. If a write fails, that is logged once, and nothing more is recorded. No saga waits
     for the record.
 
-    Most acknowledgements follow an answer. So the lines of a chunk are formatted when the next
-    event is noted, together with its line. That takes fewer instructions.
+    Most acknowledgements follow a reply. So the lines of a chunk are formatted when the next event
+    is recorded, together with its line. That takes fewer instructions.
 
     Attributes:
-        path: Where it is.
+        path: The file.
         run: The word that names this run of the program.
-        timeline: The one of the server, as far as the program knows. Only `moved` sets it.
-        commit: The commit that is sent, and has no answer yet. It is set before that is sent, and
-            then `heard`, `failed` or `unanswered` is called.
-        sessions: The last one of each shard that has begun. Only this class changes it.
+        timeline: The timeline of the server, as far as the program knows. Only `moved` sets it.
+        commit: The commit that is sent, and has no reply yet. It is set before the commit is
+            sent. Then `heard`, `failed` or `unanswered` is called.
+        sessions: The last session of each shard that has begun. Only this class changes it.
     """
 
     def __init__(self, path: str, run: str) -> None:
         self.path, self.run, self.timeline = path, run, ""
         self.sessions: dict[int, Session] = {}
         self._file = -1
-        self._others: dict[Line, Session] = {}  # sessions that have not begun
-        self._waiting: list[bytes] = []  # lines that are not written
-        # what follows these lines: the last chunk with an answer, and then the commit that has none
+        self._others: dict[Term, Session] = {}  # sessions that have not begun
+        self._waiting: list[bytes] = []  # lines that are not written yet
+        # what follows these lines: the last chunk with a reply, and then the commit that has none
         self._heard: Heard | None = None
         self.commit: Commit | None = None
-        # of a commit that has lines, and no answer: shards, and the digest after it
+        # of a commit that has lines, and no reply: shards, and the digest after it
         self._sent: list[tuple[int, Session, int]] = []
 
     @classmethod
     def of(cls, path: str | None, node: str) -> RecordFile | None:
-        """Make the record of a node, if it is to have one."""
+        """Create the record of a node, if the node has one."""
         return cls(path, node.rpartition("/")[2]) if path else None
 
     def open(self) -> None:
-        """Open the file, or make it.
+        """Open the file, or create it.
 
         Raises:
             InvalidStore: It cannot be written.
@@ -156,7 +166,7 @@ class RecordFile:
         self._write()
 
     def close(self) -> None:
-        """Write what was noted, and close it."""
+        """Write all lines that wait, and close the file."""
         self._settle()
         self._write()
         self._end()
@@ -177,65 +187,67 @@ class RecordFile:
             self._failed(error)
 
     def _failed(self, error: OSError) -> None:
-        if self._file >= 0:  # it has not ended before
+        if self._file >= 0:  # it is still open
             logger.error("the record %s ends here: %s", self.path, error.strerror)
         self._end()
 
     # -- sessions
 
     def moved(self, timeline: str) -> None:
-        """The server is one of this timeline."""
+        """Note that the server now has this timeline."""
         self._settle()
         self.timeline = timeline
         for session in self.sessions.values():
             session.present = session.epoch if session.timeline == timeline else -1
 
     def session(self, shard: int, epoch: int) -> Session:
-        """Return the session of a shard under an epoch, with the present server. It may be one that
-        has not begun.
+        """Return the session of a shard under an epoch, with the present server.
+
+        The session may not have begun.
         """
         return self._of((shard, epoch, self.timeline))
 
-    def _of(self, line: Line) -> Session:
-        found = self.sessions.get(line[0])
-        if found is not None and (found.epoch, found.timeline) == line[1:]:
-            return found
-        other = self._others.get(line)
+    def _of(self, term: Term) -> Session:
+        session = self.sessions.get(term[0])
+        if session is not None and (session.epoch, session.timeline) == term[1:]:
+            return session
+        other = self._others.get(term)
         if other is None:
-            digest = 0 if found is None else found.digest
-            other = self._others[line] = Session(self.run, line, digest)
+            digest = 0 if session is None else session.digest
+            other = self._others[term] = Session(self.run, term, digest)
         return other
 
-    def _begin(self, line: Line, digest: int) -> Session:
-        session = self._others.pop(line, None) or Session(self.run, line, digest)
+    def _begin(self, term: Term, digest: int) -> Session:
+        session = self._others.pop(term, None) or Session(self.run, term, digest)
         session.digest = digest
         session.present = session.epoch if session.timeline == self.timeline else -1
-        self.sessions[line[0]] = session
+        self.sessions[term[0]] = session
         return session
 
-    # -- what was heard
+    # -- replies
 
-    def took(self, line: Line, events: int, text: str) -> None:
-        """A shard was taken up, and this number of events was read."""
+    def took(self, term: Term, events: int, text: str) -> None:
+        """Note that a shard was loaded under a new epoch, with this number of events."""
         self._settle()
         digest = crc32(text.encode())
-        told = number(digest) if events else 0
-        words = self._begin(line, digest).words
-        self._put(b"took%b%d %d\n" % (words, events, told))
+        digest_number = number(digest) if events else 0
+        fields = self._begin(term, digest).fields
+        self._put(b"took%b%d %d\n" % (fields, events, digest_number))
 
-    def read(self, line: Line, events: int, text: str) -> None:
-        """A shard was read again under the epoch that it has, or for the first time. A late answer,
-        after the shard was taken over again, is not a takeover.
+    def read(self, term: Term, events: int, text: str) -> None:
+        """Note that a shard was read under its present epoch, or for the first time.
+
+        A late reply, after the shard was taken over again, is not a takeover.
         """
-        shard, epoch, timeline = line
+        shard, epoch, timeline = term
         known = self.sessions.get(shard)
         if known is not None and known.timeline == timeline and known.epoch >= epoch:
-            self.told((self._of(line), events), "read")
+            self.told((self._of(term), events), "read")
         else:
-            self.took(line, events, text)
+            self.took(term, events, text)
 
     def heard(self, commit: Commit, mine: Container[int]) -> None:
-        """The server answered the commit that was sent: these shards are this node's."""
+        """Note the server's reply to the commit: these shards belong to this node."""
         if self.commit is not commit:
             self._answer(commit, mine)
             return
@@ -254,35 +266,38 @@ class RecordFile:
             digest = crc32(text.encode(), session.digest)
             if shard in mine:
                 session.digest = digest
-                told = digest % DIGESTS + 1  # as `number`
-                self._heard = session, first, told, commit.events[shard]
+                digest_number = digest % DIGESTS + 1  # as `number`
+                self._heard = session, first, digest_number, commit.events[shard]
             else:
-                self._put(session.sends % (first, number(digest)))
-                self._put(b"stale%b\n" % session.words[:-1])
+                self._put(session.sent_line % (first, number(digest)))
+                self._put(b"stale%b\n" % session.fields[:-1])
 
     def unanswered(self) -> None:
-        """No answer to the commit that was sent will come."""
+        """Note that no reply to the commit will come."""
         self._settle()
 
     def failed(self) -> None:
-        """The server answered that it wrote nothing of the commit, which is sent again in parts."""
+        """Note the reply that nothing of the commit was written.
+
+        The commit is then sent again in parts.
+        """
         self._settle()
         for _, session, _ in self._sent:
-            self._put(b"failed%b\n" % session.words[:-1])
+            self._put(b"failed%b\n" % session.fields[:-1])
 
     def _answer(self, commit: Commit, mine: Container[int]) -> None:
-        """The server answered a commit that has lines."""
+        """Write the lines of the reply to a commit whose lines are written."""
         for shard, session, digest in self._sent:
             if shard in mine:
                 session.digest = digest
-                self._put(session.hears % commit.events[shard])
+                self._put(session.heard_line % commit.events[shard])
             else:
-                self._put(b"stale%b\n" % session.words[:-1])
+                self._put(b"stale%b\n" % session.fields[:-1])
 
-    # -- from there to lines
+    # -- lines of replies
 
     def _settle(self) -> None:
-        """Make lines of what was heard and sent, before anything else is noted."""
+        """Format the lines of what was sent and replied, before anything else is recorded."""
         if self._heard is not None:
             self._put_heard()
         commit, self.commit = self.commit, None
@@ -294,52 +309,54 @@ class RecordFile:
                 session = self.session(shard, epoch)
                 digest = crc32(text.encode(), session.digest)
                 self._sent.append((shard, session, digest))
-                self._put(session.sends % (first, number(digest)))
+                self._put(session.sent_line % (first, number(digest)))
 
     def _put_heard(self) -> None:
         assert self._heard
-        session, first, told, events = self._heard
+        session, first, digest_number, events = self._heard
         self._heard = None
-        self._put((session.sends + session.hears) % (first, told, events))
+        self._put((session.sent_line + session.heard_line) % (first, digest_number, events))
 
     def _births(self, commit: Commit) -> None:
-        """Note the new shards of a commit."""
+        """Begin the sessions of the new shards of a commit."""
         if self._heard is not None:
             self._put_heard()
         for shard, *_ in commit.parts["born"]:
             if self.sessions.get(shard) is not self.session(shard, 1):
                 session = self._begin((shard, 1, self.timeline), 0)
-                self._put(b"took%b0 0\n" % session.words)
+                self._put(b"took%b0 0\n" % session.fields)
 
     def _put(self, line: bytes) -> None:
         self._waiting.append(line)
         if len(self._waiting) > MOST:
             self._write()
 
-    # -- what was acknowledged
+    # -- acknowledgements
 
     def told(self, rest: Rest, edge: str) -> None:
-        """Something is about to be acknowledged that rests on a number of events. It is noted if it
-        rests on more than the last one at the same edge. It is written at once if it rests on more
-        than the last one at any edge; else it can wait, since the record has as much.
+        """Note an acknowledgement that is about to be sent, and that rests on some events.
+
+        It is recorded if it rests on more events than the last one at the same edge. It is written
+        at once if it rests on more than the last one at any edge. Otherwise it can wait, since the
+        record already has as many.
         """
         session, events = rest
-        if session.most >= events:
-            if session.told[edge] < events:
-                session.told[edge] = events
+        if session.max_acknowledged >= events:
+            if session.acknowledged[edge] < events:
+                session.acknowledged[edge] = events
                 if self._heard is not None or self.commit is not None:
                     self._settle()
-                self._waiting.append(session.tells[edge] % events)
+                self._waiting.append(session.told_lines[edge] % events)
             return
-        session.most = session.told[edge] = events
+        session.max_acknowledged = session.acknowledged[edge] = events
         heard = self._heard
         if heard is not None and heard[0] is session and heard[3] >= events:
             self._heard = None
-            line = session.wholes[edge] % (heard[1], heard[2], heard[3], events)
+            line = session.combined_lines[edge] % (heard[1], heard[2], heard[3], events)
         else:
             if heard is not None or self.commit is not None:
                 self._settle()
-            line = session.tells[edge] % events
+            line = session.told_lines[edge] % events
         if self._waiting:
             self._waiting.append(line)
             line = b"".join(self._waiting)
@@ -351,21 +368,21 @@ class RecordFile:
             self._failed(error)
 
     def seen(self, saga: int, edge: str) -> None:
-        """It is about to be acknowledged that a saga has ended, as the database says."""
+        """Note an acknowledgement that a saga has ended, as the database says."""
         self._settle()
         self._waiting.append(f"seen {self.run} {saga} {edge}\n".encode())
         self._write()
 
-    def closed(self, line: Line) -> None:
-        """A shard is closed, and nothing more is written of it."""
+    def closed(self, term: Term) -> None:
+        """Note that a shard is closed. Nothing more is recorded of it."""
         self._settle()
-        self._put(b"closed%b\n" % self._of(line).words[:-1])
-        shard = line[0]
+        self._put(b"closed%b\n" % self._of(term).fields[:-1])
+        shard = term[0]
         self.sessions.pop(shard, None)
         for other in [other for other in self._others if other[0] == shard]:
             del self._others[other]
 
 
 def number(digest: int) -> int:
-    """The number by which a record names a digest: not 0, and of nine digits at most."""
+    """Return the number of a digest in a record: not 0, and at most nine digits."""
     return digest % DIGESTS + 1

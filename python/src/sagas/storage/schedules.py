@@ -26,16 +26,18 @@ ON CONFLICT(name) DO UPDATE SET {", ".join(f"{name} = excluded.{name}" for name 
   next_at = excluded.next_at, error = NULL
 WHERE {" OR ".join(f"schedules.{name} <> excluded.{name}" for name in SAME)}
 """
-"""One that is there as it is said keeps its next time."""
+"""A schedule that is declared again without a change keeps its next time."""
 LOCK = "UPDATE schedules SET input = input WHERE name = ? RETURNING input"
-"""Its input as it is stored; nobody else changes it until the transaction ends."""
+"""Returns the stored input, and locks the row until the transaction ends."""
 ADVANCE = """
 UPDATE schedules SET next_at = ?, last_at = coalesce(?, last_at),
   error = coalesce(?, CASE WHEN paused = 1 THEN error END)
 WHERE name = ? AND next_at = ? AND cron = ? AND every = ? AND timezone = ?
 """
-"""Only the one who finds it as it was read: of two nodes, the second changes nothing. A change of
-its times may leave the next one as it is.
+"""Changes the schedule only if its times are still those that were read.
+
+Of two nodes, the second changes nothing. A change of the schedule may leave its next time
+unchanged, so the other columns are compared, too.
 """
 
 
@@ -52,10 +54,10 @@ class Schedule:
         cron: The cron expression, or None.
         every: Seconds between two sagas, or None.
         timezone: The time zone of the expression.
-        catch_up: What becomes of missed times: `last`, `all` or `skip`.
-        max: How many missed times are started at most.
-        overlap: What becomes of a time while the saga of the time before is open: `allow`, `skip`
-            or `queue`.
+        catch_up: What to do with missed times: `last`, `all` or `skip`.
+        max: Maximum number of missed times that are started.
+        overlap: What to do at a time while the previous saga is open: `allow`, `skip` or
+            `queue`.
         next_at: Wall time of its next saga, in seconds since 1970; if paused, without meaning.
         last_at: Wall time of its last saga, or None.
         paused: Whether it starts nothing.
@@ -80,27 +82,27 @@ class Schedule:
 
     @property
     def timing(self) -> Timing:
-        """When it starts its sagas."""
+        """The times at which it starts its sagas."""
         every, catch_up = self.every or 0.0, CatchUp(self.catch_up)
         more = self.max, Overlap(self.overlap)
         return Timing(self.cron or "", every, self.timezone, catch_up, *more)
 
 
 def of_row(row: Row) -> Schedule:
-    """Return a schedule as the store has it."""
+    """Return the schedule of a row."""
     name, saga, version, input, labels, cron, every, *rest = row
     timezone, policy, next_at, last_at, paused, error = rest
-    catch_up, most, overlap = policy_of(policy)
-    told = json.loads(input), json.loads(labels), cron or None, every or None, timezone
-    when = catch_up.value, most, overlap.value, next_at, last_at
-    return Schedule(name, saga, version, *told, *when, bool(paused), error)
+    catch_up, max_missed, overlap = policy_of(policy)
+    definition = json.loads(input), json.loads(labels), cron or None, every or None, timezone
+    state = catch_up.value, max_missed, overlap.value, next_at, last_at
+    return Schedule(name, saga, version, *definition, *state, bool(paused), error)
 
 
 class Schedules:
-    """Changes schedules, over a connection of its own. For a thread."""
+    """Changes schedules, over its own connection. For a thread."""
 
-    def __init__(self, link: Source) -> None:
-        self._link = link
+    def __init__(self, connection: Source) -> None:
+        self._connection = connection
 
     def put(
         self,
@@ -112,80 +114,87 @@ class Schedules:
         now: float,
         payloads: Payloads = PLAIN,
     ) -> None:
-        """Declare one, or change it; as it is, it keeps its next time. Raises `NotSerializable`
-        and `MissingCodec`."""
+        """Declare a schedule, or change it. Without a change it keeps its next time.
+
+        Raises `NotSerializable` and `MissingCodec`.
+        """
         stored = payloads.encode(input)
-        when = timing.cron, timing.every, timing.timezone, timing.policy
-        words = (name, *saga, stored, labels, *when, timing.next_after(now))
-        with self._link.transaction():
-            codec_note.check(self._link, payloads)
+        timing_values = timing.cron, timing.every, timing.timezone, timing.policy
+        parameters = (name, *saga, stored, labels, *timing_values, timing.next_after(now))
+        with self._connection.transaction():
+            codec_note.check(self._connection, payloads)
             if payloads.codec is not None:
                 self._encode_again(name, input, stored, payloads)
-            self._link.changed(PUT, *words)
-        self._link.tell("requests")
+            self._connection.changed(PUT, *parameters)
+        self._connection.notify("requests")
 
     def _encode_again(self, name: str, input: str, stored: str, payloads: Payloads) -> None:
-        """Put the text of now in place of an older one of the same input: a codec may make another
-        text each time, and that is no change.
+        """Replace the stored text of an input with a new text of the same input.
+
+        A codec may return another text each time, and that is not a change.
         """
-        for (there,) in self._link.ask(LOCK, name):
-            if _is_of(there, input, payloads):
-                self._link.changed("UPDATE schedules SET input = ? WHERE name = ?", stored, name)
+        for (stored_input,) in self._connection.ask(LOCK, name):
+            if _is_of(stored_input, input, payloads):
+                self._connection.changed(
+                    "UPDATE schedules SET input = ? WHERE name = ?", stored, name
+                )
 
     def pause(self, name: str, now: float | None = None) -> str | None:
-        """Start nothing of it from now on. Return what is said of times that were missed before:
-        they are not started, and the schedule's `error` says so. Raises `NoSuchSchedule`.
+        """Start nothing of a schedule from now on, and return a message about missed times.
+
+        The missed times are not started, and the schedule's `error` says so. Raises
+        `NoSuchSchedule`.
         """
-        said, now = None, self._link.now() if now is None else now
-        with self._link.transaction():
-            for (_,) in self._link.ask(LOCK, name):
-                one = of_row(self._link.ask(ONE, name)[0])
-                said = None if one.paused else missed_before_pause(one, now)
+        missed, now = None, self._connection.now() if now is None else now
+        with self._connection.transaction():
+            for (_,) in self._connection.ask(LOCK, name):
+                schedule = of_row(self._connection.ask(ONE, name)[0])
+                missed = None if schedule.paused else missed_before_pause(schedule, now)
             text = "UPDATE schedules SET paused = 1, error = coalesce(?, error) WHERE name = ?"
-            self._changed(name, text, said, name)
-        return said
+            self._changed(name, text, missed, name)
+        return missed
 
     def resume(self, name: str, now: float) -> None:
         """Start its sagas again, from the next time on. Raises `NoSuchSchedule`."""
-        for row in self._link.ask(ONE, name):
+        for row in self._connection.ask(ONE, name):
             next_at = of_row(row).timing.next_after(now)
             text = "UPDATE schedules SET paused = 0, next_at = ? WHERE name = ? AND paused = 1"
-            self._link.changed(text, next_at, name)
-            self._link.tell("requests")
+            self._connection.changed(text, next_at, name)
+            self._connection.notify("requests")
             return
         raise _absent(name)
 
     def remove(self, name: str) -> None:
-        """Delete it. Raises `NoSuchSchedule`."""
+        """Delete a schedule. Raises `NoSuchSchedule`."""
         self._changed(name, "DELETE FROM schedules WHERE name = ?", name)
 
     def advance(
-        self, one: Schedule, next_at: float, last_at: float | None, error: str | None
+        self, schedule: Schedule, next_at: float, last_at: float | None, error: str | None
     ) -> None:
-        """Say which time is the next one."""
-        when = one.next_at, one.timing.cron, one.timing.every, one.timezone
-        self._link.changed(ADVANCE, next_at, last_at, error, one.name, *when)
+        """Store which time is the next one."""
+        when = schedule.next_at, schedule.timing.cron, schedule.timing.every, schedule.timezone
+        self._connection.changed(ADVANCE, next_at, last_at, error, schedule.name, *when)
 
-    def _changed(self, name: str, text: str, *words: Any) -> None:
-        if not self._link.changed(text, *words):
+    def _changed(self, name: str, text: str, *parameters: Any) -> None:
+        if not self._connection.changed(text, *parameters):
             raise _absent(name)
 
 
-def missed_before_pause(one: Schedule, now: float) -> str | None:
-    """What is said of the missed times of a schedule that is paused: nothing starts them."""
-    if one.next_at > now or one.catch_up == CatchUp.SKIP:
+def missed_before_pause(schedule: Schedule, now: float) -> str | None:
+    """Return a message about the missed times of a paused schedule, if there are any."""
+    if schedule.next_at > now or schedule.catch_up == CatchUp.SKIP:
         return None
     try:
-        count = one.timing.missed(one.next_at, now)
-    except InvalidSchedule:  # this system does not have the time zone
+        count = schedule.timing.missed(schedule.next_at, now)
+    except InvalidSchedule:  # this system has no such time zone
         return None
-    count = 1 if one.catch_up == CatchUp.LAST else count
+    count = 1 if schedule.catch_up == CatchUp.LAST else count
     times = "1 missed time" if count == 1 else f"{count:,} missed times"
     return f"{times} before the pause {'was' if count == 1 else 'were'} not started"
 
 
 def _is_of(stored: str, input: str, payloads: Payloads) -> bool:
-    """Whether this is stored of an input. No, if it cannot be decoded."""
+    """Whether a stored text is that of an input. False if it cannot be decoded."""
     try:
         return payloads.decode(stored) == input
     except CannotDecode:

@@ -1,7 +1,6 @@
 """A worker's side of external attempts, for both databases.
 
-A worker's side of what is done elsewhere: what it asks before a function is called, and where it
-writes how that ended.
+A worker asks for an attempt before it calls the function, and reports the outcome afterwards.
 """
 
 from __future__ import annotations
@@ -30,46 +29,50 @@ SHAPE = "SELECT shape FROM shapes WHERE id = ?"
 OPEN = (None, "unknown", "suspended")
 
 
-class Desk(Protocol):
+class WorkerSession(Protocol):
     """A worker's connection to the store, for one thread."""
 
     def begin(self, order: Order) -> Begun | None:
-        """The texts of an attempt; None where it is settled: the message is late, or came twice.
-        Raises `WrongStore`, also where the saga was deleted meanwhile, and `StoreUnavailable`.
+        """Return the texts of an attempt.
+
+        Return None if the attempt is closed: the message is late, or arrived twice. Raises
+        `WrongStore`, also if the saga was deleted, and `StoreUnavailable`.
         """
 
     def report(self, order: Order, outcome: Outcome) -> None:
-        """Writes how it ended. Raises `StoreUnavailable`."""
+        """Store the outcome of an attempt. Raises `StoreUnavailable`."""
 
     def within(self, order: Order, function: Function) -> Function:
-        """The function as a transaction in the store's database, which its report is part of. It
-        raises `Settled` where there was one already.
+        """Return the function as a transaction in the store's database.
+
+        The report is part of the transaction. The function raises `Settled` if the attempt was
+        already reported.
         """
 
     def close(self) -> None:
-        """Drops the connection."""
+        """Close the connection."""
 
 
-def desk_of(store: str) -> Desk:
-    """A desk over that store; it connects when it is asked."""
+def open_worker_session(store: str) -> WorkerSession:
+    """Return a session with that store. It connects with its first query."""
     if is_url(store):
-        from sagas.storage.postgresql.worker_session import PostgreSQLDesk
+        from sagas.storage.postgresql.worker_session import PostgreSQLWorkerSession
 
-        return PostgreSQLDesk(store)
-    from sagas.storage.sqlite.worker_session import SqliteDesk
+        return PostgreSQLWorkerSession(store)
+    from sagas.storage.sqlite.worker_session import SqliteWorkerSession
 
-    return SqliteDesk(store)
+    return SqliteWorkerSession(store)
 
 
 def fetched(
-    order: Order, rows: list[tuple[Any, ...]], one: Callable[..., str], where: str
+    order: Order, rows: list[tuple[Any, ...]], read_text: Callable[..., str], store_name: str
 ) -> Begun | None:
-    """What `BEGIN` found, with the texts that the order does not carry."""
+    """Return the result of `BEGIN`, with the texts that the order does not contain."""
     if not rows:
         raise WrongStore(
-            f"{where}: it has no shard {order.log}. The message of saga {order.key!r} came from "
-            "another store, or too late: the saga was deleted meanwhile. If no saga was deleted, "
-            "give the worker and the program the same store"
+            f"{store_name}: it has no shard {order.log}. The message of saga {order.key!r} came "
+            "from another store, or too late: the saga was deleted meanwhile. If no saga was "
+            "deleted, give the worker and the program the same store"
         )
     shard, attempt, outcome = rows[0]
     if attempt is None or outcome not in OPEN:
@@ -80,12 +83,12 @@ def fetched(
         return stored(RESULT, id, text.step) if isinstance(text, Position) else text
 
     def stored(*query: Any) -> str:
-        return PLAIN.decode(one(*query))
+        return PLAIN.decode(read_text(*query))
 
     results = {name: whole(text) for name, text in order.results.items()}
     return Begun(
         stored(INPUT, id) if order.input is None else order.input,
         results,
         None if order.result is None else whole(order.result),
-        None if order.declared is None else (one(DEFINITION, id), stored(SHAPE, id)),
+        None if order.declared is None else (read_text(DEFINITION, id), stored(SHAPE, id)),
     )

@@ -1,4 +1,4 @@
-"""What a node reports to other nodes and clients, after its commits."""
+"""Notifications to other nodes and clients, after a node's commits."""
 
 from __future__ import annotations
 
@@ -8,37 +8,42 @@ from sagas.storage.postgresql import notifications
 from sagas.storage.postgresql.commit_statement import Commit
 
 SOON = 0.001
-"""Seconds behind a commit in which others hear of it, or sooner behind the next one: what is to be
-done here goes first."""
+"""Seconds after a commit in which other processes are notified, or earlier, at the next commit.
+
+The work on this node comes first.
+"""
 
 
 class Announcer:
-    """Tells over the connection that listens: a commit that tells takes a lock over the whole
-    server."""
+    """Sends notifications over the connection that listens.
 
-    def __init__(self, news: notifications.News) -> None:
-        self.news = news
-        self._said: list[str] = []
-        self._telling: asyncio.TimerHandle | None = None
-        self._saying = self._is_closed = False
+    A commit that sends a notification takes a lock over the whole server. So the commits of shards
+    send none.
+    """
+
+    def __init__(self, listening: notifications.Notifications) -> None:
+        self.notifications = listening
+        self._queued: list[str] = []
+        self._timer: asyncio.TimerHandle | None = None
+        self._is_sending = self._is_closed = False
 
     def stop(self) -> None:
-        """Nothing more is told before `close`."""
+        """Send nothing more before `close`."""
         self._is_closed = True
 
     async def close(self) -> None:
-        """Tells what is left, and ends the connection."""
-        words, self._said = self._said, []
-        await self.news.close(words)
+        """Send what is left, and close the connection."""
+        messages, self._queued = self._queued, []
+        await self.notifications.close(messages)
 
     def hurry(self) -> None:
-        """Tells now what was to be told soon: the server is at work anyway."""
-        if self._telling:
-            self._telling.cancel()
-            self._tell()
+        """Send now what was to be sent soon: the server is at work anyway."""
+        if self._timer:
+            self._timer.cancel()
+            self._send()
 
     def kept(self, commit: Commit) -> None:
-        """A commit is in the store: the others hear of it."""
+        """Notify other processes of a commit that the store has."""
         if ended := commit.ended:
             self.say(notifications.payloads("ended", ended))
         if commit.rare:
@@ -48,7 +53,7 @@ class Announcer:
         has = {part for _, rare in commit.rare for part in rare.parts}
         if "offers" in has and any(row[6] for _, rare in commit.rare for row in rare.offers):
             self.say(["tasks"])
-        if "notes" in has or commit.has_moved:  # parents wait for the former
+        if "notes" in has or commit.has_moved:  # parents wait for notes
             self.say(["requests"])
         if "begun" in has:
             begun = [id for _, rare in commit.rare for id, _ in rare.begun]
@@ -57,20 +62,18 @@ class Announcer:
             answered = [id for _, rare in commit.rare for _, id in rare.answers]
             self.say(notifications.payloads("answered", answered))
 
-    def say(self, words: list[str]) -> None:
-        """Tells the other nodes and the clients, behind the commit: a commit that tells takes a
-        lock over the whole server.
-        """
-        self._said += words
-        if self._said and not self._saying and not self._is_closed:
-            self._saying = True
-            self._telling = asyncio.get_running_loop().call_later(SOON, self._tell)
+    def say(self, messages: list[str]) -> None:
+        """Notify the other nodes and the clients, soon and not in a shard's commit."""
+        self._queued += messages
+        if self._queued and not self._is_sending and not self._is_closed:
+            self._is_sending = True
+            self._timer = asyncio.get_running_loop().call_later(SOON, self._send)
 
-    def _tell(self) -> None:
-        self._telling, words, self._said = None, self._said, []
-        self.news.say(words, self._told)
+    def _send(self) -> None:
+        self._timer, messages, self._queued = None, self._queued, []
+        self.notifications.say(messages, self._sent)
 
-    def _told(self) -> None:
-        """They were told; what came meanwhile is next."""
-        self._saying = False
+    def _sent(self) -> None:
+        """The messages were sent. Send those that came since then."""
+        self._is_sending = False
         self.say([])

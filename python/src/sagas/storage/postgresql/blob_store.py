@@ -15,23 +15,23 @@ if TYPE_CHECKING:
 
 TABLE = re.compile(r"[a-z_][a-z0-9_]{0,62}")
 LIMITED = "SET statement_timeout = '300s'"
-"""A value may have 1 GB."""
+"""The timeout of a statement: a value may have 1 GB."""
 
 
 class PostgresBlobStore:
     """Keep large values in a table of a PostgreSQL database.
 
     The database may be the store's own. The table has a column of type `bytea`: large objects would
-    need rights on each object, and would be left behind where a row is deleted by hand. A value has
-    at most 1 GB.
+    need rights on each object, and would remain if a row is deleted by hand. A value has at most 1
+    GB.
     """
 
     def __init__(self, url: str, *, table: str = "sagas_blobs") -> None:
-        """Take a database. The table is made with the first value, if it is not there.
+        """Use a database. If the table does not exist, it is created with the first value.
 
         Args:
             url: The database: `postgresql://user@host/database`. With several hosts, the one
-                that takes writes is used.
+                that accepts writes is used.
             table: The table's name (default: `sagas_blobs`).
 
         Raises:
@@ -44,54 +44,58 @@ class PostgresBlobStore:
         self._lock, self._is_made = threading.Lock(), False
 
     @contextlib.contextmanager
-    def _link(self) -> Iterator[psycopg.Connection[Any]]:
-        """A connection, which is kept for the next call unless this one fails."""
+    def _connection(self) -> Iterator[psycopg.Connection[Any]]:
+        """Return a connection. It is kept for the next call, unless the block fails."""
         with self._lock:
-            link = self._idle.pop() if self._idle else None
-        if link is None or link.closed:
-            link = self._connect()
+            connection = self._idle.pop() if self._idle else None
+        if connection is None or connection.closed:
+            connection = self._connect()
         try:
-            yield link
+            yield connection
         except BaseException:
-            link.close()
+            connection.close()
             raise
         with self._lock:
-            self._idle.append(link)
+            self._idle.append(connection)
 
     def _connect(self) -> psycopg.Connection[Any]:
         import psycopg
 
         from sagas.storage.postgresql import connections
 
-        link = connections.connect_now(self._url, f"{connections.DURABLE}; {LIMITED}")
+        connection = connections.connect_now(self._url, f"{connections.DURABLE}; {LIMITED}")
         with self._lock:
             if self._is_made:
-                return link
-            there = link.execute("SELECT to_regclass(%s) IS NOT NULL", (self._table,)).fetchone()
-            if there != (True,):
+                return connection
+            exists = connection.execute(
+                "SELECT to_regclass(%s) IS NOT NULL", (self._table,)
+            ).fetchone()
+            if exists != (True,):
                 try:
-                    link.execute(
+                    connection.execute(
                         f"CREATE TABLE IF NOT EXISTS {self._table}(key text PRIMARY KEY, "
                         "data bytea NOT NULL, at timestamptz NOT NULL DEFAULT now())"
                     )
                 except psycopg.errors.InsufficientPrivilege as error:
                     raise InvalidStore(
-                        f"the table {self._table} is not there, and this role may not create it. "
+                        f"the table {self._table} does not exist, and this role may not create it. "
                         "Create it as the owner of the database"
                     ) from error
             self._is_made = True
-        return link
+        return connection
 
-    def _do(self, text: str, *words: Any) -> list[tuple[Any, ...]]:
-        """A statement; once more over a new connection where the server has ended the old one, or
-        takes no writes any more.
+    def _do(self, text: str, *parameters: Any) -> list[tuple[Any, ...]]:
+        """Execute a statement.
+
+        If the server has closed the connection, or no longer accepts writes, the statement is
+        executed again over a new connection.
         """
         import psycopg
 
         for is_last in (False, True):
             try:
-                with self._link() as link:
-                    cursor = link.execute(text.format(self._table), words)
+                with self._connection() as connection:
+                    cursor = connection.execute(text.format(self._table), parameters)
                     return cursor.fetchall() if cursor.description else []
             except (psycopg.OperationalError, psycopg.errors.ReadOnlySqlTransaction):
                 if is_last:
@@ -102,7 +106,7 @@ class PostgresBlobStore:
     def put(self, key: str, data: bytes, /) -> None:
         """Store a value. See `BlobStore.put`."""
         text = "INSERT INTO {}(key, data) VALUES(%s, %s) ON CONFLICT (key) DO UPDATE SET data = "
-        self._do(text + "excluded.data", key, data)  # also the second time it waits for a standby
+        self._do(text + "excluded.data", key, data)  # the second write waits for a standby, too
 
     def get(self, key: str, /) -> bytes:
         """Return a value. See `BlobStore.get`."""
@@ -121,8 +125,8 @@ class PostgresBlobStore:
         return iter([key for (key,) in self._do(text, prefix, before)])
 
     def close(self) -> None:
-        """Close the connections that nobody uses now."""
+        """Close the idle connections."""
         with self._lock:
             idle, self._idle = self._idle, []
-        for link in idle:
-            link.close()
+        for connection in idle:
+            connection.close()

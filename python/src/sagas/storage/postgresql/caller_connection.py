@@ -18,59 +18,66 @@ HERE = (
     "SELECT (SELECT system_identifier FROM pg_control_system()), oid FROM pg_database WHERE "
     "datname = current_database()"
 )
-"""Which database of which server this is. A standby that takes over gives the same."""
+"""Identifies the server and the database.
+
+A standby that takes over has the same values.
+"""
 BEGIN = "SELECT 1"
-"""Before this psycopg begins the caller's transaction: else a savepoint would be a transaction of
-its own, and commit. In a failed one it raises."""
+"""The statement before which psycopg begins the caller's transaction.
+
+Without it a savepoint would be a transaction of its own, and commit. In a failed transaction it
+raises an error.
+"""
 
 
 async def rows(
-    link: psycopg.AsyncConnection[Any], query: str, words: dict[str, Any]
+    connection: psycopg.AsyncConnection[Any], query: str, parameters: dict[str, Any]
 ) -> list[connections.Row]:
-    """A statement's rows, as tuples whatever rows and cursors the connection has."""
+    """Return a statement's rows as tuples, for any row factory of the connection."""
     return await (
-        await psycopg.AsyncCursor(link, row_factory=tuple_row).execute(query, words)
+        await psycopg.AsyncCursor(connection, row_factory=tuple_row).execute(query, parameters)
     ).fetchall()
 
 
 def rows_now(
-    link: psycopg.Connection[Any], query: str, words: dict[str, Any]
+    connection: psycopg.Connection[Any], query: str, parameters: dict[str, Any]
 ) -> list[connections.Row]:
-    """As `rows`, where it stands."""
-    return psycopg.Cursor(link, row_factory=tuple_row).execute(query, words).fetchall()
+    """See `rows`, for a connection of a thread."""
+    return psycopg.Cursor(connection, row_factory=tuple_row).execute(query, parameters).fetchall()
 
 
 @contextlib.asynccontextmanager
-async def savepoint(link: psycopg.AsyncConnection[Any]) -> AsyncIterator[None]:
-    """All of what is done within is in the caller's transaction, or nothing: if it raises, that
-    transaction is as before, and can go on. A connection that commits each statement commits it as
-    a whole.
+async def savepoint(connection: psycopg.AsyncConnection[Any]) -> AsyncIterator[None]:
+    """Execute the block within the caller's transaction, as a whole or not at all.
+
+    If the block raises, the transaction is as before, and can continue. A connection that commits
+    each statement commits the block as a whole.
     """
-    if not _is_ready(link):
-        await psycopg.AsyncCursor(link).execute(BEGIN)
-    with replication.heeded(link):
-        async with link.transaction():
+    if not _is_ready(connection):
+        await psycopg.AsyncCursor(connection).execute(BEGIN)
+    with replication.warnings_raised(connection):
+        async with connection.transaction():
             yield
 
 
 @contextlib.contextmanager
-def savepoint_now(link: psycopg.Connection[Any]) -> Iterator[None]:
-    """As `savepoint`, where it stands."""
-    if not _is_ready(link):
-        psycopg.Cursor(link).execute(BEGIN)
-    with replication.heeded(link), link.transaction():
+def savepoint_now(connection: psycopg.Connection[Any]) -> Iterator[None]:
+    """See `savepoint`, for a connection of a thread."""
+    if not _is_ready(connection):
+        psycopg.Cursor(connection).execute(BEGIN)
+    with replication.warnings_raised(connection), connection.transaction():
         yield
 
 
-def _is_ready(link: Given) -> bool:
-    """Whether a transaction is open and sound, or each statement is one."""
-    status = link.pgconn.transaction_status
+def _is_ready(connection: Given) -> bool:
+    """Whether a valid transaction is open, or each statement is a transaction."""
+    status = connection.pgconn.transaction_status
     is_open = status == pq.TransactionStatus.INTRANS
-    return is_open or (link.autocommit and status == pq.TransactionStatus.IDLE)
+    return is_open or (connection.autocommit and status == pq.TransactionStatus.IDLE)
 
 
 def check_kind(connection: object, plain: bool) -> None:
-    """Raises `TypeError` where it is none for this client: before anything is written."""
+    """Raise `TypeError` if the client cannot use the connection, before anything is written."""
     if not isinstance(connection, psycopg.Connection if plain else psycopg.AsyncConnection):
         wants = (
             ("SyncClient", "psycopg.Connection", "Client", "AsyncConnection")
@@ -84,8 +91,8 @@ def check_kind(connection: object, plain: bool) -> None:
 
 
 @contextlib.contextmanager
-def faults(connection: Given, path: str) -> Iterator[None]:
-    """What PostgreSQL raises over it, as `StoreUnavailable` that says so."""
+def translate_errors(connection: Given, path: str) -> Iterator[None]:
+    """Raise errors of PostgreSQL as `StoreUnavailable` that names the given connection."""
     if connection.closed:
         raise StoreUnavailable(
             f"{path}: the given connection is closed. Nothing was written. Give an open one"
@@ -93,22 +100,24 @@ def faults(connection: Given, path: str) -> Iterator[None]:
     try:
         yield
     except psycopg.errors.InFailedSqlTransaction as error:
-        told = (
+        problem = (
             "has an open transaction in which a statement failed. Nothing was written. "
             "Roll it back, and start the saga in the next one"
         )
-        raise StoreUnavailable(f"{path}: the given connection {told}") from error
-    except connections.FAULTS as error:
-        raise connections.unwritable(f"{path}, by the given connection", error) from error
+        raise StoreUnavailable(f"{path}: the given connection {problem}") from error
+    except connections.CLIENT_ERRORS as error:
+        raise connections.store_unavailable(f"{path}, by the given connection", error) from error
 
 
 def check_database(
-    connection: Given, there: list[connections.Row], store: list[connections.Row], path: str
+    connection: Given, connected: list[connections.Row], store: list[connections.Row], path: str
 ) -> None:
-    """Raises `StoreUnavailable` where the connection is to another database than the store's.
-    What `HERE` gives of both; nothing where that is not known.
+    """Check that the connection is to the store's database.
+
+    Raises `StoreUnavailable` otherwise. `connected` and `store` are the rows of `HERE` for both; an
+    empty `store` means that it is unknown.
     """
-    if store and there != store:
+    if store and connected != store:
         info = connection.info
         other = f"database {info.dbname!r} at {info.host}:{info.port}"
         raise StoreUnavailable(

@@ -6,7 +6,7 @@ from sagas.definition.capacity import SHARD_CAPACITY
 from sagas.storage import deliveries, external
 
 FREE = "(v.shard < 0 OR v.shard IN (SELECT shard FROM mine))"
-"""What is of no log, or of one that is still this node's."""
+"""Whether a row belongs to no shard, or to one that this node still owns."""
 
 ROWS = {
     "born": "shard bigint, name text",
@@ -68,16 +68,19 @@ ROWS = {
     "closed": "shard bigint, closed smallint, audit text",
     "set_aside": "shard bigint, audit text",
 }
-"""The columns of the rows of each part. Most sagas are opened without a deadline and a trace
-context, and end without a plan: such rows are written without them, since psycopg handles each
-word of a statement by itself. Its gain alone is not measured.
+"""The columns of the rows of each part.
+
+Most sagas are opened without a deadline and a trace context, and end without a plan. Their rows are
+written without these columns, since psycopg handles each parameter by itself. The gain of that
+alone is not measured.
 
 `opened_over`: sagas that also end in the commit. A part that updates a row does not see what
 another part inserts.
 """
 COLUMNS = {
     part: [
-        (name, kind) for name, _, kind in (column.partition(" ") for column in columns.split(", "))
+        (name, sql_type)
+        for name, _, sql_type in (column.partition(" ") for column in columns.split(", "))
     ]
     for part, columns in ROWS.items()
 }
@@ -172,11 +175,12 @@ PARTS = {
         "WHERE shards.shard = v.shard AND shards.closed = 0"
     ),
 }
-"""What becomes of them.
+"""The statement of each part.
 
-`cancelled`: of all attempts of a saga, except those of which another part of the commit has the
-last word.
+`cancelled`: it changes all attempts of a saga, except those that another part of the commit
+changes.
 
-`settled`: a worker's *done* gives way to nothing else. The row's shard would be null, which is
-refused, and with it all of the statement: also where the worker's transaction was open as this
-began."""
+`settled`: if a worker reported a success, and the commit says otherwise, the row's shard would be
+null. That is refused, and with it the whole statement. It is also refused if the worker's
+transaction was open when this statement began.
+"""

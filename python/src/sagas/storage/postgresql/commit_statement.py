@@ -1,12 +1,12 @@
 """One fenced statement for all that a commit writes.
 
-All rows go as one JSON text, each as a list; where no part has more than one, each value is a
-word of its own instead, which takes the server some four fifths of the time. Parts without rows
-are left out, and each form of the statement is prepared once.
+All rows go as one JSON text, each as a list. If no part has more than one row, each value is a
+parameter of its own instead, which takes the server about four fifths of the time. Parts without
+rows are left out, and each form of the statement is prepared once.
 
-A log that was opened a saga in whose key nobody has looked for (`Batch.guessed`) counts as
-another's where that key is taken: of it nothing is written, and no row is refused, which would
-end the whole transaction.
+A shard may open a saga without a lookup of its key (`Batch.guessed`). If the key is taken, nothing
+of the shard is written, as if another node owned it. So no row is refused, which would end the
+whole transaction.
 """
 
 from __future__ import annotations
@@ -28,20 +28,28 @@ from sagas.storage.postgresql.prepared import array
 
 MOVED = """
 moved AS (INSERT INTO operator_commands(id, key, command, value, at, saga) OVERRIDING SYSTEM VALUE
-  SELECT (one ->> 0)::bigint, key, one ->> 1, one ->> 2, (one ->> 3)::double precision, saga
-  FROM begun_, jsonb_array_elements(commands) one WHERE saga IS NOT NULL RETURNING id)"""
-"""What was asked of a start is asked of its saga. As the row that goes away has it in the end: a
-part of the statement that looked for rows would not see what was asked since it began."""
+  SELECT (request ->> 0)::bigint, key, request ->> 1, request ->> 2,
+    (request ->> 3)::double precision, saga
+  FROM begun_, jsonb_array_elements(commands) request WHERE saga IS NOT NULL RETURNING id)"""
+"""Moves the requests for a start to its saga.
+
+It uses the row that is deleted, in its last version. A part of the statement that looked for rows
+would not see requests that were added since the statement began.
+"""
 HAS_MOVED = -1
-"""A row of the answer, in place of a shard's number: requests moved, of which the nodes are told
-behind the commit."""
+"""A row of the reply in place of a shard's number: requests moved.
+
+The nodes are notified of them after the commit.
+"""
 KEPT = "SELECT shard FROM shards WHERE {mine}{free} FOR SHARE"
 CONTINUED = (
     "({first} IS NULL OR EXISTS (SELECT 1 FROM event_log e WHERE e.shard = {shard} "
     "AND e.first_seq = {first} AND e.committed_at = {at}))"
 )
-"""Whether a log's last chunk is there, as far as this node knows of one: a database that was
-restored from a backup may lack it, and has the same owner and epoch."""
+"""Whether a shard's last chunk exists, if this node knows one.
+
+A database that was restored from a backup may not have it, with the same owner and epoch.
+"""
 ALONE = "shard = $3::bigint AND owner = $2 AND epoch = $4::bigint AND " + CONTINUED.format(
     shard="$3::bigint", first="$5::integer", at="$6::double precision"
 )
@@ -53,8 +61,10 @@ LISTED = (
     first="($5::integer[])[array_position($3, shards.shard)]",
     at="($6::double precision[])[array_position($3, shards.shard)]",
 )
-"""Whether a log is this node's still, and goes on from what this node knows: the only one of a
-commit, or one of several."""
+"""Whether this node still owns a shard, and the shard continues from what this node knows.
+
+`ALONE` is for the only shard of a commit, and `LISTED` for one of several.
+"""
 BORN = (
     "INSERT INTO shards(shard, name, owner, epoch) SELECT v.shard, v.name, $2, 1 "
     "FROM {rows}{free} ON CONFLICT DO NOTHING RETURNING shard, epoch"
@@ -64,31 +74,35 @@ TAKEN = (
     "SELECT v.shard FROM {rows} JOIN sagas s ON s.key = v.key UNION ALL SELECT v.shard FROM {rows} "
     "JOIN pending_starts i ON i.key = v.key"
 )
-"""The logs whose guess was wrong: a saga has the key, or a client's start that no log has yet.
-(`EXISTS .. OR EXISTS ..` may be planned as a look at all sagas.)
+"""The shards that guessed wrong: a saga has the key, or a client's start without a shard.
+
+Two conditions with `EXISTS` and `OR` may be planned as a scan of all sagas.
 """
 WITHDRAWN = ", (SELECT json_agg(attempt)::text FROM withdrawn_)"
-"""Which attempts were withdrawn."""
+"""The attempts that were withdrawn."""
 MOST = 100 << 20
-"""Bytes of rows that PostgreSQL takes apart at once: more than some 200 MiB it does only piece
-by piece, which takes longer.
+"""Bytes of rows that PostgreSQL parses at once.
+
+It parses more than about 200 MiB only piece by piece, which takes longer.
 """
 dumps = json.JSONEncoder(separators=(",", ":"), check_circular=False).encode
 
 
-WORDS = "words"
-"""The form of a statement of one row of each part."""
+SINGLE_ROWS = "words"
+"""The form of a statement with one row of each part."""
 
 
 @functools.lru_cache(maxsize=None)
 def statement(parts: tuple[str, ...], form: str = "jsonb", alone: bool = False) -> str:
-    """The statement with these parts. $1: the rows of each, by its name; $2: the node; $3 to $6:
-    its logs, their epochs and the two parts of their tails, or where it is `alone` those of the
-    log, which the server looks up in less time.
+    """Return the statement with these parts.
 
-    As words, where each part has one row: $1, $7 and so on are the values, part by part.
+    $1 has the rows of each part, by its name. $2 is the node. $3 to $6 are the node's shards, their
+    epochs and the two parts of their tails. If the statement is `alone`, they are those of the only
+    shard, which the server looks up in less time.
+
+    In the form of single rows, $1, $7 and so on are the values, part by part.
     """
-    rows = _rows_of_words(parts) if form == WORDS else _rows_of_json(form)
+    rows = _rows_of_parameters(parts) if form == SINGLE_ROWS else _rows_of_json(form)
     guessed, texts = "guessed" in parts, []
     if guessed:
         texts.append(f"taken AS MATERIALIZED ({TAKEN.format(rows=rows('guessed'))})")
@@ -105,94 +119,99 @@ def statement(parts: tuple[str, ...], form: str = "jsonb", alone: bool = False) 
     ]
     if "begun" in parts:
         texts.append(MOVED)
-    asked = "" if parts else f" WHERE $1::{form} IS NOT NULL"  # each word has a type
+    condition = "" if parts else f" WHERE $1::{form} IS NOT NULL"  # each parameter has a type
     withdrawn = WITHDRAWN if "withdrawn" in parts else ""
     moved = ""
     if "begun" in parts:
         moved = f" UNION ALL SELECT {HAS_MOVED}{', NULL' if withdrawn else ''} FROM moved"
-    return f"WITH {', '.join(texts)} SELECT shard{withdrawn} FROM mine{asked}{moved}"
+    return f"WITH {', '.join(texts)} SELECT shard{withdrawn} FROM mine{condition}{moved}"
 
 
 def _free(name: str) -> str:
-    """Whether no guess of that log was wrong."""
+    """Return the condition that no guess of that shard was wrong."""
     return f"NOT EXISTS (SELECT 1 FROM taken WHERE taken.shard = {name}.shard)"
 
 
 def _attempts(rare: Rare, part: str) -> Sequence[Sequence[Any]]:
-    """The rows of a part, each of which is about an attempt that others do."""
+    """Return the rows of a part, each of which is about an external attempt."""
     if part not in EXTERNAL:
         return ()
     if part == "withdrawn":
-        return [(one.attempt, one.shard) for one in rare.withdrawn]
+        return [(withdrawal.attempt, withdrawal.shard) for withdrawal in rare.withdrawn]
     rows: Sequence[Sequence[Any]] = getattr(rare, part)
     return rows
 
 
 def _undone(row: HeldRow) -> HeldRow:
-    """The row of a report of which nothing is left to be undone."""
+    """Return the row of a report for which nothing is left to be undone."""
     is_report = row[3] == 0 and row[4] == EarlyReason.RESULT
     return (*row[:4], EarlyReason.UNDONE.value, *row[5:]) if is_report else row
 
 
-def _saga_of(log: int, attempt: str) -> int:
-    """The id of the saga of an attempt."""
+def _saga_of(shard: int, attempt: str) -> int:
+    """Return the id of the saga of an attempt."""
     name = tokens.parse(attempt)
-    return log * SHARD_CAPACITY + name.number if name else -1
+    return shard * SHARD_CAPACITY + name.number if name else -1
 
 
 def _rows_of_json(form: str) -> Callable[[str], str]:
     def rows(part: str) -> str:
         cells = (
-            f"(e ->> {place}){'' if kind == 'text' else f'::{kind}'} AS {name}"
-            for place, (name, kind) in enumerate(COLUMNS[part])
+            f"(e ->> {index}){'' if sql_type == 'text' else f'::{sql_type}'} AS {name}"
+            for index, (name, sql_type) in enumerate(COLUMNS[part])
         )
         return f"(SELECT {', '.join(cells)} FROM {form}_array_elements($1::{form} -> '{part}') e) v"
 
     return rows
 
 
-def _rows_of_words(parts: tuple[str, ...]) -> Callable[[str], str]:
-    places = itertools.chain([1], itertools.count(7))
+def _rows_of_parameters(parts: tuple[str, ...]) -> Callable[[str], str]:
+    numbers = itertools.chain([1], itertools.count(7))
     cells = {
-        part: ", ".join(f"${next(places)}::{kind} AS {name}" for name, kind in COLUMNS[part])
+        part: ", ".join(
+            f"${next(numbers)}::{sql_type} AS {name}" for name, sql_type in COLUMNS[part]
+        )
         for part in parts
     }
     return lambda part: f"(SELECT {cells[part]}) v"
 
 
 EXTERNAL = ("offers", "suspended", "withdrawn", "settled")
-"""The parts of what others do, each row of which is about one attempt: the last one counts, since a
-statement changes a row once, whatever the order of its parts. `settled` is always the last.
+"""The parts about external attempts. Each of their rows is about one attempt.
+
+Only the last row of an attempt counts, since a statement changes a row once, whatever the order of
+its parts. `settled` is always the last.
 """
 PLAIN: dict[str, Callable[[int, Rare], Iterable[Any]]] = {
-    "shapes": lambda log, rare: rare.shapes,
-    "labels": lambda log, rare: rare.labels,
-    "children": lambda log, rare: rare.children,
-    "deliveries": lambda log, rare: rare.deliveries,
-    "spans": lambda log, rare: [(*row[:5], clean(row[5])) for row in rare.spans],
-    "answers": lambda log, rare: [(log, *answer) for answer in rare.answers],
-    "asked": lambda log, rare: [(log, *row, answer) for row, answer in rare.asked],
-    "begun": lambda log, rare: [(log, *one) for one in rare.begun],
-    "notes": lambda log, rare: [(clean(note), id) for note, id in rare.notes],
-    "undone": lambda log, rare: rare.undone,
-    "closed": lambda log, rare: [(log, *rare.closed)] if rare.closed else [],
-    "set_aside": lambda log, rare: [(log, *rare.set_aside)] if rare.set_aside else [],
+    "shapes": lambda shard, rare: rare.shapes,
+    "labels": lambda shard, rare: rare.labels,
+    "children": lambda shard, rare: rare.children,
+    "deliveries": lambda shard, rare: rare.deliveries,
+    "spans": lambda shard, rare: [(*row[:5], clean(row[5])) for row in rare.spans],
+    "answers": lambda shard, rare: [(shard, *answer) for answer in rare.answers],
+    "asked": lambda shard, rare: [(shard, *row, answer) for row, answer in rare.asked],
+    "begun": lambda shard, rare: [(shard, *row) for row in rare.begun],
+    "notes": lambda shard, rare: [(clean(note), id) for note, id in rare.notes],
+    "undone": lambda shard, rare: rare.undone,
+    "closed": lambda shard, rare: [(shard, *rare.closed)] if rare.closed else [],
+    "set_aside": lambda shard, rare: [(shard, *rare.set_aside)] if rare.set_aside else [],
 }
-"""The rows of parts that stand by themselves, by the number of the log."""
+"""The rows of independent parts, by the number of the shard."""
 
 
 class Commit:
-    """All that a list of batches writes, with what becomes of a row that more than one of them
-    touches.
+    """All that a list of batches writes.
+
+    If several batches change the same row, it has the final state of the row.
 
     Attributes:
         batches: The batches.
-        epochs: The epoch of each log.
-        events: How many events each log has after it that gains some.
-        tails: The last chunk of each log before it, where the log has any.
+        epochs: The epoch of each shard.
+        events: The number of events after the commit, of each shard that gains some.
+        tails: The last chunk before the commit, of each shard that has one.
         parts: The rows of each part that has any.
-        rare: What most batches have nothing of, with the log.
-        has_moved: Whether requests moved from starts to sagas, once it is answered.
+        rare: What most batches do not have, with the shard.
+        has_moved: Whether requests moved from starts to sagas. The reply sets it.
     """
 
     def __init__(
@@ -212,12 +231,12 @@ class Commit:
             self._put_many(batches)
 
     def answer(self, withdrawn: str | bytes | None) -> None:
-        """Tell each withdrawal whether it was done."""
+        """Set of each withdrawal whether it was done."""
         attempts = set(json.loads(withdrawn or "[]"))
         for _, rare in self.rare:
             if "withdrawn" in rare.parts:
-                for one in rare.withdrawn:
-                    one.is_done = one.attempt in attempts
+                for withdrawal in rare.withdrawn:
+                    withdrawal.is_done = withdrawal.attempt in attempts
 
     @property
     def ended(self) -> list[int]:
@@ -226,7 +245,7 @@ class Commit:
         return ended + [row[0] for row in self.rows("opened_over")]
 
     def rows(self, part: str) -> Sequence[Sequence[Any]]:
-        """The rows of a part."""
+        """Return the rows of a part."""
         return self.parts.get(part, ())
 
     def _put_one(self, batch: Batch) -> None:
@@ -252,13 +271,15 @@ class Commit:
                 chunks.setdefault(batch.log, (had, batch.at, []))[2].append(batch.text)
         rows: dict[str, Sequence[Any]] = {
             "lines": [
-                (log, first, at, "".join(texts), self.epochs[log])
-                for log, (first, at, texts) in chunks.items()
+                (shard, first, at, "".join(texts), self.epochs[shard])
+                for shard, (first, at, texts) in chunks.items()
             ],
             "results": [row for batch in batches for row in batch.results],
             "guessed": [(batch.log, key) for batch in batches for key in batch.guessed],
         }
-        self.parts.update((part, found) for part, found in rows.items() if found)
+        self.parts.update(
+            (part, rows_of_part) for part, rows_of_part in rows.items() if rows_of_part
+        )
         opened = [row for batch in batches for row in batch.opened]
         self._put_sagas(opened, [row for batch in batches for row in batch.ended])
         self.rare += [(batch.log, batch.rare) for batch in batches if batch.rare]
@@ -292,16 +313,16 @@ class Commit:
             self.parts["ended"] = [(*row[:2], *row[4:]) for row in rows]
 
     def _lines(self, batch: Batch) -> int:
-        """How many events its log has before it."""
-        log = batch.log
-        had = self.events[log] if log in self.events else self._before(log)
+        """Return the number of events of its shard before it."""
+        shard = batch.log
+        had = self.events[shard] if shard in self.events else self._before(shard)
         if batch.first != had:
-            raise ValueError(f"shard {log}: event {batch.first} behind {had}")
-        self.events[log] = had + batch.text.count("\n")
+            raise ValueError(f"shard {shard}: event {batch.first} follows event {had}")
+        self.events[shard] = had + batch.text.count("\n")
         return had
 
     def _held(self) -> None:
-        """The last word of each held attempt."""
+        """Put the last state of each suspended attempt."""
         held: dict[tuple[int, int, str], dict[int, HeldRow]] = {}
         freed: dict[tuple[int, int, str], int] = {}
         for _, rare in self.rare:
@@ -309,24 +330,30 @@ class Commit:
                 held.setdefault(row[:3], {})[row[3]] = (
                     (*row[:8], clean(row[8])) if row[8] is not None else row
                 )
-            for id, step, kind, attempt in rare.freed:
-                at = id, step, kind
-                freed[at] = max(attempt, freed.get(at, 0))
-                held[at] = {
-                    number: row for number, row in held.get(at, {}).items() if number > attempt
+            for id, step, action, attempt in rare.freed:
+                attempt_key = id, step, action
+                freed[attempt_key] = max(attempt, freed.get(attempt_key, 0))
+                held[attempt_key] = {
+                    number: row
+                    for number, row in held.get(attempt_key, {}).items()
+                    if number > attempt
                 }
-        some = [rare.undone for _, rare in self.rare if "undone" in rare.parts]
-        undone = {(*one, "run") for of in some for one in of}
-        for at in undone & held.keys():  # that part does not see rows of this one
-            held[at] = {number: _undone(row) for number, row in held[at].items()}
+        undone_rows = [rare.undone for _, rare in self.rare if "undone" in rare.parts]
+        undone = {(*row, "run") for rows in undone_rows for row in rows}
+        for attempt_key in (
+            undone & held.keys()
+        ):  # the part `undone` does not see rows of this commit
+            held[attempt_key] = {number: _undone(row) for number, row in held[attempt_key].items()}
         rows = [row for of in held.values() for row in of.values()]
         if rows:
             self.parts["held"] = rows
         if freed:
-            self.parts["freed"] = [(*at, attempt) for at, attempt in freed.items()]
+            self.parts["freed"] = [
+                (*attempt_key, attempt) for attempt_key, attempt in freed.items()
+            ]
 
     def _others(self) -> None:
-        """What most commits have nothing of."""
+        """Put what most commits do not have."""
         has = {part for _, rare in self.rare for part in rare.parts}
         if "held" in has or "freed" in has:
             self._held()
@@ -339,7 +366,7 @@ class Commit:
             self._put("progress", [*last.values()])
         for part, rows_of in PLAIN.items():
             if part in has:
-                self._put(part, [row for log, rare in self.rare for row in rows_of(log, rare)])
+                self._put(part, [row for shard, rare in self.rare for row in rows_of(shard, rare)])
 
     def _put(self, part: str, rows: Sequence[Any]) -> None:
         if rows:
@@ -347,25 +374,25 @@ class Commit:
 
     def _definitions(self) -> None:
         born = {batch.log: batch.born for batch in self.batches if batch.born}
-        self._put("born", [(log, name) for log, (name, _) in born.items()])
-        defined = {(log, *one) for log, (_, of) in born.items() for one in of}
-        defined |= {(log, *one) for log, rare in self.rare for one in rare.defined}
-        # in order, so that two commits that make the same wait for one another and never crosswise
+        self._put("born", [(shard, name) for shard, (name, _) in born.items()])
+        defined = {(shard, *row) for shard, (_, rows) in born.items() for row in rows}
+        defined |= {(shard, *row) for shard, rare in self.rare for row in rare.defined}
+        # in order, so that two commits with the same definitions cannot deadlock
         self._put("definitions", sorted({row[2:] for row in defined}))
         self._put("defined", sorted({row[:3] for row in defined}))
 
     def _external(self) -> None:
-        """What becomes of attempts that others do."""
+        """Put the last change of each external attempt."""
         last: dict[str, tuple[str, Any]] = {}
         others: dict[int, list[str]] = {}
-        for log, rare in self.rare:
+        for shard, rare in self.rare:
             for part in rare.parts:
                 for row in _attempts(rare, part):
                     if row[0] not in last:
-                        others.setdefault(_saga_of(log, row[0]), []).append(row[0])
+                        others.setdefault(_saga_of(shard, row[0]), []).append(row[0])
                     if part == "settled" or last.get(row[0], ("",))[0] != "settled":
                         last[row[0]] = part, row
-        ended = {id: why for _, rare in self.rare for why, id in rare.cancelled}
+        ended = {id: reason for _, rare in self.rare for reason, id in rare.cancelled}
         for part in EXTERNAL:
             self._put(part, [row for of, row in last.values() if of == part])
         offers = [
@@ -373,39 +400,46 @@ class Commit:
             for row in self.rows("offers")
         ]
         self._put("offers", offers)
-        cancelled = ((why, id, array(others.get(id, ())).decode()) for id, why in ended.items())
+        cancelled = (
+            (reason, id, array(others.get(id, ())).decode()) for id, reason in ended.items()
+        )
         self._put("cancelled", [*cancelled])
 
-    def words(self, node: bytes) -> tuple[str, list[bytes | None]]:
-        """The statement and its words."""
+    def bind(self, node: bytes) -> tuple[str, list[bytes | None]]:
+        """Return the statement and its parameters."""
         parts, alone = tuple(sorted(self.parts)), len(self.epochs) == 1
         mine: list[bytes | None]
         if alone:
-            ((log, epoch),) = self.epochs.items()
-            tail = self.tails.get(log)
-            mine = [node, b"%d" % log, b"%d" % epoch, None, None]
+            ((shard, epoch),) = self.epochs.items()
+            tail = self.tails.get(shard)
+            mine = [node, b"%d" % shard, b"%d" % epoch, None, None]
             if tail is not None:
                 mine[3:] = b"%d" % tail.first_seq, repr(tail.committed_at).encode()
         else:
-            tails = [self.tails.get(log) or ("NULL", "NULL") for log in self.epochs]
+            tails = [self.tails.get(shard) or ("NULL", "NULL") for shard in self.epochs]
             lists = self.epochs, self.epochs.values(), *(zip(*tails) if tails else ((), ()))
-            mine = [node, *(f"{{{','.join(map(str, words))}}}".encode() for words in lists)]
-        if parts and max(map(len, self.parts.values())) == 1 and (words := self._cells(parts)):
-            return statement(parts, WORDS, alone), [words[0], *mine, *words[1:]]
+            mine = [
+                node,
+                *(f"{{{','.join(map(str, parameters))}}}".encode() for parameters in lists),
+            ]
+        if parts and max(map(len, self.parts.values())) == 1 and (parameters := self._cells(parts)):
+            return statement(parts, SINGLE_ROWS, alone), [parameters[0], *mine, *parameters[1:]]
         rows = dumps(self.parts).encode()
         return statement(parts, "jsonb" if len(rows) < MOST else "json", alone), [rows, *mine]
 
     def _cells(self, parts: Iterable[str]) -> list[bytes | None] | None:
-        """The cells of one row of each part. None where one would be cut, at a zero, or there is
-        too much of them: the other form has that refused, or takes it.
+        """Return the cells of one row of each part.
+
+        Return None if a cell contains a NUL, or if they are too long. The other form then fails on
+        the NUL, or can be that long.
         """
         cells = [*itertools.chain.from_iterable([self.parts[part][0] for part in parts])]
-        told = "\0".join(map(str, cells)).encode()
-        words: list[bytes | None] = [*told.split(b"\0")]
-        if len(words) != len(cells) or len(told) >= MOST:
+        text = "\0".join(map(str, cells)).encode()
+        values: list[bytes | None] = [*text.split(b"\0")]
+        if len(values) != len(cells) or len(text) >= MOST:
             return None
         return (
-            words
+            values
             if None not in cells
-            else [None if cell is None else word for cell, word in zip(cells, words)]
+            else [None if cell is None else word for cell, word in zip(cells, values)]
         )

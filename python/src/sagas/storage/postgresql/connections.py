@@ -25,19 +25,21 @@ from sagas.storage.postgresql.replication import (
 )
 
 PATIENCE = 20.0
-"""Seconds that a statement may take: what takes longer is given up, and what it did is looked
-up.
+"""Seconds that a statement may take.
+
+If it takes longer, it is given up, and its effect is looked up.
 """
 CONNECT = 5
-KNOCK = 2.0
-"""Seconds that a server has for its answer to a first connection."""
+LOGIN_TIMEOUT = 2.0
+"""Seconds that a server has to accept a first connection."""
 FINAL = re.compile(
     r"authentication failed|no password supplied|pg_hba\.conf|not permitted to log in|permission "
     r"denied for database"
     r"|(role|database) \".*\" does not exist|no such (user|database)"
 )
-"""What is said, in English alone, to who will never be let in so. There is no code with it:
-libpq keeps that to itself.
+"""The messages of a server that will never accept the login. They are only in English.
+
+libpq does not return a code for them.
 """
 DEFAULTS: dict[str, Any] = {
     "connect_timeout": CONNECT,
@@ -52,44 +54,54 @@ DURABLE = (
     "SELECT set_config('synchronous_commit', 'on', false) WHERE "
     "current_setting('synchronous_commit') IN ('off', 'local')"
 )
-"""What is committed is on the disk, and on a synchronous standby where there is one, whatever
-the database's own setting says.
+"""Makes a commit wait for the disk, and for a synchronous standby if there is one.
+
+The database's own setting is ignored.
 """
 SETTINGS = (
     "SET client_encoding = 'UTF8'; SET search_path = sagas; SET jit = off; SET enable_seqscan = "
     f"off; SET enable_hashjoin = off; SET enable_mergejoin = off; {DURABLE}"
 )
-"""Plans are made once, for tables that were empty then and are full later: let them be by
+"""The settings of a connection.
+
+Plans are made once, for tables that are empty then and full later. So the planner has to use
 indexes.
 """
 
 LIMITED = f"SET statement_timeout = '{int(PATIENCE)}s'"
 ABANDONED = f"SET idle_in_transaction_session_timeout = '{int(PATIENCE)}s'"
-"""A machine that is gone in the middle of a transaction keeps nobody from what it has locked: the
-server may hear of that only hours later.
+"""The timeout of a transaction that is idle.
+
+If a machine fails during a transaction, its locks are released soon. The server may notice the
+failure only hours later.
 """
 REPEATED = f"SET plan_cache_mode = force_generic_plan; {SETTINGS}"
-"""For statements whose plan has nothing to do with their words: else some are planned anew each
-time.
+"""The settings for statements whose plan does not depend on their parameters.
+
+Without them some statements would be planned each time.
 """
 
 RIGHTS = "have the owner of the database run `sagas store URL init --role {role}`"
-"""What helps a role that may not."""
+"""The remedy for a role without the needed rights."""
 
-FAULTS = (psycopg.Error, PoolTimeout, OSError, TimeoutError)
-"""What is raised where the server does not answer as it should."""
+CLIENT_ERRORS = (psycopg.Error, PoolTimeout, OSError, TimeoutError)
+"""The errors of a server that does not answer as it should."""
 
-LINE = hosts.LINE
+TIMELINE = hosts.TIMELINE
 TAKEOVER = (
     "INSERT INTO takeovers(shard, epoch, node, last_seq, timeline) "
-    f"SELECT shard, epoch, {{node}}, {{last}}, {LINE} FROM {{taken}}"
+    f"SELECT shard, epoch, {{node}}, {{last}}, {TIMELINE} FROM {{taken}}"
 )
 READ = TAKEOVER.format(node="%(node)s", last="last_seq(shard)", taken="mine")
-"""Notes who raised the epochs of the shards `mine`: a part of the statement that did, and that
-reads these shards.
+"""Records the new epochs of the shards `mine`.
+
+It is a part of a statement that raises the epochs, and reads these shards.
 """
 RAISED = TAKEOVER.format(node="%(node)s", last="NULL::integer", taken="mine")
-"""The same of a statement that reads none, and so does not wait until others let it."""
+"""The same for a statement that does not read the shards.
+
+So it does not wait for other transactions.
+"""
 
 ESCAPED = (
     "with % and two hex digits for what is special in a password, "
@@ -97,7 +109,10 @@ ESCAPED = (
 )
 
 CUT = ("08", "57P0")
-"""How the codes begin that say that a connection is over; an error without a code says so too."""
+"""The prefixes of the codes of a closed connection.
+
+An error without a code counts, too.
+"""
 
 T = TypeVar("T")
 Row = tuple[Any, ...]
@@ -105,101 +120,109 @@ Link = StoreConnection
 
 
 def read(url: str) -> dict[str, Any]:
-    """What a URL says. Raises `InvalidStore` where it is none, or most likely none; the text has
-    no part of a password.
+    """Return the parameters of a URL.
+
+    Raises `InvalidStore` if it is not a valid URL, or most likely not one. The message has no part
+    of a password.
     """
     if not is_url(url):
         raise InvalidStore(f"this is not a URL of a PostgreSQL database. Write {FORM}")
-    if has_stray_at(url):
-        raise unread("its password probably contains @ or / unescaped")
+    if has_unescaped_at(url):
+        raise invalid_url("its password probably contains @ or / unescaped")
     try:
-        told: dict[str, Any] = conninfo.conninfo_to_dict(url)
+        parameters: dict[str, Any] = conninfo.conninfo_to_dict(url)
     except psycopg.ProgrammingError as error:
-        said = str(error).strip()
+        problem = str(error).strip()
         if (
-            not said.startswith("invalid URI query parameter") or "@" in url.partition("?")[2]
-        ):  # else it may show a part of the password
-            said = (
+            not problem.startswith("invalid URI query parameter") or "@" in url.partition("?")[2]
+        ):  # another message may have a part of the password
+            problem = (
                 "two slashes are missing"
-                if said.startswith('missing "="')
-                else said.partition('"')[0].strip(" :")
+                if problem.startswith('missing "="')
+                else problem.partition('"')[0].strip(" :")
             )
-        raise unread(said) from None
-    if not all(port.isdigit() or not port for port in str(told.get("port", "")).split(",")):
-        raise unread(
+        raise invalid_url(problem) from None
+    if not all(port.isdigit() or not port for port in str(parameters.get("port", "")).split(",")):
+        raise invalid_url(
             "its port is not a number; if that is the password, @ and the host are missing"
         )
-    return told
+    return parameters
 
 
-def unread(why: str) -> InvalidStore:
-    """What is said of a URL that cannot be read."""
-    return InvalidStore(f"the URL of the store cannot be read ({why}). Write {FORM}, {ESCAPED}")
+def invalid_url(reason: str) -> InvalidStore:
+    """Return the error for a URL that cannot be read."""
+    return InvalidStore(f"the URL of the store cannot be read ({reason}). Write {FORM}, {ESCAPED}")
 
 
-def has_stray_at(url: str) -> bool:
-    """Whether an @ would be taken for a part of the host or of the database's name, as it is
-    where a password has @ or / as they are.
+def has_unescaped_at(url: str) -> bool:
+    """Whether an @ would be read as a part of the host or of the database's name.
+
+    That happens if a password has an unescaped @ or /.
     """
-    told = url.partition("://")[2]
-    user, _, behind = told.partition("@")
-    if "/" in user:  # what stands before it is taken for the host
-        behind = told
-    return "@" in behind.partition("?")[0]
+    rest = url.partition("://")[2]
+    user, _, after_user = rest.partition("@")
+    if "/" in user:  # the text before the slash is read as the host
+        after_user = rest
+    return "@" in after_user.partition("?")[0]
 
 
 def address(url: str) -> str:
-    """The URL with what it leaves open: how soon a dead connection is noticed, and that the
-    server has to take writes. Of `Hosts` in the order in which they are tried.
+    """Return the URL with defaults for what it leaves open.
+
+    The defaults say how soon a dead connection is noticed, and that the server must accept writes.
+    A URL of `Hosts` has the hosts in the order in which they are tried.
     """
-    told = read(url)
-    more = {word: value for word, value in DEFAULTS.items() if word not in told}
+    parameters = read(url)
+    defaults = {word: value for word, value in DEFAULTS.items() if word not in parameters}
     if isinstance(url, Hosts) and url.are_several:
-        more |= url.parameters()
-    return conninfo.make_conninfo(url, **more)
+        defaults |= url.parameters()
+    return conninfo.make_conninfo(url, **defaults)
 
 
 def hosts_of(url: str) -> Hosts:
-    """The URL, whose hosts are tried in an order of this program's own. Raises `InvalidStore`."""
+    """Return the URL with its hosts in this program's own order. Raises `InvalidStore`."""
     read(url)
     return Hosts(url)
 
 
 def named(url: str) -> str:
-    """The URL for messages: without its password."""
-    told = read(url)
+    """Return the URL for messages: without its password."""
+    parameters = read(url)
     pairs = zip(
-        str(told.get("host", "")).split(","), (str(told.get("port", "")) + "," * 8).split(",")
+        str(parameters.get("host", "")).split(","),
+        (str(parameters.get("port", "")) + "," * 8).split(","),
     )
-    places = ",".join(f"{host}:{port}" if port else host for host, port in pairs)
-    user = f"{told['user']}@" if told.get("user") else ""
-    return f"postgresql://{user}{places}/{told.get('dbname', '')}"
+    hosts_with_ports = ",".join(f"{host}:{port}" if port else host for host, port in pairs)
+    user = f"{parameters['user']}@" if parameters.get("user") else ""
+    return f"postgresql://{user}{hosts_with_ports}/{parameters.get('dbname', '')}"
 
 
 @contextlib.contextmanager
-def faults(where: str) -> Iterator[None]:
-    """What PostgreSQL and its connections raise, as `StoreUnavailable`; that they are a pooler's,
-    as `InvalidStore`."""
+def translate_errors(store_name: str) -> Iterator[None]:
+    """Raise errors of PostgreSQL and of its connections as `StoreUnavailable`.
+
+    If the connection is that of a pooler that pools transactions, it raises `InvalidStore`.
+    """
     try:
         yield
     except pooler.TransactionPooled as error:
-        raise InvalidStore(f"{where}: {error}") from error
-    except FAULTS as error:
-        raise unwritable(where, error) from error
+        raise InvalidStore(f"{store_name}: {error}") from error
+    except CLIENT_ERRORS as error:
+        raise store_unavailable(store_name, error) from error
 
 
-def unwritable(where: str, error: Exception) -> StoreUnavailable:
-    """What was raised, as `StoreUnavailable`, which has it for its cause."""
-    told = str(error).strip().splitlines()[0] if str(error).strip() else type(error).__name__
+def store_unavailable(store_name: str, error: Exception) -> StoreUnavailable:
+    """Return an error as `StoreUnavailable`, with the error as its cause."""
+    message = str(error).strip().splitlines()[0] if str(error).strip() else type(error).__name__
     if isinstance(error, errors.InsufficientPrivilege):
-        told += f": {RIGHTS.format(role='NAME')}"
-    fault = StoreUnavailable(f"{where}: {told}")
-    fault.__cause__ = error
-    return fault
+        message += f": {RIGHTS.format(role='NAME')}"
+    unavailable = StoreUnavailable(f"{store_name}: {message}")
+    unavailable.__cause__ = error
+    return unavailable
 
 
 async def tried(ask: Callable[[], Awaitable[T]]) -> T:
-    """What may be asked twice: connections that broke unnoticed are tried past."""
+    """Repeat a query that may be executed twice, if its connection broke unnoticed."""
     for turn in range(5):
         try:
             return await ask()
@@ -212,8 +235,10 @@ async def tried(ask: Callable[[], Awaitable[T]]) -> T:
 
 
 def was_cut(error: StoreUnavailable) -> bool:
-    """Whether a connection had ended, as all do where the server starts again: another one may
-    do."""
+    """Whether the connection had ended, as all do if the server restarts.
+
+    Another connection may then work.
+    """
     cause = error.__cause__
     if not isinstance(cause, psycopg.OperationalError) or isinstance(cause, NotReplicated):
         return False
@@ -221,76 +246,79 @@ def was_cut(error: StoreUnavailable) -> bool:
 
 
 async def connect(url: str, settings: str = SETTINGS) -> Link:
-    """A connection of the store's own, that commits each statement."""
-    link = await Link.connect(address(url), autocommit=True, prepare_threshold=1)
-    assert isinstance(link, Link)
+    """Return a connection of the store's own, which commits each statement."""
+    connection = await Link.connect(address(url), autocommit=True, prepare_threshold=1)
+    assert isinstance(connection, Link)
     try:
-        await pooler.check(link, address(url))
-        await link.execute(settings, prepare=False)
+        await pooler.check(connection, address(url))
+        await connection.execute(settings, prepare=False)
     except BaseException:
-        await link.close()
+        await connection.close()
         raise
-    return link
+    return connection
 
 
-async def knock(url: str, where: str) -> None:
-    """Raises `StoreUnavailable` where the server says for good that it lets nobody in so. A pool
-    would try on, and whatever else it is may pass.
+async def check_access(url: str, store_name: str) -> None:
+    """Raise `StoreUnavailable` if the server permanently refuses the login.
+
+    A pool would retry. Any other error may be temporary.
     """
     try:
-        async with asyncio.timeout(KNOCK):
+        async with asyncio.timeout(LOGIN_TIMEOUT):
             await (await connect(url)).close()
     except pooler.TransactionPooled as error:
-        raise InvalidStore(f"{where}: {error}") from error
-    except FAULTS as error:
-        if (
-            isinstance(error, psycopg.Error) and error.pgconn
-        ):  # who has the error keeps it open, and the server would wait for a password
+        raise InvalidStore(f"{store_name}: {error}") from error
+    except CLIENT_ERRORS as error:
+        # otherwise the error keeps the connection open, and the server waits for a password
+        if isinstance(error, psycopg.Error) and error.pgconn:
             with contextlib.suppress(psycopg.Error):
                 error.pgconn.finish()
         if FINAL.search(str(error)):
-            raise unwritable(where, error) from error
+            raise store_unavailable(store_name, error) from error
 
 
-async def line_of(link: Link) -> str:
-    """The timeline of the server that it is connected to."""
-    rows = await (await link.execute(f"SELECT {LINE}", prepare=False)).fetchall()
+async def timeline_of(connection: Link) -> str:
+    """Return the timeline of the server to which it is connected."""
+    rows = await (await connection.execute(f"SELECT {TIMELINE}", prepare=False)).fetchall()
     return str(rows[0][0])
 
 
 def connect_now(url: str, settings: str = f"{SETTINGS}; {LIMITED}") -> PlainStoreConnection:
-    """As `connect`, for who waits where he stands."""
-    link = PlainStoreConnection.connect(address(url), autocommit=True)
-    assert isinstance(link, PlainStoreConnection)
+    """See `connect`, for a connection of a thread."""
+    connection = PlainStoreConnection.connect(address(url), autocommit=True)
+    assert isinstance(connection, PlainStoreConnection)
     try:
-        pooler.check_now(link, address(url))
-        link.execute(settings, prepare=False)
+        pooler.check_now(connection, address(url))
+        connection.execute(settings, prepare=False)
     except BaseException:
-        link.close()
+        connection.close()
         raise
-    return link
+    return connection
 
 
-async def _configure(address: str, link: psycopg.AsyncConnection[Any]) -> None:
-    await pooler.check(link, address)
-    await link.execute(f"{SETTINGS}; {LIMITED}; {ABANDONED}", prepare=False)
+async def _configure(address: str, connection: psycopg.AsyncConnection[Any]) -> None:
+    await pooler.check(connection, address)
+    await connection.execute(f"{SETTINGS}; {LIMITED}; {ABANDONED}", prepare=False)
 
 
-def pool(url: str, most: int) -> AsyncConnectionPool:
-    """Connections for short statements, each a transaction of its own; not yet open.
+def pool(url: str, max_size: int) -> AsyncConnectionPool:
+    """Return a pool for short statements, each a transaction of its own.
 
-    Who waits for one gives up by the pool's own time: a waiter that is cancelled keeps its
-    place, and the connection that it gets is lost (psycopg_pool 3.1). And the pool gives up to
-    connect soon, so that who asks next makes it try at once, however long the server was away.
+    It is not open yet.
+
+    A caller that waits for a connection gives up by the pool's own timeout. A waiter that is
+    cancelled would keep its position, and the connection that it gets would be lost (psycopg_pool
+    3.1). The pool gives up connecting soon, so that the next caller makes it retry at once, for any
+    duration of the outage.
     """
-    words = {"autocommit": True, "prepare_threshold": 2}
+    arguments = {"autocommit": True, "prepare_threshold": 2}
     return AsyncConnectionPool(
         address(url),
         connection_class=Link,
         min_size=1,
-        max_size=most,
+        max_size=max_size,
         open=False,
-        kwargs=words,
+        kwargs=arguments,
         configure=functools.partial(_configure, address(url)),
         timeout=PATIENCE / 4,
         reconnect_timeout=2.0,
@@ -305,75 +333,82 @@ class Attached(Protocol):
         """End it at once. The next one is made when it is needed."""
 
     async def finish(self) -> None:
-        """End it permanently, after what is under way, unless that takes long."""
+        """End it permanently, after the statements under way, unless they take long."""
 
 
 class Asker:
-    """Short statements over a pool."""
+    """Executes short statements over a pool."""
 
-    def __init__(self, url: str, where: str, most: int) -> None:
-        self.where, self._url, self._most = where, url, most
-        self.pool = pool(url, most)
+    def __init__(self, url: str, store_name: str, max_size: int) -> None:
+        self.store_name, self._url, self._most = store_name, url, max_size
+        self.pool = pool(url, max_size)
         self._attached: list[Attached] = []
         self._under_way: set[asyncio.Task[Any]] = set()
         self._used: set[Link] = set()
         self._barrier = replication.Barrier(self.ask)
         self.late: Callable[[], object] = lambda: None
-        """Called where a statement took too long, as at a server that was replaced."""
+        """Called if a statement took too long, as at a server that was replaced."""
 
     async def open(self) -> None:
-        """Connects. Raises `StoreUnavailable`."""
-        with faults(self.where):
+        """Connect. Raises `StoreUnavailable`."""
+        with translate_errors(self.store_name):
             try:
                 await self.pool.open(wait=True, timeout=2 * CONNECT)
             except PoolTimeout:
-                await (await connect(self._url)).close()  # raises what the pool keeps to itself
+                await (await connect(self._url)).close()  # raises the error that the pool hides
                 raise
 
-    def attach(self, *some: Attached) -> None:
+    def attach(self, *attached: Attached) -> None:
         """Renew and close these connections with the pool."""
-        self._attached += some
+        self._attached += attached
 
     async def renew(self, cuts: bool = False) -> None:
-        """Connect again, since another server has taken over. Attached connections end at once, and
-        those of the pool after what is under way; with `cuts` at once too, since the server before
-        may never answer.
+        """Connect again, since another server has taken over.
+
+        Attached connections end at once, and those of the pool after their statements. With `cuts`
+        the latter end at once too, since the former server may never answer.
         """
-        for one in self._attached:
-            one.cut()
+        for attached in self._attached:
+            attached.cut()
         old, self.pool = self.pool, pool(self._url, self._most)
         used = [*self._used] if cuts else []
         await self.pool.open()
-        for link in used:
-            replication.shut(link)
+        for connection in used:
+            replication.shut(connection)
         await old.close(timeout=CONNECT)
 
     async def close(self) -> None:
         if self._under_way:
             await asyncio.wait(self._under_way, timeout=CONNECT)
-        for one in self._attached:
-            await one.finish()
+        for attached in self._attached:
+            await attached.finish()
         await self.pool.close(timeout=CONNECT)
 
-    async def ask(self, text: str, **words: Any) -> list[Row]:
-        """A statement's rows. Raises `StoreUnavailable`; then nobody knows whether it was done.
+    async def ask(self, text: str, **parameters: Any) -> list[Row]:
+        """Return a statement's rows.
 
-        Who is cancelled leaves the statement to its end: a connection in the middle of one is of
-        no use.
+        Raises `StoreUnavailable`. Then it is unknown whether the statement was executed.
+
+        If the caller is cancelled, the statement continues to its end: a connection with an
+        unfinished statement is of no use.
         """
-        return await self._asked(text, words)
+        return await self._execute_whole(text, parameters)
 
-    async def _asked(self, text: str, words: Mapping[str, Any] | Sequence[Any]) -> list[Row]:
-        return await self.whole(self._ask(text, words))
+    async def _execute_whole(
+        self, text: str, parameters: Mapping[str, Any] | Sequence[Any]
+    ) -> list[Row]:
+        return await self.whole(self._execute(text, parameters))
 
     async def whole(self, work: Coroutine[Any, Any, T]) -> T:
-        """What comes of something that takes a connection of the pool. Who is cancelled leaves it
-        to its end: the pool loses the connection that comes to a caller who is gone.
+        """Return the result of a coroutine that takes a connection of the pool.
+
+        If the caller is cancelled, the coroutine continues to its end. Otherwise the pool would
+        lose the connection.
         """
         return await asyncio.shield(self.spawn(work))
 
     def spawn(self, work: Coroutine[Any, Any, T]) -> asyncio.Task[T]:
-        """As `whole`, for who does not wait; `close` does."""
+        """As `whole`, for a caller that does not wait. `close` waits."""
         job = asyncio.get_running_loop().create_task(work)
         self._under_way.add(job)
         job.add_done_callback(self._done)
@@ -382,42 +417,41 @@ class Asker:
     def _done(self, work: asyncio.Task[Any]) -> None:
         self._under_way.discard(work)
         if not work.cancelled():
-            work.exception()  # whoever asked, and was not cancelled, has it
+            work.exception()  # a caller that was not cancelled has the error
 
-    async def _ask(self, text: str, words: Mapping[str, Any] | Sequence[Any]) -> list[Row]:
-        async with self.connection() as link:
-            cursor = await link.execute(text, words)
+    async def _execute(self, text: str, parameters: Mapping[str, Any] | Sequence[Any]) -> list[Row]:
+        async with self.connection() as connection:
+            cursor = await connection.execute(text, parameters)
             return await cursor.fetchall() if cursor.pgresult and cursor.pgresult.nfields else []
 
     @contextlib.asynccontextmanager
     async def connection(self) -> AsyncIterator[Link]:
-        """A connection of the pool, for as long as a statement may take. Raises
-        `StoreUnavailable`; then nobody knows what was done. Only within what is a task of its own
-        (`whole`).
+        """Return a connection of the pool, for as long as a statement may take.
+
+        Raises `StoreUnavailable`. Then it is unknown what was executed. Use it only within a task
+        of its own (`whole`).
         """
-        with faults(self.where):
-            async with self.pool.connection() as link:
-                assert isinstance(link, Link)
-                self._used.add(link)
+        with translate_errors(self.store_name):
+            async with self.pool.connection() as connection:
+                assert isinstance(connection, Link)
+                self._used.add(connection)
                 try:
-                    async with replication.limited(link, PATIENCE + 1):
-                        yield link
-                except (TimeoutError, errors.QueryCanceled):  # or it waits for one that is late
+                    async with replication.limited(connection, PATIENCE + 1):
+                        yield connection
+                except (TimeoutError, errors.QueryCanceled):  # or another statement is late
                     self.late()
                     raise
                 finally:
-                    self._used.discard(link)
+                    self._used.discard(connection)
 
     async def replicated(self) -> None:
         """Wait until the synchronous standbys have what is visible. Raises `StoreUnavailable`."""
         await self._barrier.passed()
 
-    async def read(self, text: str, **words: Any) -> list[Row]:
-        """As `ask`, for what may be asked twice: connections that broke unnoticed are tried
-        past.
-        """
-        return await tried(lambda: self._asked(text, words))
+    async def read(self, text: str, **parameters: Any) -> list[Row]:
+        """As `ask`, for a query that may be executed twice, if its connection broke unnoticed."""
+        return await tried(lambda: self._execute_whole(text, parameters))
 
-    async def rows(self, text: str, *words: Any) -> list[Row]:
-        """As `read`, of a question with a `%s` for each word."""
-        return await tried(lambda: self._asked(text, words))
+    async def rows(self, text: str, *parameters: Any) -> list[Row]:
+        """As `read`, for a query with a `%s` for each parameter."""
+        return await tried(lambda: self._execute_whole(text, parameters))

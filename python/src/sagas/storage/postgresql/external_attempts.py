@@ -16,25 +16,25 @@ from sagas.storage import external
 from sagas.storage.deliveries import Deliveries
 from sagas.storage.external import (
     OPEN,
-    TAKES,
-    Asked,
-    Beat,
+    REPORT_COUNTS,
+    ExternalRequest,
+    Heartbeat,
     Claim,
     Report,
-    Reported,
+    ReportRequest,
     Row,
-    Waiting,
-    Wanted,
+    QueueState,
+    ClaimRequest,
     earlier,
 )
-from sagas.storage.lots import Lots
+from sagas.storage.lots import Batcher
 from sagas.storage.postgresql import notifications, prepared
 from sagas.storage.postgresql.connections import Asker
 from sagas.storage.postgresql.deliveries import PostgreSQLDeliveries
 
 CHANNEL = "sagas_reports"
 MOST = 200
-"""Claims and reports in one statement."""
+"""Maximum number of claims and reports in one statement."""
 CLOCK = "clock AS MATERIALIZED (SELECT extract(epoch FROM clock_timestamp())::float8 AS now)"
 HELD = (
     f"SELECT count(*) FROM external_attempts t WHERE t.task = {{}} AND t.{OPEN} AND t.until > "
@@ -46,18 +46,20 @@ BOUND = (
 )
 
 
-def _claimed(lapsed: str) -> str:
-    """For many claims of the same tasks: a worker and its seconds for each that may be claimed.
-    `lapsed`: which of those may be that had a lease.
+def _claimed(expired: str) -> str:
+    """Return the statement parts of many claims of the same tasks.
+
+    There is a worker and its seconds for each attempt that may be claimed. `expired` is the
+    condition for attempts that had a lease.
     """
     return f"""
-found AS MATERIALIZED (
+candidates AS MATERIALIZED (
   SELECT x.* FROM unnest(%(tasks)s::text[]) AS w(task), clock,
   LATERAL (SELECT {BOUND} AS bound) b, LATERAL (
     SELECT e.attempt, e.offered_at, e.lease IS NOT NULL AND NOT e.given_back AS is_takeover,
       e.since, e.worker, e.lease, e.until
     FROM external_attempts e
-    WHERE e.task = w.task AND e.{OPEN} AND (e.until IS NULL OR {lapsed})
+    WHERE e.task = w.task AND e.{OPEN} AND (e.until IS NULL OR {expired})
     ORDER BY e.offered_at
     LIMIT CASE WHEN b.bound IS NULL THEN %(most)s::bigint
       ELSE greatest(0, least(%(most)s::bigint, b.bound - ({HELD.format("w.task")}))) END
@@ -67,7 +69,7 @@ taken AS (
   UPDATE external_attempts e SET worker = s.worker, since = clock.now,
     until = clock.now + s.seconds, given_back = false,
     lease = greatest((clock.now * 1000)::bigint, coalesce(e.lease, 0) + 1)
-  FROM (SELECT *, row_number() OVER (ORDER BY offered_at, attempt) AS place FROM found) f
+  FROM (SELECT *, row_number() OVER (ORDER BY offered_at, attempt) AS place FROM candidates) f
   JOIN unnest(%(workers)s::text[], %(seconds)s::float8[]) WITH ORDINALITY
     AS s(worker, seconds, place) USING (place), clock
   WHERE e.attempt = f.attempt
@@ -78,25 +80,26 @@ taken AS (
 
 CLAIMED = _claimed("e.until <= clock.now")
 UNREPORTED = _claimed("e.until <= clock.now AND e.attempt <> ALL(%(attempts)s::text[])")
-"""For claims in a statement that also has reports: it does not claim what it reports, because a
-statement changes a row once.
+"""For claims in a statement that also has reports.
+
+It does not claim the attempts that it reports, because a statement changes a row once.
 """
 ROWS = """
 json_agg(json_build_array(attempt, lease, seconds, id, step, action, cancelled, is_takeover, place,
   number, since, worker, had, until) ORDER BY place)::text
 """
-"""All rows as one text, which is read in less time than several cells of each."""
+"""All rows as one text, which is read faster than several cells of each."""
 CLAIM = f"WITH {CLOCK}, {CLAIMED} SELECT {ROWS} FROM taken"
 EARLIER = """
 INSERT INTO attempt_spans VALUES(%(id)s, %(step)s, %(action)s, %(number)s, %(at)s, %(spans)s)
 ON CONFLICT DO NOTHING RETURNING 1
 """
-"""What an earlier lease was, whose place is taken: for people alone."""
+"""Stores the span of an earlier lease. Only people read it."""
 LOCK = """
 SELECT pg_advisory_xact_lock(hashtextextended(task, 5777002))
 FROM (SELECT task FROM unnest(%(limited)s::text[]) AS l(task) ORDER BY task) l
 """
-"""Claims of a task with a concurrency count one behind the other."""
+"""Claims of a task with a concurrency limit are counted one after the other."""
 HEARTBEAT = f"""
 WITH {CLOCK}
 UPDATE external_attempts e SET until = clock.now + %(seconds)s, given_back = clock.now + %(seconds)s
@@ -108,38 +111,42 @@ RETURNING e.until - clock.now, e.cancelled
 """
 REPORT = f"""
 UPDATE external_attempts SET outcome = %(outcome)s, value = %(value)s, reported = %(lease)s
-WHERE attempt = %(attempt)s AND {TAKES.format(lease="%(lease)s", outcome="%(outcome)s")}
+WHERE attempt = %(attempt)s AND {REPORT_COUNTS.format(lease="%(lease)s", outcome="%(outcome)s")}
 RETURNING shard
 """
 REPORTED = f"""
 r AS MATERIALIZED (
   SELECT * FROM unnest(%(attempts)s::text[], %(leases)s::bigint[], %(outcomes)s::text[],
-    %(values)s::text[]) AS r(attempt, number, came, told)),
+    %(values)s::text[]) AS r(attempt, number, came, reported_value)),
 free AS MATERIALIZED (
   SELECT e.attempt FROM external_attempts e JOIN r USING (attempt) FOR UPDATE OF e SKIP LOCKED),
 kept AS (
-  UPDATE external_attempts SET outcome = r.came, value = r.told, reported = r.number
+  UPDATE external_attempts SET outcome = r.came, value = r.reported_value, reported = r.number
   FROM free JOIN r USING (attempt) WHERE external_attempts.attempt = free.attempt
-    AND {TAKES.format(lease="r.number", outcome="r.came")}
+    AND {REPORT_COUNTS.format(lease="r.number", outcome="r.came")}
   RETURNING free.attempt, shard)
 """
-"""Each attempt once. One whose row another transaction has is passed over: who waits for several
-rows may wait for somebody who waits for this one.
+"""Stores reports, each attempt once.
+
+An attempt whose row another transaction has locked is skipped. A statement that waited for several
+rows could deadlock.
 """
 SHARDS = "json_object_agg(attempt, shard)::text"
-CLAIM_WORDS = ("tasks", "most", "workers", "seconds")
-REPORT_WORDS = ("attempts", "leases", "outcomes", "values")
+CLAIM_PARAMETERS = ("tasks", "most", "workers", "seconds")
+REPORT_PARAMETERS = ("attempts", "leases", "outcomes", "values")
 CLAIMS_WIRED = prepared.numbered(
-    f"WITH {CLOCK}, {CLAIMED} SELECT {ROWS}, NULL FROM taken", *CLAIM_WORDS
+    f"WITH {CLOCK}, {CLAIMED} SELECT {ROWS}, NULL FROM taken", *CLAIM_PARAMETERS
 )
-REPORTS_WIRED = prepared.numbered(f"WITH {REPORTED} SELECT NULL, {SHARDS} FROM kept", *REPORT_WORDS)
+REPORTS_WIRED = prepared.numbered(
+    f"WITH {REPORTED} SELECT NULL, {SHARDS} FROM kept", *REPORT_PARAMETERS
+)
 BOTH_WIRED = prepared.numbered(
     f"WITH {CLOCK}, {UNREPORTED}, {REPORTED} "
     f"SELECT (SELECT {ROWS} FROM taken), (SELECT {SHARDS} FROM kept)",
-    *CLAIM_WORDS,
-    *REPORT_WORDS,
+    *CLAIM_PARAMETERS,
+    *REPORT_PARAMETERS,
 )
-"""The rows of claims, and the shards of the reports that count."""
+"""Returns the rows of claims, and the shards of the reports that count."""
 FIND = "SELECT lease, outcome, value, reported FROM external_attempts WHERE attempt = %(attempt)s"
 OUTCOMES = (
     "SELECT attempt, outcome FROM external_attempts WHERE attempt = ANY(%(attempts)s::text[])"
@@ -161,52 +168,61 @@ ON CONFLICT (id, step, action, number) DO UPDATE SET fraction = excluded.fractio
   detail = excluded.detail, at = excluded.at
 RETURNING 1
 """
-TELL = notifications.saying(CHANNEL).replace("%(words)s", "'{reported}'")
+NOTIFY_REPORTED = notifications.notify_statement(CHANNEL).replace("%(messages)s", "'{reported}'")
 
 
-_Told = Union[list[list[Any]], Optional[int]]
-"""The rows of a claim; the shard of a report, or None if it does not count."""
+_Answer = Union[list[list[Any]], Optional[int]]
+"""The rows of a claim; or the shard of a report, or None if it does not count."""
 
 
-def _group(one: Asked) -> tuple[str, ...] | None:
-    """Claims of the same tasks are made by one statement; any reports go with them."""
-    return one.tasks if isinstance(one, Wanted) else None
+def _group(request: ExternalRequest) -> tuple[str, ...] | None:
+    """Return the tasks of a claim: one statement makes claims of the same tasks.
+
+    Reports have no group.
+    """
+    return request.tasks if isinstance(request, ClaimRequest) else None
 
 
 def rows_of(text: str | bytes | None) -> list[list[Any]]:
-    """The rows of `CLAIM`, from its text."""
-    found: list[list[Any]] = json.loads(text) if text else []
-    return found
+    """Return the rows of `CLAIM`, from its text."""
+    rows: list[list[Any]] = json.loads(text) if text else []
+    return rows
 
 
-def _divided(wanted: Sequence[Wanted], rows: Sequence[list[Any]]) -> list[list[list[Any]]]:
-    """The rows of each claim: those that came first have those that have waited longest."""
-    by_place = {row[8]: row for row in rows}
-    found, place = [], 0
-    for one in wanted:
-        places = range(place + 1, place + one.most + 1)
-        found.append([by_place[at] for at in places if at in by_place])
-        place += one.most
-    return found
+def _divided(claims: Sequence[ClaimRequest], rows: Sequence[list[Any]]) -> list[list[list[Any]]]:
+    """Return the rows of each claim.
+
+    The claims that came first have the attempts that have waited longest.
+    """
+    by_number = {row[8]: row for row in rows}
+    rows_of_claims, taken = [], 0
+    for claim in claims:
+        numbers = range(taken + 1, taken + claim.limit + 1)
+        rows_of_claims.append([by_number[number] for number in numbers if number in by_number])
+        taken += claim.limit
+    return rows_of_claims
 
 
 class PostgreSQLExternalAttempts:
-    """As `ExternalAttempts`, by a node's connections.
+    """See `ExternalAttempts`. It uses a node's connections.
 
     Claims and reports share a connection of their own, which is made with the first of them and
-    repeats prepared statements. Those that come while it is at work go into its next statement.
-    Claims of tasks with a concurrency use the pool, and so do all others while the server has no
-    connection to spare. Measured on 2026-11-28 in lots of ten, on a busy machine: a claim takes
-    33 us to 48 us of the node's processor in place of 121 us by the pool, and a report 30 us to
-    37 us in place of 81 us to 90 us.
+    repeats prepared statements. Those that arrive while a statement is executed go into the next
+    one. Claims of tasks with a concurrency limit use the pool. All others use the pool too while
+    the server has no spare connection. Measured on 2026-11-28 in batches of ten, on a busy machine:
+    a claim takes 33 us to 48 us of the node's processor instead of 121 us by the pool, and a report
+    30 us to 37 us instead of 81 us to 90 us.
     """
 
     def __init__(self, url: str, asker: Asker) -> None:
         self._asker = asker
-        self._own = prepared.Kept(url, asker.where)
+        self._own = prepared.ReconnectingWire(url, asker.store_name)
         asker.attach(self._own)
-        self._locking = asyncio.Lock()  # claims that wait for other nodes hold one of the pool
-        self._lots: Lots[Asked, Any] = Lots(self._ask_all, MOST, self._dropped, _group)
+        # claims that wait for other nodes hold a connection of the pool
+        self._locking = asyncio.Lock()
+        self._batcher: Batcher[ExternalRequest, Any] = Batcher(
+            self._ask_all, MOST, self._dropped, _group
+        )
         self._unwanted: Callable[[Sequence[Claim]], object] = lambda claims: None
         self.deliveries: Deliveries = PostgreSQLDeliveries(asker)
 
@@ -216,93 +232,103 @@ class PostgreSQLExternalAttempts:
         clock: Callable[[], float],
         unwanted: Callable[[Sequence[Claim]], object],
     ) -> None:
-        """Each call is a statement of its own."""
+        """Start the use of the table: each call is a statement of its own."""
         self._unwanted = unwanted
 
     async def claim(
-        self, tasks: Sequence[str], limited: Sequence[str], most: int, seconds: float, worker: str
+        self, tasks: Sequence[str], limited: Sequence[str], limit: int, seconds: float, worker: str
     ) -> list[Claim]:
         names = (*map(clean, tasks),)
-        wanted = Wanted(names, max(0, most), float(seconds), clean(worker))
+        wanted = ClaimRequest(names, max(0, limit), float(seconds), clean(worker))
         if limited:
             rows = await self._alone(limited, wanted)
         else:
-            rows = await self._lots.ask(wanted)
-        found = [Claim(*row[:8]) for row in rows]
+            rows = await self._batcher.ask(wanted)
+        claims = [Claim(*row[:8]) for row in rows]
         try:
             await self._note_earlier(rows)
         except asyncio.CancelledError:
-            self._unwanted(found)
+            self._unwanted(claims)
             raise
-        return found
+        return claims
 
     async def _note_earlier(self, rows: Sequence[list[Any]]) -> None:
-        """Note the earlier leases of what was claimed."""
+        """Store the earlier leases of claimed attempts."""
         for _, _, _, id, step, action, _, _, _, number, since, had, lease, until in rows:
             if since is not None:
-                told = {"at": since, "spans": earlier(since, had, lease, until)}
-                at = {"id": id, "step": step, "action": action, "number": number}
+                span = {"at": since, "spans": earlier(since, had, lease, until)}
+                attempt = {"id": id, "step": step, "action": action, "number": number}
                 with contextlib.suppress(StoreUnavailable):
-                    await self._asker.ask(EARLIER, **at, **told)
+                    await self._asker.ask(EARLIER, **attempt, **span)
 
-    def _dropped(self, what: Asked, answer: Any) -> None:
-        if isinstance(what, Wanted):
+    def _dropped(self, request: ExternalRequest, answer: Any) -> None:
+        if isinstance(request, ClaimRequest):
             self._unwanted([Claim(*row[:8]) for row in answer])
 
-    async def _ask_all(self, some: Sequence[Asked]) -> list[_Told]:
-        """The answers to claims of the same tasks, and to reports."""
-        wanted = [one for one in some if isinstance(one, Wanted)]
-        reports = {one.attempt: one for one in reversed(some) if isinstance(one, Reported)}
+    async def _ask_all(self, requests: Sequence[ExternalRequest]) -> list[_Answer]:
+        """Return the rows of claims of the same tasks, and the shards of reports."""
+        claims = [request for request in requests if isinstance(request, ClaimRequest)]
+        reports = {
+            request.attempt: request
+            for request in reversed(requests)
+            if isinstance(request, ReportRequest)
+        }
         if self._own.is_open or await self._has_own():
-            rows, shards = await self._ask_own(wanted, [*reports.values()])
+            rows, shards = await self._ask_own(claims, [*reports.values()])
         else:
-            rows, shards = await self._claim_all(wanted), {}  # each report goes alone
-        claims = iter(_divided(wanted, rows))
+            rows, shards = await self._claim_all(claims), {}  # each report is executed alone
+        answers = iter(_divided(claims, rows))
         return [
-            next(claims)
-            if isinstance(one, Wanted)
-            else shards.get(one.attempt)
-            if reports[one.attempt] is one
+            next(answers)
+            if isinstance(request, ClaimRequest)
+            else shards.get(request.attempt)
+            if reports[request.attempt] is request
             else None
-            for one in some
+            for request in requests
         ]
 
     async def _ask_own(
-        self, wanted: Sequence[Wanted], reports: Sequence[Reported]
+        self, claims: Sequence[ClaimRequest], reports: Sequence[ReportRequest]
     ) -> tuple[list[list[Any]], dict[str, int]]:
-        words: list[bytes] = []
-        if wanted:
-            each = [one for one in wanted for _ in range(one.most)]
-            seconds = prepared.array([repr(one.seconds) for one in each])
-            workers = prepared.array([one.worker for one in each])
-            words += [prepared.array(wanted[0].tasks), b"%d" % len(each), workers, seconds]
+        parameters: list[bytes] = []
+        if claims:
+            each = [claim for claim in claims for _ in range(claim.limit)]
+            seconds = prepared.array([repr(claim.seconds) for claim in each])
+            workers = prepared.array([claim.worker for claim in each])
+            parameters += [prepared.array(claims[0].tasks), b"%d" % len(each), workers, seconds]
         if reports:
             attempts, leases, outcomes, values = zip(*reports)
-            words += map(prepared.array, (attempts, map(str, leases), outcomes, values))
-        text = CLAIMS_WIRED if not reports else BOTH_WIRED if wanted else REPORTS_WIRED
-        ((rows, shards),) = await self._own.ask(text, *words)
+            parameters += map(prepared.array, (attempts, map(str, leases), outcomes, values))
+        text = CLAIMS_WIRED if not reports else BOTH_WIRED if claims else REPORTS_WIRED
+        ((rows, shards),) = await self._own.ask(text, *parameters)
         return rows_of(rows), json.loads(shards) if shards else {}
 
-    async def _claim_all(self, wanted: Sequence[Wanted]) -> list[list[Any]]:
-        """The rows of claims of the same tasks, by the pool."""
-        if not wanted:
+    async def _claim_all(self, claims: Sequence[ClaimRequest]) -> list[list[Any]]:
+        """Return the rows of claims of the same tasks, by the pool."""
+        if not claims:
             return []
-        each = [one for one in wanted for _ in range(one.most)]
-        told = {"workers": [one.worker for one in each], "seconds": [one.seconds for one in each]}
-        tasks = [*wanted[0].tasks]
-        ((text,),) = await self._asker.ask(CLAIM, tasks=tasks, most=len(each), **told)
+        each = [claim for claim in claims for _ in range(claim.limit)]
+        workers = {
+            "workers": [claim.worker for claim in each],
+            "seconds": [claim.seconds for claim in each],
+        }
+        tasks = [*claims[0].tasks]
+        ((text,),) = await self._asker.ask(CLAIM, tasks=tasks, limit=len(each), **workers)
         return rows_of(text)
 
     async def _has_own(self) -> bool:
-        """Connect, if the server has a connection to spare."""
+        """Connect, if the server has a spare connection."""
         try:
             await self._own.open()
         except StoreUnavailable:
             return False
         return True
 
-    async def _alone(self, limited: Sequence[str], wanted: Wanted) -> list[list[Any]]:
-        """A claim of tasks with a concurrency. It continues if its caller is cancelled."""
+    async def _alone(self, limited: Sequence[str], wanted: ClaimRequest) -> list[list[Any]]:
+        """Claim tasks with a concurrency limit.
+
+        The claim continues if its caller is cancelled.
+        """
         claiming = asyncio.get_running_loop().create_task(self._claim_limited(limited, wanted))
         try:
             return await asyncio.shield(claiming)
@@ -310,33 +336,36 @@ class PostgreSQLExternalAttempts:
             claiming.add_done_callback(functools.partial(self._over, wanted))
             raise
 
-    def _over(self, wanted: Wanted, claiming: asyncio.Task[list[list[Any]]]) -> None:
+    def _over(self, wanted: ClaimRequest, claiming: asyncio.Task[list[list[Any]]]) -> None:
         if not claiming.cancelled() and not claiming.exception():
             self._dropped(wanted, claiming.result())
 
-    async def _claim_limited(self, limited: Sequence[str], wanted: Wanted) -> list[list[Any]]:
-        """The rows of a claim of tasks with a concurrency. No other node claims them meanwhile."""
-        workers = [wanted.worker] * wanted.most
-        words = {"tasks": [*wanted.tasks], "most": wanted.most, "workers": workers}
-        async with self._locking, self._asker.connection() as link, link.transaction():
-            await link.execute(LOCK, {"limited": list(limited)})
-            seconds = {"seconds": [wanted.seconds] * wanted.most}
-            row = await (await link.execute(CLAIM, words | seconds)).fetchone()
+    async def _claim_limited(self, limited: Sequence[str], wanted: ClaimRequest) -> list[list[Any]]:
+        """Return the rows of a claim of tasks with a concurrency limit.
+
+        No other node claims them at the same time.
+        """
+        workers = [wanted.worker] * wanted.limit
+        parameters = {"tasks": [*wanted.tasks], "most": wanted.limit, "workers": workers}
+        async with self._locking, self._asker.connection() as connection, connection.transaction():
+            await connection.execute(LOCK, {"limited": list(limited)})
+            seconds = {"seconds": [wanted.seconds] * wanted.limit}
+            row = await (await connection.execute(CLAIM, parameters | seconds)).fetchone()
             return rows_of(row[0]) if row else []
 
-    async def heartbeat(self, attempt: str, lease: int, seconds: float) -> Beat | None:
+    async def heartbeat(self, attempt: str, lease: int, seconds: float) -> Heartbeat | None:
         rows = await self._asker.ask(HEARTBEAT, attempt=attempt, lease=lease, seconds=seconds)
-        return Beat(float(rows[0][0]), rows[0][1]) if rows else None
+        return Heartbeat(float(rows[0][0]), rows[0][1]) if rows else None
 
     async def advance(self, attempt: str, fraction: float, detail: str | None, at: float) -> None:
-        words = {"attempt": attempt, "fraction": fraction, "detail": detail, "at": at}
-        await self._asker.ask(ADVANCE, **words)
+        parameters = {"attempt": attempt, "fraction": fraction, "detail": detail, "at": at}
+        await self._asker.ask(ADVANCE, **parameters)
 
     async def report(self, attempt: str, lease: int, outcome: str, value: str) -> int | None:
-        one = Reported(attempt, lease, outcome, value)
-        shard: int | None = await self._lots.ask(one)
-        if shard is None:  # it does not count, or somebody has its row
-            rows = await self._asker.ask(REPORT, **one._asdict())
+        request = ReportRequest(attempt, lease, outcome, value)
+        shard: int | None = await self._batcher.ask(request)
+        if shard is None:  # it does not count, or another transaction has locked its row
+            rows = await self._asker.ask(REPORT, **request._asdict())
             shard = int(rows[0][0]) if rows else None
         return shard
 
@@ -352,8 +381,8 @@ class PostgreSQLExternalAttempts:
         rows = await self._asker.read(ALL_REPORTED, shards=list(shards))
         return [Report(*row) for row in rows]
 
-    async def waiting(self) -> list[Waiting]:
-        return [Waiting(*row) for row in await self._asker.read(WAITING)]
+    async def waiting(self) -> list[QueueState]:
+        return [QueueState(*row) for row in await self._asker.read(WAITING)]
 
-    async def tell(self) -> None:
-        await self._asker.ask(TELL)
+    async def notify_owners(self) -> None:
+        await self._asker.ask(NOTIFY_REPORTED)

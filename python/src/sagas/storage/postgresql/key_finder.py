@@ -1,4 +1,4 @@
-"""Looks for sagas by their keys, many at once."""
+"""Looks up sagas by their keys, many at once."""
 
 from __future__ import annotations
 
@@ -24,115 +24,123 @@ FIND_ONE = FIND.replace(KEYS, "key = $1")
 
 
 class KeyFinder:
-    """Has a connection of its own. What is wanted while the server is asked is for the next
-    question."""
+    """Looks up keys over its own connection.
+
+    Keys that are wanted during a query go into the next query.
+    """
 
     def __init__(
-        self, url: str, where: str, spawn: Callable[[Coroutine[Any, Any, None]], object]
+        self, url: str, store_name: str, spawn: Callable[[Coroutine[Any, Any, None]], object]
     ) -> None:
-        self._link, self._where, self._spawn = prepared.Kept(url, where), where, spawn
+        self._connection, self._store_name, self._spawn = (
+            prepared.ReconnectingWire(url, store_name),
+            store_name,
+            spawn,
+        )
         self._wanted: dict[str, list[asyncio.Future[SagaRow | None]]] = {}
-        self._finding = False
-        self._seeking = 0  # keys that the server is asked for
+        self._is_finding = False
+        self._seeking = 0  # keys of the query under way
 
     @property
-    def sought(self) -> int:
-        """How many keys are looked for."""
+    def pending_lookups(self) -> int:
+        """The number of keys that are being looked up."""
         return len(self._wanted) + self._seeking
 
     async def open(self) -> None:
-        """Connects. Raises `StoreUnavailable`."""
-        await self._link.open()
+        """Connect. Raises `StoreUnavailable`."""
+        await self._connection.open()
 
     def cut(self) -> None:
-        """The connection is to a server of before."""
-        self._link.cut()
+        """End the connection: it is to a former server."""
+        self._connection.cut()
 
     def close(self) -> None:
-        """Ends the connection."""
-        self._link.close()
+        """Close the connection."""
+        self._connection.close()
 
     async def find(self, key: str) -> SagaRow | None:
-        """The saga with this key; with an id below 0 one that a client started and no log has
-        yet. No saga has a key that is not a text.
+        """Return the saga with this key.
+
+        An id below 0 is that of a client's start that no shard has yet. No saga has a key that is
+        not a text.
         """
         if not isinstance(key, str):
             return None
         loop = asyncio.get_running_loop()
         future: asyncio.Future[SagaRow | None] = loop.create_future()
         self._wanted.setdefault(key, []).append(future)
-        if not self._finding:
-            self._finding = True
+        if not self._is_finding:
+            self._is_finding = True
             loop.call_soon(self._find)
         return await future
 
     def _find(self) -> None:
-        """Looks for all keys that are wanted at once."""
+        """Look up all keys that are wanted, in one query."""
         wanted, self._wanted = self._wanted, {}
         self._seeking = len(wanted)
         keys = [clean(key) for key in wanted]
-        query, word = (
+        query, parameter = (
             (FIND_ONE, keys[0].encode())
             if len(keys) == 1
             else (FIND_WIRED, json.dumps(keys).encode())
         )
 
-        def then(rows: list[prepared.Values], fault: Exception | None) -> None:
-            if fault is None:
-                self._found(wanted, rows)
+        def then(rows: list[prepared.Values], failure: Exception | None) -> None:
+            if failure is None:
+                self._resolve(wanted, rows)
             else:
-                self._spawn(self._find_anew(wanted, query, word))
+                self._spawn(self._find_after_connecting(wanted, query, parameter))
 
-        if not self._link.tell(query, [word], then):
-            self._spawn(self._find_anew(wanted, query, word))
+        if not self._connection.send(query, [parameter], then):
+            self._spawn(self._find_after_connecting(wanted, query, parameter))
 
-    async def _find_anew(
-        self, wanted: dict[str, list[asyncio.Future[SagaRow | None]]], query: str, word: bytes
+    async def _find_after_connecting(
+        self, wanted: dict[str, list[asyncio.Future[SagaRow | None]]], query: str, parameter: bytes
     ) -> None:
-        """As `_find`, over a connection that is made first."""
+        """As `_find`, over a new connection."""
         try:
-            rows = await self._link.read(query, word)
-        except StoreUnavailable as fault:
-            self._found(wanted, [], fault)
+            rows = await self._connection.read(query, parameter)
+        except StoreUnavailable as failure:
+            self._resolve(wanted, [], failure)
         except asyncio.CancelledError:
-            also, self._wanted = self._wanted, {}
-            for futures in (wanted, also):
-                self._found(futures, [], Closed(f"{self._where}: the store is closed"))
+            added, self._wanted = self._wanted, {}
+            for futures in (wanted, added):
+                self._resolve(futures, [], Closed(f"{self._store_name}: the store is closed"))
             raise
         else:
-            self._found(wanted, rows)
+            self._resolve(wanted, rows)
 
-    def _found(
+    def _resolve(
         self,
         wanted: dict[str, list[asyncio.Future[SagaRow | None]]],
         rows: list[prepared.Values],
-        fault: SagasError | None = None,
+        failure: SagasError | None = None,
     ) -> None:
-        """Tells who wanted to know, and looks for what is wanted by now."""
-        found: dict[str, SagaRow] = {}
+        """Answer the callers of a query, and look up the keys that are wanted by now."""
+        sagas: dict[str, SagaRow] = {}
         for row in map(saga_row, rows):
-            if row.key not in found or row.id >= 0:
-                found[row.key] = row
+            if row.key not in sagas or row.id >= 0:
+                sagas[row.key] = row
         for key, futures in wanted.items():
             for future in futures:
                 if not future.done():
-                    future.set_exception(fault) if fault else future.set_result(found.get(key))
-        self._finding, self._seeking = bool(self._wanted), 0
-        if self._finding:
+                    future.set_exception(failure) if failure else future.set_result(sagas.get(key))
+        self._is_finding, self._seeking = bool(self._wanted), 0
+        if self._is_finding:
             self._find()
 
 
 def saga_row(values: prepared.Values) -> SagaRow:
-    """A row of `FIND_WIRED`."""
-    id, key, saga, place, input, at, phase, end, ended, note = (
+    """Return a row of `FIND_WIRED`."""
+    id, key, saga, definition_index, input, at, phase, end, ended, note = (
         None if value is None else value.decode() for value in values
     )
-    assert id and key and saga and place and input is not None and at
+    assert id and key and saga and definition_index and input is not None and at
     return SagaRow(
         int(id),
         key,
         saga,
-        int(place),
+        int(definition_index),
         input,
         float(at),
         phase,

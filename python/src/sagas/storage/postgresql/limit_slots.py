@@ -1,7 +1,7 @@
 """Slots of fleet limits and rate limits.
 
-Places of steps that are limited over all nodes, in PostgreSQL: rows that are taken and given back
-in one statement, by the server's clock.
+The slots of steps that are limited over all nodes are rows. One statement takes and frees them, by
+the server's clock.
 """
 
 from __future__ import annotations
@@ -20,9 +20,10 @@ UNION ALL SELECT %(name)s, 'rate', n FROM generate_series(1, %(calls)s) n
 ON CONFLICT DO NOTHING
 """
 SLACK = 1
-"""Seconds: a place that is taken for longer than the rate says was taken before the clock was
-set back, unless by a statement that saw the clock a moment later than this one, and was done
-before.
+"""Seconds that a slot may be taken for longer than its rate.
+
+A slot that is taken for longer was taken before the clock was set back. But another statement may
+have read the clock a moment later than this one, and ended before it.
 """
 TAKE = f"""
 WITH clock AS MATERIALIZED (SELECT extract(epoch FROM clock_timestamp())::double precision AS now),
@@ -54,8 +55,12 @@ SELECT (SELECT most FROM most), ARRAY(SELECT slot FROM mine ORDER BY slot),
     SELECT count(*) < %(limit)s + %(calls)s FROM limit_slots
     WHERE name = %(name)s AND slot <= CASE kind WHEN 'limit' THEN %(limit)s ELSE %(calls)s END) END
 """
-"""Last, where not all are given: whether places are lacking. They are at first, and where another
-server has taken over that does not have them: so nobody remembers that they are made."""
+"""Takes slots.
+
+The last column, if not all slots are taken: whether rows of slots are missing. They are missing at
+first, and after another server has taken over without them. So no program remembers that they
+exist.
+"""
 
 
 TAKE_KEYED = f"""
@@ -74,38 +79,49 @@ mine AS (INSERT INTO limit_slots(name, kind, slot, node)
 SELECT (SELECT count(*) FROM mine), ARRAY(SELECT slot FROM mine ORDER BY slot),
   (SELECT count(*) FROM back), NULL::double precision, false
 """
-"""As `TAKE`, for the limit of a key. There may be any number of keys, so a place has a row only
-while a node has the place."""
+"""As `TAKE`, for the limit of a key.
+
+There may be any number of keys, so a slot has a row only while a node has the slot.
+"""
 TIDY = f"""
 DELETE FROM limit_slots WHERE (name, kind, slot) IN (SELECT name, kind, slot FROM limit_slots p
   WHERE kind = 'limit' AND name LIKE '%%/%%/%%'
     AND (node IS NULL OR NOT {LIVE.format('p.node')}) FOR UPDATE SKIP LOCKED)
 """
-"""Of keys, the places that nodes had that are gone, and those that releases before this one kept. A
-place of a step has two names, and that of a key three."""
+"""Deletes the slots of keys that no live node has, and those of earlier releases.
+
+The name of a slot has two parts, and that of a keyed slot has three.
+"""
 
 
-class Places:
-    """Takes them for one node."""
+class LimitSlots:
+    """Takes slots for one node."""
 
     def __init__(self, asker: Asker, node: str, say: Callable[[list[str]], object]) -> None:
-        """`say`: tells the other nodes, once places are given back."""
+        """Create the slots of a node. `say` notifies the other nodes of freed slots."""
         self._asker, self._node, self._say = asker, node, say
 
     async def take(
         self, name: str, bounds: Bounds, want: int, have: Sequence[int], look: float
     ) -> Grant:
-        """As `Database.admit`; `look`: how soon to look again whose node is gone."""
+        """See `Database.admit`.
+
+        `look`: seconds until the next look for slots of nodes that are gone.
+        """
         calls, seconds = bounds.rate_limit or (0, 0.0)
-        words = {"name": name, "limit": bounds.concurrency or 0, "calls": calls}
-        more = {"seconds": seconds, "node": self._node, "want": want, "have": list(have)}
+        parameters = {"name": name, "limit": bounds.concurrency or 0, "calls": calls}
+        counts = {"seconds": seconds, "node": self._node, "want": want, "have": list(have)}
         take = TAKE_KEYED if bounds.is_keyed else TAKE
-        (row,) = await self._asker.ask(take, **words, **more)
+        (row,) = await self._asker.ask(take, **parameters, **counts)
         if row[2]:
             self._say(["places"])
         if row[-1]:
-            await self._asker.ask(MAKE, **words)
-            (row,) = await self._asker.ask(take, **words, **more)
-        count, places, _, pause, _ = row
-        wait = float(pause if pause is not None else seconds) if calls else look
-        return Grant(int(count), places, min(wait, look) if bounds.concurrency else wait)
+            await self._asker.ask(MAKE, **parameters)
+            (row,) = await self._asker.ask(take, **parameters, **counts)
+        count, slots, _, pause, _ = row
+        pause_until_free = float(pause if pause is not None else seconds) if calls else look
+        return Grant(
+            int(count),
+            slots,
+            min(pause_until_free, look) if bounds.concurrency else pause_until_free,
+        )

@@ -1,7 +1,6 @@
-"""Lookups of sagas, batched over all that ask at once.
+"""Lookups of sagas, in batches of all that are asked for at the same time.
 
-What a store in PostgreSQL has of sagas, for all who ask in the same moment: who waits for sagas
-that other nodes drive asks about many at once, as they end.
+Programs that wait for sagas of other nodes look up many sagas at once, as they end.
 """
 
 from __future__ import annotations
@@ -16,23 +15,24 @@ from sagas.storage import queries
 from sagas.storage.postgresql.connections import Asker
 
 MANY = 256
-"""Sagas that are asked about at once."""
+"""Maximum number of sagas in one lookup."""
 MOST_TEXTS = 256
-"""Texts of definitions that are kept at hand."""
+"""Maximum number of cached texts of definitions."""
 KNOWN = f"""
 SELECT s.id, -1, d.definition, 0, '', (SELECT p.shape FROM shapes p WHERE p.id = s.id), 0.0
 FROM sagas s {queries.OF_SHARD} WHERE s.id = ANY(%(ids)s::bigint[])
 UNION ALL SELECT id, step, action, number, event, value, at FROM attempts
 WHERE id = ANY(%(ids)s::bigint[])
 """
-"""As of one moment, of each saga: first the digest of its definition, and what is kept of its
-shape."""
+"""Of each saga, as of one moment: first the digest of its definition and its shape, then its
+attempts.
+"""
 TEXTS = "SELECT definition, text FROM definitions WHERE definition = ANY(%(digests)s::text[])"
-"""None of them is ever changed or let go."""
+"""Definitions are never changed or deleted."""
 
 
 class Lookups:
-    """Of a node. What comes while the server is asked is for the next question."""
+    """The lookups of a node. Those that arrive during a query go into the next one."""
 
     def __init__(self, asker: Asker, spawn: Callable[[Coroutine[Any, Any, None]], object]) -> None:
         self._asker, self._spawn = asker, spawn
@@ -41,74 +41,81 @@ class Lookups:
         self._is_looking = False
 
     async def known(self, row: SagaRow) -> Known:
-        """What the store has of a saga. Raises `NoSuchSaga` where it was let go since its row was
-        read, and `StoreUnavailable`."""
+        """Return what the store has of a saga.
+
+        Raises `NoSuchSaga` if it was deleted since its row was read, and `StoreUnavailable`.
+        """
         future: asyncio.Future[Known | None] = asyncio.get_running_loop().create_future()
         self._wanted.setdefault(row.id, []).append(future)
         if not self._is_looking:
             self._is_looking = True
             self._spawn(self._look())
-        found = await future
-        if found is None:
+        known = await future
+        if known is None:
             raise NoSuchSaga(f"saga {row.key!r} was deleted meanwhile")
-        return found
+        return known
 
     async def _look(self) -> None:
         try:
             while self._wanted:
-                lot = [*self._wanted][:MANY]
-                futures = {id: self._wanted.pop(id) for id in lot}
+                ids = [*self._wanted][:MANY]
+                futures = {id: self._wanted.pop(id) for id in ids}
                 try:
-                    found = await self._ask(lot)
+                    known = await self._ask(ids)
                 except BaseException as error:
                     self._fail(futures, error)
                     if not isinstance(error, StoreUnavailable):
                         raise
                 else:
-                    self._tell(futures, found)
+                    self._resolve(futures, known)
         finally:
             self._is_looking = False
 
-    def _tell(
-        self, futures: dict[int, list[asyncio.Future[Known | None]]], found: dict[int, Known]
+    def _resolve(
+        self, futures: dict[int, list[asyncio.Future[Known | None]]], known: dict[int, Known]
     ) -> None:
         for id, waiting in futures.items():
             for future in waiting:
                 if not future.done():
-                    future.set_result(found.get(id))
+                    future.set_result(known.get(id))
 
     def _fail(
         self, futures: dict[int, list[asyncio.Future[Known | None]]], error: BaseException
     ) -> None:
-        """None of these is known. Where it was no answer of the server's, nobody asks on."""
+        """Fail these lookups.
+
+        If the error is not one of the server, all other lookups fail, too.
+        """
         if not isinstance(error, StoreUnavailable):
             futures, self._wanted = futures | self._wanted, {}
-            error = StoreUnavailable(f"{self._asker.where}: cannot be read: {error}")
+            error = StoreUnavailable(f"{self._asker.store_name}: cannot be read: {error}")
         for waiting in futures.values():
             for future in waiting:
                 if not future.done():
                     future.set_exception(error)
 
     async def _ask(self, ids: Sequence[int]) -> dict[int, Known]:
-        found: dict[int, tuple[str, str | None]] = {}
+        digests_and_shapes: dict[int, tuple[str, str | None]] = {}
         results: dict[int, list[Any]] = {id: [] for id in ids}
-        for id, step, kind, attempt, event, value, at in await self._asker.read(KNOWN, ids=ids):
+        for id, step, action, attempt, event, value, at in await self._asker.read(KNOWN, ids=ids):
             if step < 0:
-                found[id] = kind, value
+                digests_and_shapes[id] = action, value
             else:
-                results[id].append((step, kind, attempt, event, value, at))
-        await self._fetch({digest for digest, _ in found.values()})
+                results[id].append((step, action, attempt, event, value, at))
+        await self._fetch({digest for digest, _ in digests_and_shapes.values()})
         return {
             id: Known(self._texts[digest], sorted(results[id], key=lambda row: row[:3]), [], shape)
-            for id, (digest, shape) in found.items()
+            for id, (digest, shape) in digests_and_shapes.items()
         }
 
     async def _fetch(self, digests: set[str]) -> None:
-        """The texts of these are at hand."""
-        lacking = [digest for digest in digests if digest not in self._texts]
-        if not lacking:
+        """Cache the texts of these definitions."""
+        missing = [digest for digest in digests if digest not in self._texts]
+        if not missing:
             return
-        rows = await self._asker.read(TEXTS, digests=lacking)
+        rows = await self._asker.read(TEXTS, digests=missing)
         if len(self._texts) + len(rows) > MOST_TEXTS:
-            self._texts = {one: self._texts[one] for one in digests if one in self._texts}
+            self._texts = {
+                digest: self._texts[digest] for digest in digests if digest in self._texts
+            }
         self._texts |= dict(rows)  # type: ignore[arg-type]

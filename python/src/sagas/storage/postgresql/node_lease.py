@@ -1,11 +1,10 @@
 """Node leases, epochs and takeovers.
 
-A node's lease on its logs, and the logs that it takes over: by the database's clock alone, as the
-node's own only counts.
+A node has a lease on its shards, and takes over shards of other nodes. Only the database's clock
+decides. The node's own clock only measures durations.
 
-A node is one run of a program. It says each second that it lives; whose lease ran out loses his
-logs to who takes them, and a commit of his writes nothing any more, since the logs' epochs are
-others.
+A node is one run of a program. It renews its lease each second. If the lease expires, other nodes
+may take its shards. Then its commits write nothing, since the shards have other epochs.
 """
 
 from __future__ import annotations
@@ -30,68 +29,74 @@ from sagas.definition.compiled import version_of
 from sagas.storage.codec_note import NOTED, missing
 from sagas.storage.postgresql import codec_note, notifications
 from sagas.storage.postgresql.codec_note import ALLOWS
-from sagas.storage.postgresql.connections import LINE, RAISED, Asker
+from sagas.storage.postgresql.connections import TIMELINE, RAISED, Asker
 from sagas.storage.queries import COMPLETED_CHILDREN, OPENED
 
 if TYPE_CHECKING:
-    from sagas.storage.interface import Drives
+    from sagas.storage.interface import FunctionCheck
 
 BEAT = 1.0
-"""Seconds between two words of a node that it lives, at most."""
+"""Maximum number of seconds between two heartbeats of a node."""
 OWN = 64
-"""A node with so many logs looks at each beat for those that it did not hear of, one with twice
-as many at each second one.
+"""The number of shards up to which each heartbeat looks for unknown shards of this node.
+
+A node with twice as many looks at every second heartbeat.
 """
-LOT = 50
-"""Logs that are taken over at once: other nodes take theirs meanwhile."""
+TAKEOVER_BATCH = 50
+"""Maximum number of shards of one takeover: other nodes take theirs at the same time."""
 SPARED = 3.0
-"""Seconds that others have to take a log that this node has spared."""
+"""Seconds that other nodes have to take a shard that this node has released."""
 
 LIVE = "EXISTS (SELECT 1 FROM nodes n WHERE n.node = {} AND n.lease > now())"
 ORPHAN = (
     "l.closed = 0 AND CASE WHEN l.owner = %(node)s THEN %(own)s AND l.shard <> "
     f"ALL(%(mine)s::bigint[]) ELSE NOT {LIVE.format('l.owner')} END"
 )
-"""Nobody drives it: its node is gone, or is this one, which did not hear that it has it (looked
-at where `own`: it takes long where it has many).
+"""Whether no node drives a shard.
+
+Its node is gone, or it is this one, which does not know that it has the shard. The latter is
+checked only with `own`, because that takes long for many shards.
 """
 UNTAKEN = f"(i.refused IS NULL AND NOT {LIVE.format('i.node')})"
 
-SAY = f"""
-WITH said AS (UPDATE nodes SET lease = now() + make_interval(secs => %(lease)s)
+RENEW_OR_ENTER = f"""
+WITH renewed AS (UPDATE nodes SET lease = now() + make_interval(secs => %(lease)s)
   WHERE node = %(node)s AND {ALLOWS} RETURNING 1),
 entered AS (INSERT INTO nodes(node, name, version, kinds, since, lease)
   SELECT %(node)s, %(name)s, %(version)s, %(kinds)s, now(), now() + make_interval(secs => %(lease)s)
-  WHERE %(enters)s AND NOT EXISTS (SELECT 1 FROM said) AND {ALLOWS} RETURNING 1)
+  WHERE %(enters)s AND NOT EXISTS (SELECT 1 FROM renewed) AND {ALLOWS} RETURNING 1)
 """
 RENEW = f"""
 UPDATE nodes SET lease = now() + make_interval(secs => %(lease)s)
 WHERE node = %(node)s AND {ALLOWS} RETURNING 1
 """
 LOOK = f"""
-SELECT {LINE}, EXISTS (SELECT 1 FROM said UNION ALL SELECT 1 FROM entered),
+SELECT {TIMELINE}, EXISTS (SELECT 1 FROM renewed UNION ALL SELECT 1 FROM entered),
   EXISTS (SELECT 1 FROM shards l WHERE {ORPHAN} AND l.shard <> ALL(%(left)s::bigint[])),
   EXISTS (SELECT 1 FROM pending_starts i WHERE {UNTAKEN})
     OR EXISTS (SELECT 1 FROM operator_commands WHERE answer IS NULL),
   (SELECT coalesce(json_agg(json_build_array(l.shard, l.epoch, {LIVE.format('l.owner')})), '[]')
    FROM shards l WHERE l.shard = ANY(%(left)s::bigint[]) AND l.closed = 0)
 """
-"""The last column: of the logs that are left to others those that are not closed, with their
-epochs, and whether a node drives each."""
+"""Returns what a heartbeat has to know.
+
+The last column has the shards that are left to other nodes and not closed, with their epochs, and
+whether a node drives each.
+"""
 PLACES = f"""ARRAY(SELECT DISTINCT definition_index FROM sagas
     WHERE id >= l.shard * {SHARD_CAPACITY} AND id < (l.shard + 1) * {SHARD_CAPACITY}
     AND phase IS NULL)"""
-"""Of the definitions of a log, those with open sagas."""
+"""The indexes of a shard's definitions that have open sagas."""
 TEXTS = """(SELECT coalesce(json_agg(text ORDER BY place), '[]')
     FROM shard_definitions d JOIN definitions USING (definition) WHERE d.shard = l.shard)"""
-"""The definitions of a log."""
+"""The definitions of a shard."""
 CANDIDATES = f"""
 SELECT json_build_array(l.shard, {TEXTS}, {PLACES}, l.epoch)::text FROM shards l
-WHERE {ORPHAN} AND l.shard <> ALL(%(left)s::bigint[]) ORDER BY l.shard LIMIT {LOT}
+WHERE {ORPHAN} AND l.shard <> ALL(%(left)s::bigint[]) ORDER BY l.shard LIMIT {TAKEOVER_BATCH}
 """
 TAKE = f"""
 WITH mine AS (UPDATE shards SET owner = %(node)s, epoch = epoch + 1 WHERE shard IN (
-  SELECT l.shard FROM shards l WHERE l.shard = ANY(%(logs)s::bigint[]) AND {ORPHAN}
+  SELECT l.shard FROM shards l WHERE l.shard = ANY(%(shards)s::bigint[]) AND {ORPHAN}
   ORDER BY l.shard FOR UPDATE SKIP LOCKED) RETURNING shard, epoch),
 noted AS ({RAISED})
 SELECT shard FROM mine
@@ -100,14 +105,16 @@ TAKEN = f"""
 SELECT json_build_array(shard, name, {TEXTS}, ({OPENED}), ({OPENED} AND phase IS NULL), epoch,
   {PLACES}, audit)::text
 FROM shards l
-WHERE shard = ANY(%(logs)s::bigint[]) AND owner = %(node)s ORDER BY shard
+WHERE shard = ANY(%(shards)s::bigint[]) AND owner = %(node)s ORDER BY shard
 """
-"""What is in the logs that were taken. By a statement behind the taking: one that counted as it
-took would not see the last commit of a node that still wrote.
+"""Returns the shards that were taken, by a statement after the takeover.
 
-Each row is one text, which psycopg reads in less time than several cells.
+A statement that counted while it takes the shards would not see the last commit of a node that was
+still writing.
+
+Each row is one text, which psycopg reads faster than several cells.
 """
-COMPLETED = COMPLETED_CHILDREN.format(which="l.shard = ANY(%(logs)s::bigint[])")
+COMPLETED = COMPLETED_CHILDREN.format(which="l.shard = ANY(%(shards)s::bigint[])")
 TEXTS_OF = "SELECT definition, text FROM definitions WHERE definition = ANY(%(digests)s::text[])"
 UNDRIVEN = f"""
 SELECT text, count(DISTINCT l.shard), count(*)
@@ -116,24 +123,24 @@ JOIN sagas s ON s.id >= l.shard * {SHARD_CAPACITY} AND s.id < (l.shard + 1) * {S
   AND phase IS NULL
 JOIN shard_definitions d ON d.shard = l.shard AND d.place = s.definition_index
 JOIN definitions USING (definition)
-WHERE l.shard = ANY(%(logs)s::bigint[]) GROUP BY 1 ORDER BY 1
+WHERE l.shard = ANY(%(shards)s::bigint[]) GROUP BY 1 ORDER BY 1
 """
-"""The definitions of the open sagas of these logs: of how many logs, and how many sagas."""
+"""Of these shards: the definitions of open sagas, with the numbers of shards and sagas."""
 LEAVE = f"""
 WITH mine AS (UPDATE shards SET owner = NULL, epoch = epoch + 1
-  WHERE shard = ANY(%(logs)s::bigint[]) AND owner = %(node)s RETURNING shard, epoch)
+  WHERE shard = ANY(%(shards)s::bigint[]) AND owner = %(node)s RETURNING shard, epoch)
 {RAISED}
 """
 SPARE = f"""
 WITH mine AS (UPDATE shards l SET owner = NULL, epoch = epoch + 1
-  WHERE l.shard = %(log)s AND l.owner = %(node)s AND EXISTS (
+  WHERE l.shard = %(shard)s AND l.owner = %(node)s AND EXISTS (
     SELECT 1 FROM nodes n
     WHERE n.node <> %(node)s AND n.lease > now() AND n.since > to_timestamp(%(before)s))
   RETURNING shard, epoch),
 noted AS ({RAISED})
 SELECT extract(epoch FROM now())::float8 FROM mine
 """
-"""Gives a log back where another node has come since it was given back the last time."""
+"""Releases a shard if another node has come since its last release."""
 GONE = """
 WITH old AS (DELETE FROM nodes WHERE name = %(name)s AND node <> %(node)s),
 old2 AS (DELETE FROM nodes n WHERE lease < now() - interval '1 day'
@@ -151,7 +158,7 @@ SELECT 1
 
 
 def now() -> float:
-    """Seconds that go on while this machine sleeps, and that nobody puts forward or back."""
+    """Return the seconds of a clock that runs during sleep, and that is never set."""
     return time.clock_gettime(time.CLOCK_BOOTTIME)
 
 
@@ -162,7 +169,7 @@ ON CONFLICT (name) DO NOTHING RETURNING value
 
 
 class Lease:
-    """This node's name, how long its lease holds as far as it knows, and what it takes over."""
+    """This node's name, its lease as far as it knows, and its takeovers."""
 
     def __init__(
         self,
@@ -177,193 +184,212 @@ class Lease:
         self.name = name or f"{socket.gethostname()}-{os.getpid()}"
         self.node = f"{self.name}/{secrets.token_hex(4)}"
         self.seconds, self.version, self._asker, self._kinds = seconds, version, asker, [*kinds]
-        # open logs that this program lacks functions for, with the epochs at which it does
+        # open shards whose functions this program does not have, with their epochs then
         self.left: dict[int, int] = {}
-        self._undriven: dict[int, float] = {}  # those that no node drives, since when, by `now`
-        self._told: set[int] = set()  # of which that was told
-        # until when this node does not take it, and when it was given back, by the server's clock
+        self._undriven: dict[int, float] = {}  # when each was first seen without a node, by `now`
+        self._reported: set[int] = set()  # of these, those that were reported
+        # until when this node does not take a shard, and its release, by the server's clock
         self._spared: dict[int, tuple[float, float]] = {}
-        self.fresh = True  # no function was kept from beginning since the last beat
-        self._enters = True  # its row is made where there is none
-        self._told_of_codec = False
+        self.fresh = True  # no function was held back since the last heartbeat
+        self._enters = True  # the next heartbeat inserts the node's row if it is missing
+        self._has_reported_codec = False
         self._until = 0.0
         self._turn = -1
 
     @property
     def pause(self) -> float:
-        """Seconds between two beats."""
+        """Seconds between two heartbeats."""
         return min(BEAT, self.seconds / 4)
 
     def holds(self) -> bool:
-        """Whether the lease holds, a tenth of it before its end."""
+        """Whether the lease holds. It counts as expired a tenth of its time before its end."""
         held = now() < self._until - self.seconds / 10
         self.fresh = self.fresh and held
         return held
 
     async def beat(self, mine: list[int]) -> tuple[bool, bool, bool, str]:
-        """Says that this node lives; `mine` are the logs that it drives. Where another run under
-        its name has taken its place, that one has the time to the next beat to take what this
-        one had.
+        """Renew the lease; `mine` are the shards that this node drives.
 
-        Whether the lease ran out before, whether there are logs to take, whether there is
-        something asked, and the server's timeline.
+        If another run under its name has replaced it, that run has the time until the next
+        heartbeat to take the shards.
+
+        Returns:
+            Whether the lease had expired, whether there are shards to take, whether there are
+                requests, and the server's timeline.
         """
-        asked = now()
+        started = now()
         self._turn += 1
-        own = self._turn % max(1, len(mine) // OWN) == 0
-        before = self._passed()
-        words = {
-            "own": own,
+        includes_own = self._turn % max(1, len(mine) // OWN) == 0
+        excluded = self._passed()
+        parameters = {
+            "own": includes_own,
             "node": self.node,
             "name": self.name,
             "version": self.version,
             "kinds": self._kinds,
             "lease": self.seconds,
-            "left": before,
+            "left": excluded,
             "mine": mine,
             "encodes": self.encodes,
         }
-        rows = await self._asker.ask(SAY + LOOK, enters=self._enters, **words)
-        ((line, is_there, orphans, asks, left),) = rows
+        rows = await self._asker.ask(RENEW_OR_ENTER + LOOK, enters=self._enters, **parameters)
+        ((timeline, has_row, has_orphans, has_requests, left),) = rows
         self._look_at_left(left)
-        self._enters = not is_there
-        if not is_there:
-            self._until = asked
+        self._enters = not has_row
+        if not has_row:
+            self._until = started
             await self._look_for_codec()
-            return False, False, False, line
-        lapsed = self._until > 0 and not (self.holds() and self.fresh)
-        self._until, self.fresh = asked + self.seconds, True
-        return lapsed, orphans, asks, line
+            return False, False, False, timeline
+        has_expired = self._until > 0 and not (self.holds() and self.fresh)
+        self._until, self.fresh = started + self.seconds, True
+        return has_expired, has_orphans, has_requests, timeline
 
     async def renew(self) -> None:
-        """Says that this node lives, and no more: the next beat tells what it missed meanwhile."""
-        asked, _ = now(), self.holds()
-        is_there = await self._asker.ask(
+        """Renew the lease only. The next heartbeat returns what happened since the last one."""
+        started, _ = now(), self.holds()
+        has_row = await self._asker.ask(
             RENEW, node=self.node, lease=self.seconds, encodes=self.encodes
         )
-        self._until = asked + self.seconds if is_there else asked
+        self._until = started + self.seconds if has_row else started
 
     def _passed(self) -> list[int]:
-        """Logs that this node does not take now."""
-        return [*self.left, *(log for log, (until, _) in self._spared.items() if until > now())]
+        """Return the shards that this node does not take now."""
+        return [*self.left, *(shard for shard, (until, _) in self._spared.items() if until > now())]
 
-    async def spare(self, log: int) -> bool:
-        """Gives a log back, of which another node may be able to read what this one cannot. False
-        where none has come since that was tried."""
-        before = self._spared.get(log, (0.0, 0.0))[1]
-        rows = await self._asker.ask(SPARE, log=log, node=self.node, before=before)
+    async def spare(self, shard: int) -> bool:
+        """Release a shard that this node cannot read, and another node may be able to read.
+
+        Return False if no node has come since the last try.
+        """
+        before = self._spared.get(shard, (0.0, 0.0))[1]
+        rows = await self._asker.ask(SPARE, shard=shard, node=self.node, before=before)
         for (at,) in rows:
-            self._spared[log] = now() + SPARED, at
+            self._spared[shard] = now() + SPARED, at
         if rows:
-            await self._asker.ask(notifications.SAY, words=["logs"])
+            await self._asker.ask(notifications.NOTIFY, messages=["logs"])
         return bool(rows)
 
-    def _look_at_left(self, found: Sequence[tuple[int, int, bool]]) -> None:
-        """Of those that were left, these are open still: their epochs, and whether a node drives
-        each. One that another has driven since then is judged again: it may lack nothing now.
+    def _look_at_left(self, rows: Sequence[tuple[int, int, bool]]) -> None:
+        """Update the shards that were left to other nodes.
+
+        The rows are those that are still open: their epochs, and whether a node drives each. If
+        another node has driven one since then, this node checks it again.
         """
-        as_it_was = {log for log, at, driven in found if driven or self.left.get(log) == at}
-        self.left = {log: at for log, at in self.left.items() if log in as_it_was}
-        undriven = [log for log, _, driven in found if log in self.left and not driven]
-        self._undriven = since = {log: self._undriven.get(log, now()) for log in undriven}
-        self._told &= since.keys()
+        still_left = {shard for shard, at, driven in rows if driven or self.left.get(shard) == at}
+        self.left = {shard: at for shard, at in self.left.items() if shard in still_left}
+        undriven = [shard for shard, _, driven in rows if shard in self.left and not driven]
+        self._undriven = since = {shard: self._undriven.get(shard, now()) for shard in undriven}
+        self._reported &= since.keys()
 
     def undriven(self) -> list[int]:
-        """Logs that no node has driven for as long as a lease, each once: a node that is gone had
-        its time, and so had those that would take its logs."""
-        old = [log for log, since in self._undriven.items() if now() - since >= self.seconds]
-        logs = [log for log in old if log not in self._told]
-        self._told.update(logs)
-        return logs
+        """Return the shards that no node has driven for the time of a lease, each once.
 
-    def untold(self, logs: Sequence[int]) -> None:
-        """It could not be told of these."""
-        self._told -= {*logs}
+        A node that is gone had that time to return, and other nodes had it to take the shards.
+        """
+        old = [shard for shard, since in self._undriven.items() if now() - since >= self.seconds]
+        shards = [shard for shard in old if shard not in self._reported]
+        self._reported.update(shards)
+        return shards
+
+    def unreport(self, shards: Sequence[int]) -> None:
+        """Note that the report on these shards failed."""
+        self._reported -= {*shards}
 
     async def secret(self) -> bytes:
-        """As `Database.secret`."""
+        """See `Database.secret`."""
         rows = await self._asker.read(SECRET, value=secrets.token_hex(32))
         rows = rows or await self._asker.read("SELECT value FROM secrets WHERE name = 'leases'")
         return bytes.fromhex(rows[0][0])
 
     async def begin(self) -> str:
-        """An earlier run under this name is over: its logs are free at once. Gives the server's
-        timeline. Raises `MissingCodec`, `StoreLocked`.
+        """Begin the lease, and return the server's timeline.
+
+        An earlier run under this name is over: its shards are free at once. Raises `MissingCodec`,
+        `StoreLocked`.
         """
         await self._asker.ask(GONE, node=self.node, name=self.name)
         await codec_note.agree(self._asker, self.encodes)
-        line = (await self.beat([]))[3]
+        timeline = (await self.beat([]))[3]
         if self._enters:
             await codec_note.agree(self._asker, self.encodes)
-        return line
+        return timeline
 
     async def _look_for_codec(self) -> None:
-        """Say why this node has no lease, where it is that the store's values are encoded now."""
-        if self.encodes or self._told_of_codec or not await self._asker.read(NOTED):
+        """Log why this node has no lease, if the store's values are encoded now."""
+        if self.encodes or self._has_reported_codec or not await self._asker.read(NOTED):
             return
-        self._told_of_codec = True
-        logger.error("%s. This node does nothing more", missing(self._asker.where))
+        self._has_reported_codec = True
+        logger.error("%s. This node does nothing more", missing(self._asker.store_name))
 
-    async def take(self, drives: Drives, mine: list[int]) -> list[LogRow] | None:
-        """A lot of the logs that nobody has: those of it whose functions this program has. None
-        where there are no more, or others take them.
+    async def take(self, check_functions: FunctionCheck, mine: list[int]) -> list[LogRow] | None:
+        """Take a batch of the shards without a node, if this program has their functions.
+
+        Return None if there are no more, or if other nodes take them.
         """
-        words = {"node": self.node, "mine": mine, "own": True}
-        found = await self._asker.read(CANDIDATES, left=self._passed(), **words)
-        fit = await self._fit(drives, [json.loads(text) for (text,) in found])
-        taken = await self._asker.ask(TAKE, logs=fit, **words) if fit else []
+        parameters = {"node": self.node, "mine": mine, "own": True}
+        rows = await self._asker.read(CANDIDATES, left=self._passed(), **parameters)
+        fit = await self._fit(check_functions, [json.loads(text) for (text,) in rows])
+        taken = await self._asker.ask(TAKE, shards=fit, **parameters) if fit else []
         if taken:
-            return await self._has(drives, [log for (log,) in taken])
-        return [] if found and not fit else None
+            return await self._has(check_functions, [shard for (shard,) in taken])
+        return [] if rows and not fit else None
 
-    async def _fit(self, drives: Drives, found: Sequence[Sequence[Any]]) -> list[int]:
-        """Those of these logs that this program has the functions for; the others are left to
-        other nodes, and given back where they are this one's by now.
+    async def _fit(
+        self, check_functions: FunctionCheck, candidates: Sequence[Sequence[Any]]
+    ) -> list[int]:
+        """Return those of these shards that this program has the functions for.
+
+        The others are left to other nodes, and released if this node owns them by now.
         """
-        completed = await self._completed([log for log, *_ in found]) if found else {}
-        lacks = {
-            log: drives(texts, places, completed.get(log, [])) for log, texts, places, _ in found
+        completed = await self._completed([shard for shard, *_ in candidates]) if candidates else {}
+        missing_functions = {
+            shard: check_functions(texts, places, completed.get(shard, []))
+            for shard, texts, places, _ in candidates
         }
-        left = {log: at for log, _, _, at in found if lacks[log] is not None}
+        left = {shard: at for shard, _, _, at in candidates if missing_functions[shard] is not None}
         if left:
-            await self._asker.ask(LEAVE, node=self.node, logs=[*left])
+            await self._asker.ask(LEAVE, node=self.node, shards=[*left])
             self.left |= left
-            logger.info("left %d shards to other nodes: %s", len(left), lacks[next(iter(left))])
-        return [log for log in lacks if log not in left]
+            logger.info(
+                "left %d shards to other nodes: %s", len(left), missing_functions[next(iter(left))]
+            )
+        return [shard for shard in missing_functions if shard not in left]
 
-    async def _completed(self, logs: Sequence[int]) -> dict[int, list[CompletedChild]]:
-        """The completed children below the open sagas of these logs."""
-        rows = await self._asker.read(COMPLETED, logs=[*logs])
+    async def _completed(self, shards: Sequence[int]) -> dict[int, list[CompletedChild]]:
+        """Return the completed children below the open sagas of these shards."""
+        rows = await self._asker.read(COMPLETED, shards=[*shards])
         if not rows:
             return {}
-        digests = [*{digest for _, _, one, _, other in rows for digest in (one, other)}]
+        digests = [*{digest for _, _, parent, _, child in rows for digest in (parent, child)}]
         return undo_check.by_shard(rows, await self._asker.read(TEXTS_OF, digests=digests))
 
-    async def _has(self, drives: Drives, taken: list[int]) -> list[LogRow]:
-        """What is in the logs that were just taken: a saga of theirs, which was opened
-        meanwhile, may need a function that is not here.
+    async def _has(self, check_functions: FunctionCheck, taken: list[int]) -> list[LogRow]:
+        """Return the shards that were just taken.
+
+        A saga that was opened before the takeover may need a function that this program does not
+        have.
         """
-        found = [
+        rows = [
             json.loads(text)
-            for (text,) in await self._asker.read(TAKEN, node=self.node, logs=taken)
+            for (text,) in await self._asker.read(TAKEN, node=self.node, shards=taken)
         ]
-        fit = await self._fit(drives, [(row[0], row[2], row[6], row[5]) for row in found])
-        return [LogRow(*row[:6], *row[7:]) for row in found if row[0] in fit]
+        fit = await self._fit(check_functions, [(row[0], row[2], row[6], row[5]) for row in rows])
+        return [LogRow(*row[:6], *row[7:]) for row in rows if row[0] in fit]
 
     async def end(self) -> None:
-        """What this node has is free for others, now."""
+        """Release all that this node has."""
         await self._asker.ask(HAND_OVER, node=self.node)
-        await self._asker.ask(notifications.SAY, words=["logs", notifications.STARTS])
+        await self._asker.ask(notifications.NOTIFY, messages=["logs", notifications.STARTS])
 
 
-def said_of(where: str, logs: Sequence[int], rows: Sequence[Sequence[Any]]) -> str:
-    """That no node drives these logs, with the definitions of their open sagas (`UNDRIVEN`)."""
-    whose = []
+def describe_undriven(store_name: str, shards: Sequence[int], rows: Sequence[Sequence[Any]]) -> str:
+    """Return a message that no node drives these shards, from the rows of `UNDRIVEN`."""
+    descriptions = []
     for text, count, sagas in rows:
         name = f"{tomllib.loads(text)['name']} (version {version_of(text)})"
-        whose.append(f"{name}: {number(sagas, 'saga')} in {number(count, 'shard')}")
+        descriptions.append(f"{name}: {number(sagas, 'saga')} in {number(count, 'shard')}")
     return (
-        f"{where}: no node executes {number(len(logs), 'shard')}, because none has "
-        f"the functions of their open sagas: {'; '.join(whose)}. Start a program that "
+        f"{store_name}: no node executes {number(len(shards), 'shard')}, because none has "
+        f"the functions of their open sagas: {'; '.join(descriptions)}. Start a program that "
         "has them, and see `sagas store URL nodes`"
     )

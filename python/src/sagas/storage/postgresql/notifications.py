@@ -1,7 +1,6 @@
-"""LISTEN with reconnect, and who waits for what.
+"""LISTEN with reconnection, and the callers that wait for notifications.
 
-What PostgreSQL tells as it happens, and who waits for it. Whoever waits also looks by himself: a
-word may be lost with its connection.
+Callers that wait also look by themselves, because a notification may be lost with its connection.
 """
 
 from __future__ import annotations
@@ -18,63 +17,70 @@ from sagas.storage.postgresql.prepared import Wire
 
 CHANNEL = "sagas_nodes"
 STARTS = "starts"
-"""The word that there are starts of clients."""
+"""The message that there are starts of clients."""
 AT_ONCE = "set_config('synchronous_commit', 'off', true)"
-"""A commit that tells holds a lock over the whole server until it is over. So it waits for no disk
-and no standby, and nothing is written with it: a crash forgets who listened."""
+"""A setting for transactions with a notification, so that they wait for no disk and no standby.
+
+Such a transaction holds a lock over the whole server until it ends. It writes nothing else: after a
+crash no connection listens.
+"""
 
 
-def saying(channel: str) -> str:
-    """The statement that tells `words` to all that listen on a channel."""
-    return f"SELECT {AT_ONCE}, pg_notify('{channel}', v) FROM unnest(%(words)s::text[]) AS v"
+def notify_statement(channel: str) -> str:
+    """Return the statement that sends `messages` to all listeners of a channel."""
+    return f"SELECT {AT_ONCE}, pg_notify('{channel}', v) FROM unnest(%(messages)s::text[]) AS v"
 
 
-SAY = saying(CHANNEL)
-SAY_WIRED = SAY.replace("%(words)s", "$1")
-"""The same over a wire, to which `wired` gives the words."""
-MOST = 400  # ids a word: PostgreSQL takes 8,000 bytes
+NOTIFY = notify_statement(CHANNEL)
+NOTIFY_WIRED = NOTIFY.replace("%(messages)s", "$1")
+"""The same for a wire. `array_of` returns its parameter."""
+MOST = 400  # ids per message: PostgreSQL accepts 8,000 bytes
 FIRST_LOOK, MOST_LOOK = 0.5, 30.0  # seconds
 RECENT = 10_000
 FIRST_PAUSE, MOST_PAUSE = 0.1, 2.0  # seconds
 
 
-def payloads(what: str, ids: Iterable[int]) -> list[str]:
-    """Words that tell of these ids."""
-    told = [str(id) for id in ids]
-    return [f"{what} {' '.join(told[first : first + MOST])}" for first in range(0, len(told), MOST)]
+def payloads(event: str, ids: Iterable[int]) -> list[str]:
+    """Return the messages that report an event of these ids."""
+    texts = [str(id) for id in ids]
+    return [
+        f"{event} {' '.join(texts[first : first + MOST])}" for first in range(0, len(texts), MOST)
+    ]
 
 
-def wired(words: Iterable[str]) -> bytes:
-    """Words as an array of PostgreSQL's: there are letters, digits and blanks in them."""
-    return ('{"' + '","'.join(words) + '"}').encode()
+def array_of(messages: Iterable[str]) -> bytes:
+    """Return messages as a PostgreSQL array. They have only letters, digits and blanks."""
+    return ('{"' + '","'.join(messages) + '"}').encode()
 
 
 class Listener:
-    """A connection that listens on channels, and is made anew where it breaks. `heard` is called
-    with each word, and `listens` whenever it has begun to listen: words may have been missed
-    before."""
+    """A connection that listens on channels, and connects again if it breaks.
+
+    `on_message` is called with each message. `listens` is called whenever it has begun to listen:
+    messages may have been missed before.
+    """
 
     def __init__(
         self,
         url: str,
         channels: Sequence[str],
-        heard: Callable[[str], object],
+        on_message: Callable[[str], object],
         listens: Callable[[], object],
     ) -> None:
-        self._url, self._channels, self._heard, self._listens = url, channels, heard, listens
+        self._url, self._channels, self._heard, self._listens = url, channels, on_message, listens
         self.wire: Wire | None = None
         self.ready = asyncio.Event()
 
     def cut(self) -> None:
-        """Connects again, since another server has taken over."""
+        """Connect again, since another server has taken over."""
         if self.wire:
             self.wire.close()
 
     async def finish(self) -> None:
-        """As `Attached`: `run` ends it where it is cancelled."""
+        """See `Attached.finish`. `run` ends the connection when it is cancelled."""
 
     async def run(self) -> None:
-        """Listens until it is cancelled."""
+        """Listen until it is cancelled."""
         pause = FIRST_PAUSE
         while True:
             try:
@@ -94,9 +100,10 @@ class Listener:
             pause = min(MOST_PAUSE, 2 * pause)
 
 
-class News:
-    """Listens on a connection of its own. `look` is called for each word that is of no id, and
-    whenever words may have been missed.
+class Notifications:
+    """Listens on a connection of its own.
+
+    `look` is called for each message without an id, and whenever messages may have been missed.
     """
 
     def __init__(
@@ -108,64 +115,68 @@ class News:
         self._recent: OrderedDict[tuple[str, int], None] = OrderedDict()
         self._job = asyncio.get_running_loop().create_task(self.listener.run())
 
-    async def close(self, words: Sequence[str] = ()) -> None:
-        """Says a last thing, and listens no more. Callers that wait look once more."""
-        if words:
-            said = asyncio.Event()
-            self.say(words, said.set)
+    async def close(self, messages: Sequence[str] = ()) -> None:
+        """Send the last messages, and stop. Callers that wait look once more."""
+        if messages:
+            sent = asyncio.Event()
+            self.say(messages, sent.set)
             with contextlib.suppress(TimeoutError):
                 async with asyncio.timeout(connections.CONNECT):
-                    await said.wait()
-        while not self._job.done():  # a connection that is being made may swallow the first word
+                    await sent.wait()
+        while not self._job.done():  # a connection attempt may swallow the first cancellation
             self._job.cancel()
             await asyncio.wait([self._job], timeout=0.2)
         for futures in self._waiting.values():
             _wake(futures)
 
-    def say(self, words: Sequence[str], then: Callable[[], object]) -> None:
-        """Tells the others, if they can be told now: whoever waits also looks by himself. `then`
-        is called behind that.
+    def say(self, messages: Sequence[str], then: Callable[[], object]) -> None:
+        """Send messages, if the connection works now. Call `then` afterwards.
+
+        All nodes that wait also look by themselves.
         """
         wire = self.listener.wire
-        if words and wire and not wire.closed:
-            wire.ask(SAY_WIRED, [wired(words)], lambda rows, fault: then())
+        if messages and wire and not wire.closed:
+            wire.ask(NOTIFY_WIRED, [array_of(messages)], lambda rows, failure: then())
         else:
             then()
 
     def _missed(self) -> None:
-        self._recent.clear()  # another server may not know of these any more
+        self._recent.clear()  # another server may not have these commits
         for futures in self._waiting.values():
             _wake(futures)
         self._look("")
 
     def _heard(self, payload: str) -> None:
-        what, *ids = payload.split()
+        event, *ids = payload.split()
         if not ids:
-            self._look(what)
+            self._look(event)
         for id in ids:
-            at = what, int(id)
-            self._recent[at] = None
-            _wake(self._waiting.get(at, []))
+            event_and_id = event, int(id)
+            self._recent[event_and_id] = None
+            _wake(self._waiting.get(event_and_id, []))
         while len(self._recent) > RECENT:
             self._recent.popitem(last=False)
 
     async def of(self, id: int, turn: int) -> None:
-        """Waits for a saga's end; with an id below 0, for the log that takes it."""
+        """Wait for a saga's end.
+
+        An id below 0 is that of a start. Then it waits for the shard that takes the start.
+        """
         await self.wait(*(("ended", id) if id >= 0 else ("begun", -id)), turn)
 
-    async def wait(self, what: str, id: int, turn: int) -> None:
-        """Returns when that was heard, or after a while, which is longer each turn."""
-        at = what, id
-        if at in self._recent:
+    async def wait(self, event: str, id: int, turn: int) -> None:
+        """Return when the event was reported, or after a pause, which grows with each turn."""
+        event_and_id = event, id
+        if event_and_id in self._recent:
             return
         future = asyncio.get_running_loop().create_future()
-        self._waiting.setdefault(at, []).append(future)
+        self._waiting.setdefault(event_and_id, []).append(future)
         try:
             await asyncio.wait([future], timeout=min(MOST_LOOK, FIRST_LOOK * 2.0 ** min(turn, 16)))
         finally:
-            self._waiting[at].remove(future)
-            if not self._waiting[at]:
-                del self._waiting[at]
+            self._waiting[event_and_id].remove(future)
+            if not self._waiting[event_and_id]:
+                del self._waiting[event_and_id]
 
 
 def _wake(futures: list[asyncio.Future[None]]) -> None:

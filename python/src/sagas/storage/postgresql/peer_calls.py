@@ -1,11 +1,10 @@
 """Calls between the services of one database.
 
-What services of one PostgreSQL database ask of each other, and tell each other: what each has in
-its memory alone.
+Services call each other for what each has only in its memory.
 
-A call is a row, which the node answers that it is for; who asked takes the row away. That there
-is something to do, and what all are to hear, is told by `NOTIFY`; each node looks by itself as
-well, each second, so that a word that was lost with its connection is made good.
+A call is a row. The node that is called writes its answer into the row, and the caller deletes the
+row. `NOTIFY` announces calls and messages to all nodes. Each node also looks by itself each second,
+so that a lost notification has no effect.
 """
 
 from __future__ import annotations
@@ -19,9 +18,9 @@ from typing import TYPE_CHECKING, Any
 
 from sagas.base.errors import OwnerUnavailable, SagasError, StoreUnavailable
 from sagas.base.logger import logger
-from sagas.storage.operator_requests import told as told_of
+from sagas.storage.operator_requests import checked_answer
 from sagas.storage.postgresql import connections
-from sagas.storage.postgresql.notifications import AT_ONCE, Listener, saying
+from sagas.storage.postgresql.notifications import AT_ONCE, Listener, notify_statement
 
 if TYPE_CHECKING:
     from sagas.storage.postgresql.storage import PostgreSQL
@@ -30,19 +29,19 @@ CHANNEL = "sagas_peers"
 LOOK = 1.0
 """Seconds between two looks."""
 GATHERED = 0.02
-"""Seconds in which what is to be told is gathered."""
+"""Seconds during which messages are gathered."""
 HELLO = 2.0
-"""Seconds that a node that opens waits for the others to know of it."""
+"""Seconds that a node that opens waits for the answers of the others."""
 ASKING = 1.0
 """Seconds that a node has to answer."""
-MOST_WORD = 7900
-"""Bytes: PostgreSQL takes 8,000 in a word."""
+MAX_MESSAGE = 7900
+"""Maximum number of bytes of a message: PostgreSQL accepts 8,000."""
 OLD = 60.0
-"""Seconds after which a call is nobody's any more."""
-MOST_UNTOLD = 10_000
-"""Words that are kept while they cannot be told."""
+"""Seconds after which a call is deleted."""
+MAX_UNSENT = 10_000
+"""Maximum number of messages that are kept while they cannot be sent."""
 
-SAY = saying(CHANNEL)
+NOTIFY = notify_statement(CHANNEL)
 CALL = f"""
 WITH call AS (INSERT INTO peer_calls(id, node, command, payload)
   VALUES (%(id)s, %(node)s, %(command)s, %(payload)s))
@@ -59,7 +58,8 @@ SELECT {AT_ONCE}, pg_notify('{CHANNEL}', json_build_array('answer', id)::text) F
 ANSWERED = "DELETE FROM peer_calls WHERE id = %(id)s AND answer IS NOT NULL RETURNING answer"
 GIVEN_UP = "DELETE FROM peer_calls WHERE id = %(id)s RETURNING answer"
 MEET = """
-WITH said AS (UPDATE nodes SET serves = %(serves)s WHERE node = %(node)s AND serves <> %(serves)s)
+WITH announced AS (
+  UPDATE nodes SET serves = %(serves)s WHERE node = %(node)s AND serves <> %(serves)s)
 SELECT node FROM nodes WHERE node <> %(node)s AND lease > now() AND serves
 """
 FORGET = f"DELETE FROM peer_calls WHERE at < now() - interval '{OLD} s'"
@@ -70,30 +70,31 @@ OWNER = (
 
 
 class PostgreSQLPeers:
-    """One node's part. `answers`: what it does at a call, by the call's word."""
+    """One node's part of the calls. `answers` has the handler of each command."""
 
     def __init__(self, database: PostgreSQL) -> None:
         self.node, self._asker = database.lease.node, database.asker
         self.answers: dict[str, Callable[[Any], Awaitable[Any]]] = {"hello": self._greet}
-        self.hear: Callable[..., object] = lambda told: None
-        """Another node told this to all."""
+        self.on_message: Callable[..., object] = lambda message: None
+        """Called with each message that another node broadcast."""
         self.missed: Callable[..., object] = lambda: None
-        """Something that was told may not have been heard."""
+        """Called if this node may have missed a message."""
         self.others: set[str] = set()
-        """The other nodes that answer, as far as is known here."""
+        """The other nodes that answer, as far as this node knows."""
         self._waiting: dict[str, asyncio.Event] = {}
         self._doing: dict[str, asyncio.Task[None]] = {}
         self._jobs: set[asyncio.Task[None]] = set()
-        self._fetching = self._fetch_again = self._telling = self._closing = False
-        self._untold: list[str] = []
+        self._fetching = self._fetch_again = self._is_sending = self._closing = False
+        self._unsent: list[str] = []
         self._listener = Listener(database.url, (CHANNEL,), self._heard, self._listens)
         self._has_listened = False
 
-    # -- life
+    # -- opening and closing
 
     async def open(self) -> None:
-        """Listens, and makes itself known: when it returns, the others know of this node, but
-        for one that does not answer.
+        """Listen, and announce this node.
+
+        When it returns, all other nodes that answer know this node.
         """
         self._spawn(self._listener.run())
         with contextlib.suppress(TimeoutError):
@@ -107,10 +108,10 @@ class PostgreSQLPeers:
         self._spawn(self._keep())
 
     async def close(self) -> None:
-        """Answers nothing more, and the others ask nothing more of this node."""
+        """Stop: this node answers nothing more, and the others call it no more."""
         self._closing = True
         jobs = [*self._jobs, *self._doing.values()]
-        while jobs:  # a connection that is being made may swallow the first word
+        while jobs:  # a connection attempt may swallow the first cancellation
             for job in jobs:
                 job.cancel()
             await asyncio.wait(jobs, timeout=0.2)
@@ -128,9 +129,9 @@ class PostgreSQLPeers:
         if not job.cancelled() and job.exception():
             logger.error("between nodes: %r", job.exception(), exc_info=job.exception())
 
-    # -- who is there
+    # -- the other nodes
 
-    async def _greet(self, told: Any) -> None:
+    async def _greet(self, payload: Any) -> None:
         await self._meet()
 
     async def _keep(self) -> None:
@@ -144,62 +145,68 @@ class PostgreSQLPeers:
                     await self._asker.ask(FORGET)
 
     async def _meet(self) -> None:
-        """Says that this node answers, and looks who else does, and what is asked."""
+        """Announce that this node answers, and look for other nodes and calls."""
         rows = await self._asker.ask(MEET, node=self.node, serves=True)
         self.others = {node for (node,) in rows}
         if rows:
             self._fetch()
-        if self._untold:
-            self._tell_soon()
+        if self._unsent:
+            self._send_soon()
 
     async def owner(self, shard: str) -> str | None:
-        """The node that has a shard, by the shard's name; None where none does that answers."""
+        """Return the node that owns the shard with this name, if that node answers."""
         rows = await self._asker.read(OWNER, name=shard)
         return rows[0][0] if rows else None
 
     # -- calls
 
-    async def ask_all(self, what: str) -> list[Any]:
-        """What each of the other nodes answers, as far as it does."""
-        told = await asyncio.gather(
-            *(self.call(node, what, None, ASKING) for node in list(self.others)),
+    async def call_all(self, command: str) -> list[Any]:
+        """Return the answers of all other nodes that answer."""
+        results = await asyncio.gather(
+            *(self.call(node, command, None, ASKING) for node in list(self.others)),
             return_exceptions=True,
         )
-        return [one for one in told if not isinstance(one, BaseException)]
+        return [answer for answer in results if not isinstance(answer, BaseException)]
 
-    async def call(self, node: str, what: str, told: Any, seconds: float = ASKING) -> Any:
-        """Asks a node, and gives its answer. Raises `OwnerUnavailable` where it does not answer in
-        time,
-        what it raises, and `StoreUnavailable`.
+    async def call(self, node: str, command: str, payload: Any, seconds: float = ASKING) -> Any:
+        """Call a node, and return its answer.
+
+        Raises `OwnerUnavailable` if it does not answer in time, the error that it raises, and
+        `StoreUnavailable`.
         """
         id, until = secrets.token_hex(8), loop_time() + seconds
-        word = self._waiting[id] = asyncio.Event()
+        answered = self._waiting[id] = asyncio.Event()
         try:
-            await self._asker.ask(CALL, id=id, node=node, command=what, payload=json.dumps(told))
+            await self._asker.ask(
+                CALL, id=id, node=node, command=command, payload=json.dumps(payload)
+            )
             while True:
-                late = await self._unheard(word, until) and (
+                late = await self._is_unanswered(answered, until) and (
                     loop_time() >= until or node not in self.others
                 )
                 rows = await self._asker.ask(GIVEN_UP if late else ANSWERED, id=id)
                 if rows and rows[0][0] is not None:
-                    return told_of(json.loads(rows[0][0])).get("told")
+                    return checked_answer(json.loads(rows[0][0])).get("told")
                 if late:
                     raise OwnerUnavailable(f"node {node} does not answer. Retry later")
         finally:
             del self._waiting[id]
 
-    async def _unheard(self, word: asyncio.Event, until: float) -> bool:
-        """Waits for a word, until then at most, and looks in between; whether it did not come."""
+    async def _is_unanswered(self, answered: asyncio.Event, until: float) -> bool:
+        """Wait for the answer, at most until then or the next look.
+
+        Return whether it did not come.
+        """
         try:
             async with asyncio.timeout(max(0.0, min(LOOK, until - loop_time()))):
-                await word.wait()
+                await answered.wait()
         except TimeoutError:
             return True
-        word.clear()
+        answered.clear()
         return False
 
     def _fetch(self) -> None:
-        """There may be calls for this node."""
+        """Look for calls for this node."""
         self._fetch_again = True
         if not self._fetching and not self._closing:
             self._fetching = True
@@ -210,59 +217,60 @@ class PostgreSQLPeers:
             while self._fetch_again:
                 self._fetch_again = False
                 rows = await self._asker.read(CALLS, node=self.node, known=list(self._doing))
-                for id, what, told in rows:
+                for id, command, payload in rows:
                     if id not in self._doing:
-                        work = self._answer(id, what, json.loads(told))
+                        work = self._answer(id, command, json.loads(payload))
                         self._doing[id] = asyncio.get_running_loop().create_task(work)
         except StoreUnavailable:
-            pass  # the next look finds them
+            pass  # the next look finds the calls
         finally:
             self._fetching = False
 
-    async def _answer(self, id: str, what: str, told: Any) -> None:
+    async def _answer(self, id: str, command: str, payload: Any) -> None:
         try:
             try:
                 if self._closing:
                     raise OwnerUnavailable("the node is closing")
-                answer = {"told": await self.answers.get(what, self._unknown)(told)}
+                answer = {"told": await self.answers.get(command, self._unknown)(payload)}
             except SagasError as error:
                 answer = {"error": f"{type(error).__name__}: {error}"}
             except Exception as error:
-                logger.exception("a call of another node: %s", what)
+                logger.exception("a call of another node: %s", command)
                 answer = {"error": f"SagasError: {error!r}"}
             with contextlib.suppress(StoreUnavailable):
                 await self._asker.ask(ANSWER, id=id, answer=json.dumps(answer))
         finally:
             self._doing.pop(id, None)
 
-    async def _unknown(self, told: Any) -> None:
+    async def _unknown(self, payload: Any) -> None:
         raise OwnerUnavailable("this node does not know that call, because it has another release")
 
-    # -- words
+    # -- messages
 
-    def tell(self, told: Any) -> bool:
-        """Tells all other nodes, in a moment; false where that is too long for a word. One that
-        cannot be told knows that it misses something.
+    def broadcast(self, message: Any) -> bool:
+        """Send a message to all other nodes soon. Return False if it is too long.
+
+        If a node cannot be reached, it learns that it has missed a message.
         """
-        word = json.dumps(["told", self.node, told])
-        if len(word) > MOST_WORD:
+        text = json.dumps(["told", self.node, message])
+        if len(text) > MAX_MESSAGE:
             return False
-        self._untold.append(word)
-        self._tell_soon()
+        self._unsent.append(text)
+        self._send_soon()
         return True
 
-    def _tell_soon(self) -> None:
-        if self.others and not self._telling and not self._closing:
-            self._telling = True
-            asyncio.get_running_loop().call_later(GATHERED, lambda: self._spawn(self._tell()))
+    def _send_soon(self) -> None:
+        if self.others and not self._is_sending and not self._closing:
+            self._is_sending = True
+            asyncio.get_running_loop().call_later(GATHERED, lambda: self._spawn(self._send()))
 
-    async def _tell(self) -> None:
-        words, self._untold, self._telling = self._untold, [], False
+    async def _send(self) -> None:
+        messages, self._unsent, self._is_sending = self._unsent, [], False
         try:
-            if words and not self._closing:
-                await self._asker.ask(SAY, words=words)
+            if messages and not self._closing:
+                await self._asker.ask(NOTIFY, messages=messages)
         except StoreUnavailable:
-            self._untold = (words + self._untold)[-MOST_UNTOLD:]
+            self._unsent = (messages + self._unsent)[-MAX_UNSENT:]
 
     def _listens(self) -> None:
         if self._has_listened:
@@ -270,17 +278,17 @@ class PostgreSQLPeers:
             self._fetch()
         self._has_listened = True
 
-    def _heard(self, word: str) -> None:
+    def _heard(self, text: str) -> None:
         try:
-            what, whose, *told = json.loads(word)
-            if what == "answer" and whose in self._waiting:
-                self._waiting[whose].set()
-            elif what == "call" and whose == self.node:
+            kind, addressee, *payload = json.loads(text)
+            if kind == "answer" and addressee in self._waiting:
+                self._waiting[addressee].set()
+            elif kind == "call" and addressee == self.node:
                 self._fetch()
-            elif what == "told" and whose != self.node:
-                self.hear(told[0])
-        except Exception:  # of another release, say: nothing of this node's depends on it
-            logger.exception("a message between nodes was not understood: %.200s", word)
+            elif kind == "told" and addressee != self.node:
+                self.on_message(payload[0])
+        except Exception:  # for example of another release: nothing depends on it
+            logger.exception("a message between nodes was not understood: %.200s", text)
 
 
 def loop_time() -> float:

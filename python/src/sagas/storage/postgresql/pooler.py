@@ -1,7 +1,7 @@
-"""A pooler whose transactions run in different sessions of the server.
+"""Detects a pooler whose transactions run in different sessions of the server.
 
-Behind one, settings of a connection are those of strangers, and what listens hears nothing. It is
-looked for before anything is set.
+With such a pooler, connections share settings with strangers, and a listener gets no notification.
+The check is made before anything is set.
 """
 
 from __future__ import annotations
@@ -16,7 +16,7 @@ SESSION = "SELECT pg_backend_pid()"
 PATIENCE = 2.0
 """Seconds for a second session: a pooler that has none left pools sessions."""
 STATEMENTS = "statement pooling"
-"""What PgBouncer says of BEGIN where each statement may have another session."""
+"""PgBouncer's error for BEGIN if each statement may have another session."""
 
 
 class TransactionPooled(errors.OperationalError):
@@ -30,25 +30,28 @@ class TransactionPooled(errors.OperationalError):
         )
 
 
-async def check(link: psycopg.AsyncConnection[Any], address: str) -> None:
-    """Raises `TransactionPooled`. `link`: a new connection that commits each statement; `address`:
-    where it leads, for another one.
+async def check(connection: psycopg.AsyncConnection[Any], address: str) -> None:
+    """Raise `TransactionPooled` if the connection is one of such a pooler.
 
-    A pooler has session numbers of its own, so most connections need no second one.
+    A pooler has its own session numbers, so most connections need no second one.
+
+    Args:
+        connection: A new connection that commits each statement.
+        address: Its address, for another connection.
     """
 
     async def session(of: psycopg.AsyncConnection[Any]) -> int:
         rows = await (await of.execute(SESSION, prepare=False)).fetchall()
         return int(rows[0][0])
 
-    first = await session(link)
-    if first == link.info.backend_pid:
+    first = await session(connection)
+    if first == connection.info.backend_pid:
         return
     other = await psycopg.AsyncConnection.connect(address, autocommit=True)
     try:
         async with asyncio.timeout(PATIENCE):
             await other.execute("BEGIN")
-            is_shared = await session(other) == first or await session(link) != first
+            is_shared = await session(other) == first or await session(connection) != first
     except TimeoutError:
         is_shared = False
     except errors.OperationalError as error:
@@ -61,19 +64,19 @@ async def check(link: psycopg.AsyncConnection[Any], address: str) -> None:
         raise TransactionPooled
 
 
-def check_now(link: psycopg.Connection[Any], address: str) -> None:
-    """As `check`, where it stands."""
+def check_now(connection: psycopg.Connection[Any], address: str) -> None:
+    """See `check`, for a connection of a thread."""
 
     def session(of: psycopg.Connection[Any]) -> int:
         return int(of.execute(SESSION, prepare=False).fetchall()[0][0])
 
-    first = session(link)
-    if first == link.info.backend_pid:
+    first = session(connection)
+    if first == connection.info.backend_pid:
         return
     other = psycopg.connect(address, autocommit=True)
     try:
         other.execute("BEGIN")
-        is_shared = session(other) == first or session(link) != first
+        is_shared = session(other) == first or session(connection) != first
     except errors.OperationalError as error:
         if STATEMENTS not in str(error):
             raise

@@ -1,10 +1,10 @@
 """A connection that repeats prepared statements through libpq.
 
-A connection for the few statements that a node repeats all day: each is prepared once, and then
-done by libpq, as psycopg hands it out.
+It is for the few statements that a node repeats all the time: each is prepared once, and then
+executed by libpq, which psycopg exposes.
 
-A cursor of psycopg looks at each statement, each word and each row anew, which takes some four
-times as much of the processor as the rest.
+A cursor of psycopg handles each statement, each parameter and each row again. That takes about four
+times as much processor time as the rest.
 """
 
 from __future__ import annotations
@@ -23,115 +23,125 @@ from sagas.storage.postgresql.replication import NotReplicated
 if TYPE_CHECKING:
     from psycopg.pq.abc import PGresult
 
-Words = Sequence[Optional[bytes]]
-"""Of a statement, for $1 and so on, as PostgreSQL reads them."""
+Parameters = Sequence[Optional[bytes]]
+"""The values of $1 and so on, in PostgreSQL's text format."""
 Values = tuple[Optional[bytes], ...]
-"""Of a row, as PostgreSQL writes them."""
-Then = Callable[[list[Values], Optional[Exception]], object]
-"""What is called with the rows, or with what was raised."""
+"""The values of a row, in PostgreSQL's text format."""
+ReplyCallback = Callable[[list[Values], Optional[Exception]], object]
+"""Called with the rows, or with the error."""
 MOST = 96
-"""Statements that are prepared at once: each takes the server some 270 kB."""
+"""Maximum number of prepared statements: each takes the server about 270 kB."""
 GOOD = (pq.ExecStatus.TUPLES_OK, pq.ExecStatus.COMMAND_OK)
 
 
-Job = tuple[str, Words, Then]
-"""A statement that is under way, or waits for those before it, and what is told of it."""
+Job = tuple[str, Parameters, ReplyCallback]
+"""A statement that is being executed or waits, its parameters, and its callback."""
 
 
 class Wire:
-    """One statement at a time; who is told of it is called in the loop. Where the connection
-    breaks, or is late, it is closed.
+    """Executes one statement at a time, and calls the callback in the loop.
+
+    If the connection breaks, or a reply is late, the connection is closed.
     """
 
     def __init__(
         self,
-        link: connections.Link,
-        heard: Callable[[str], object] | None = None,
+        connection: connections.Link,
+        on_notification: Callable[[str], object] | None = None,
         patience: float | None = None,
     ) -> None:
-        """`heard` is called with each word of a channel that it listens on. `patience`: seconds
-        that an answer may take (default: `connections.PATIENCE`).
+        """Take over a connection.
+
+        Args:
+            connection: The connection.
+            heard: Called with each notification of a channel on which the connection listens.
+            patience: Maximum number of seconds for a reply (default: `connections.PATIENCE`).
         """
-        self._link, self._pgconn, self._heard = link, link.pgconn, heard
+        self._connection, self._pgconn, self._heard = connection, connection.pgconn, on_notification
         self._patience = connections.PATIENCE if patience is None else patience
         self._loop = asyncio.get_running_loop()
         self._fd = self._pgconn.socket
         self._names: dict[str, bytes] = {}
         self._jobs: deque[Job] = deque()
         self._preparing: bytes | None = None
-        self._lets_go = False  # all that was prepared, before it begins
+        self._is_deallocating = False  # all prepared statements, before the next one
         self._result: PGresult | None = None
-        self._is_full = False  # more is to be sent than the socket takes
-        self._timer: asyncio.TimerHandle | None = (
-            None  # one for all statements: it looks at `_until` when it rings
-        )
+        self._is_full = False  # the socket accepts no more bytes now
+        # one timer for all statements, which checks `_until`
+        self._timer: asyncio.TimerHandle | None = None
         self._until = 0.0
         self.closed = False
         self.gone = asyncio.Event()
-        """It is closed."""
+        """Set when it is closed."""
         self._loop.add_reader(self._fd, self._readable)
 
-    def ask(self, text: str, words: Words, then: Then) -> None:
-        """Does a statement behind those before. `then` hears what psycopg raises, or a
-        `TimeoutError`.
-        """
-        self._jobs.append((text, words, then))
-        if self.closed:
-            self._loop.call_soon(self._tell, errors.OperationalError("the connection is closed"))
-        elif len(self._jobs) == 1:
-            self._go_on()
+    def ask(self, text: str, parameters: Parameters, then: ReplyCallback) -> None:
+        """Execute a statement after those before.
 
-    async def rows(self, text: str, *words: bytes | None) -> list[Values]:
-        """As `ask`, for who waits; who is cancelled leaves the statement to its end."""
+        `then` gets the rows, an error of psycopg, or a `TimeoutError`.
+        """
+        self._jobs.append((text, parameters, then))
+        if self.closed:
+            self._loop.call_soon(
+                self._fail_all, errors.OperationalError("the connection is closed")
+            )
+        elif len(self._jobs) == 1:
+            self._begin_next()
+
+    async def rows(self, text: str, *parameters: bytes | None) -> list[Values]:
+        """Return a statement's rows.
+
+        If the caller is cancelled, the statement continues to its end.
+        """
         future: asyncio.Future[list[Values]] = self._loop.create_future()
 
-        def then(rows: list[Values], fault: Exception | None) -> None:
+        def then(rows: list[Values], failure: Exception | None) -> None:
             if not future.done():
-                future.set_exception(fault) if fault else future.set_result(rows)
+                future.set_exception(failure) if failure else future.set_result(rows)
 
-        self.ask(text, words, then)
+        self.ask(text, parameters, then)
         return await future
 
     async def rest(self) -> None:
-        """Wait until all that was asked so far is over."""
+        """Wait until all statements so far have ended."""
         if not self._jobs:
             return
         future: asyncio.Future[None] = self._loop.create_future()
-        text, words, then = self._jobs[-1]
+        text, parameters, then = self._jobs[-1]
 
-        def last(rows: list[Values], fault: Exception | None) -> None:
-            then(rows, fault)
+        def last(rows: list[Values], failure: Exception | None) -> None:
+            then(rows, failure)
             if not future.done():
                 future.set_result(None)
 
-        self._jobs[-1] = text, words, last
+        self._jobs[-1] = text, parameters, last
         await future
 
     def close(self) -> None:
-        """Ends it; of what was under way nobody knows."""
+        """Close it. The outcome of the statement under way is unknown."""
         self._break(errors.OperationalError("the connection is closed"))
 
-    # -- there
+    # -- sending
 
-    def _go_on(self) -> None:
-        """The next one: it has its time from now on."""
+    def _begin_next(self) -> None:
+        """Begin the next statement, whose timeout starts now."""
         self._until = self._loop.time() + self._patience
         if self._timer is None:
             self._timer = self._loop.call_at(self._until, self._look)
         self._begin()
 
     def _begin(self) -> None:
-        text, words, _ = self._jobs[0]
+        text, parameters, _ = self._jobs[0]
         try:
             name = self._names.get(text)
             if name is None and len(self._names) >= MOST:
-                self._lets_go = True
+                self._is_deallocating = True
                 self._pgconn.send_query(b"DEALLOCATE ALL")
             elif name is None:
                 self._preparing = b"sagas%d" % len(self._names)
                 self._pgconn.send_prepare(self._preparing, text.encode())
             else:
-                self._pgconn.send_query_prepared(name, words)
+                self._pgconn.send_query_prepared(name, parameters)
             self._flush()
         except Exception as error:
             self._loop.call_soon(self._break, error)
@@ -151,7 +161,7 @@ class Wire:
         except Exception as error:
             self._break(error)
 
-    # -- back
+    # -- receiving
 
     def _readable(self) -> None:
         try:
@@ -163,10 +173,10 @@ class Wire:
             self._over()
 
     def _receive(self) -> bool:
-        """Whether the server has said all of what it was asked last."""
+        """Return whether the server's reply to the last statement is complete."""
         self._pgconn.consume_input()
-        while self._heard and (word := self._pgconn.notifies()):
-            self._loop.call_soon(self._heard, word.extra.decode())
+        while self._heard and (notification := self._pgconn.notifies()):
+            self._loop.call_soon(self._heard, notification.extra.decode())
         while self._jobs and not self._pgconn.is_busy():
             result = self._pgconn.get_result()
             if result is None:
@@ -178,28 +188,28 @@ class Wire:
         result, self._result = self._result, None
         preparing, self._preparing = self._preparing, None
         assert result
-        fault = None if result.status in GOOD else errors.error_from_result(result)
-        if fault is None and self._link.warned:
-            self._link.warned, fault = False, NotReplicated()
-        lets_go, self._lets_go = self._lets_go, False
-        if lets_go and not fault:
+        failure = None if result.status in GOOD else errors.error_from_result(result)
+        if failure is None and self._connection.warned:
+            self._connection.warned, failure = False, NotReplicated()
+        is_deallocating, self._is_deallocating = self._is_deallocating, False
+        if is_deallocating and not failure:
             self._names.clear()
             self._begin()
             return
-        if preparing and not fault:
+        if preparing and not failure:
             self._names[self._jobs[0][0]] = preparing
             self._begin()
             return
         _, _, then = self._jobs.popleft()
-        rows = [] if fault else read(result)
+        rows = [] if failure else read(result)
         if self._jobs:
-            self._go_on()
-        then(rows, fault)
+            self._begin_next()
+        then(rows, failure)
 
-    # -- what goes wrong
+    # -- errors
 
     def _look(self) -> None:
-        """Whether the statement that is under way is late."""
+        """Check whether the statement under way is late."""
         self._timer = None
         if self._jobs and self._loop.time() >= self._until:
             self._break(TimeoutError(f"no answer in {self._patience:g} s"))
@@ -207,7 +217,7 @@ class Wire:
             self._timer = self._loop.call_at(self._until, self._look)
 
     def _break(self, error: Exception) -> None:
-        """It is of no use any more."""
+        """Close the connection after an error."""
         if not self.closed:
             self.closed = True
             self.gone.set()
@@ -217,46 +227,46 @@ class Wire:
             if self._timer:
                 self._timer.cancel()
             self._pgconn.finish()
-        self._tell(error)
+        self._fail_all(error)
 
-    def _tell(self, error: Exception) -> None:
+    def _fail_all(self, error: Exception) -> None:
         jobs, self._jobs = self._jobs, deque()
         for _, _, then in jobs:
             then([], error)
 
 
 def array(texts: Iterable[str]) -> bytes:
-    """Return an array of texts, as a word of a statement. They have no zero bytes."""
-    told = [
+    """Return an array of texts, as a parameter. The texts have no zero bytes."""
+    escaped = [
         text.replace("\\", "\\\\").replace('"', '\\"') if '"' in text or "\\" in text else text
         for text in texts
     ]
-    return ('{"' + '","'.join(told) + '"}').encode() if told else b"{}"
+    return ('{"' + '","'.join(escaped) + '"}').encode() if escaped else b"{}"
 
 
 def numbered(text: str, *names: str) -> str:
     """Return the statement with $1 and so on in place of `%(NAME)s`."""
-    for place, name in enumerate(names, 1):
-        text = text.replace(f"%({name})s", f"${place}")
+    for number, name in enumerate(names, 1):
+        text = text.replace(f"%({name})s", f"${number}")
     return text
 
 
 def read(result: PGresult) -> list[Values]:
-    """Its rows."""
+    """Return the rows of a result."""
     count = result.ntuples
     if not count:
         return []
-    if count == 1 and result.nfields == 1:  # as of most commits
+    if count == 1 and result.nfields == 1:  # most commits have one cell
         return [(result.get_value(0, 0),)]
     columns = range(result.nfields)
     return [tuple([result.get_value(row, column) for column in columns]) for row in range(count)]
 
 
-class Kept:
-    """A wire that is made again where it broke, for short statements."""
+class ReconnectingWire:
+    """A wire for short statements that is made again when it breaks."""
 
-    def __init__(self, url: str, where: str) -> None:
-        self._url, self._where = url, where
+    def __init__(self, url: str, store_name: str) -> None:
+        self._url, self._store_name = url, store_name
         self._wire: Wire | None = None
         self._making = asyncio.Lock()
         self._is_over = False
@@ -267,56 +277,57 @@ class Kept:
         return self._wire is not None and not self._wire.closed
 
     async def open(self) -> None:
-        """Connects. Raises `StoreUnavailable`."""
-        with connections.faults(self._where):
+        """Connect. Raises `StoreUnavailable`."""
+        with connections.translate_errors(self._store_name):
             await self._made()
 
-    async def ask(self, text: str, *words: bytes | None) -> list[Values]:
-        """A statement's rows. Raises `StoreUnavailable`; then nobody knows whether it was done."""
-        with connections.faults(self._where):
+    async def ask(self, text: str, *parameters: bytes | None) -> list[Values]:
+        """Return a statement's rows.
+
+        Raises `StoreUnavailable`. Then it is unknown whether the statement was executed.
+        """
+        with connections.translate_errors(self._store_name):
             wire = self._wire
             if wire is None or wire.closed:
                 wire = await self._made()
-            return await wire.rows(text, *words)
+            return await wire.rows(text, *parameters)
 
-    def tell(self, text: str, words: Words, then: Then) -> bool:
-        """As `Wire.ask`, which takes the loop no turn of a task's; False where there is no
-        connection yet, or any more.
+    def send(self, text: str, parameters: Parameters, then: ReplyCallback) -> bool:
+        """As `Wire.ask`, without a task of the loop.
+
+        Return False without a connection.
         """
         if self._wire is None or self._wire.closed:
             return False
-        self._wire.ask(text, words, then)
+        self._wire.ask(text, parameters, then)
         return True
 
-    async def read(self, text: str, *words: bytes | None) -> list[Values]:
-        """As `ask`, for what may be asked twice: a connection that broke unnoticed is tried
-        past.
-        """
-        return await connections.tried(lambda: self.ask(text, *words))
+    async def read(self, text: str, *parameters: bytes | None) -> list[Values]:
+        """As `ask`, for a query that may be executed twice, if its connection broke unnoticed."""
+        return await connections.tried(lambda: self.ask(text, *parameters))
 
     async def _made(self) -> Wire:
         async with self._making:
             if self._is_over:
                 raise errors.OperationalError("the connection is closed")
             if self._wire is None or self._wire.closed:
-                link = await connections.connect(
+                connection = await connections.connect(
                     self._url, f"{connections.REPEATED}; {connections.LIMITED}"
                 )
-                if self._is_over:  # meanwhile
-                    await link.close()
+                if self._is_over:  # it was closed during the connect
+                    await connection.close()
                     raise errors.OperationalError("the connection is closed")
-                self._wire = Wire(
-                    link, patience=connections.PATIENCE + 1
-                )  # the server gives up first
+                # the server gives up first
+                self._wire = Wire(connection, patience=connections.PATIENCE + 1)
             return self._wire
 
     def cut(self) -> None:
-        """Ends it: the next one is made when it is wanted."""
+        """End it at once. The next one is made when it is needed."""
         if self._wire:
             self._wire.close()
 
     async def finish(self) -> None:
-        """End it permanently, after what is under way, unless that takes long."""
+        """End it permanently, after the statements under way, unless they take long."""
         self._is_over = True
         if self._wire:
             with contextlib.suppress(TimeoutError):

@@ -18,33 +18,37 @@ class Reader:
 
     def __init__(self, url: str, path: str) -> None:
         self._url, self._path = url, path
-        self._link: psycopg.Connection[connections.Row] | None = None
+        self._connection: psycopg.Connection[connections.Row] | None = None
         self._turn = 0
 
-    def rows(self, query: str, *words: Any) -> list[tuple[Any, ...]]:
-        """Rows of a query. A connection that broke unnoticed is made again. Raises
-        `StoreUnavailable` where the server does not answer.
+    def rows(self, query: str, *parameters: Any) -> list[tuple[Any, ...]]:
+        """Return the rows of a query.
+
+        A connection that broke unnoticed is made again. Raises `StoreUnavailable` if the server
+        does not answer.
         """
-        told = cleaned(words)
+        arguments = cleaned(parameters)
         for turn in (0, 1):
             try:
                 self._follow()
-                with connections.faults(self._path):
-                    if self._link is None or self._link.closed:
-                        self._link = connections.connect_now(self._url)
-                    return self._link.execute(queries.for_postgresql(query), told).fetchall()
+                with connections.translate_errors(self._path):
+                    if self._connection is None or self._connection.closed:
+                        self._connection = connections.connect_now(self._url)
+                    return self._connection.execute(
+                        queries.for_postgresql(query), arguments
+                    ).fetchall()
             except StoreUnavailable:
-                if turn or (self._link and not self._link.closed):
+                if turn or (self._connection and not self._connection.closed):
                     raise
         raise AssertionError
 
     def _follow(self) -> None:
-        """Leaves a server that another one has replaced."""
+        """Leave a server that another one has replaced."""
         turn = self._url.turn if isinstance(self._url, Hosts) else 0
         if turn != self._turn:
             self._turn = turn
             self.close()
 
     def close(self) -> None:
-        if self._link:
-            self._link.close()
+        if self._connection:
+            self._connection.close()

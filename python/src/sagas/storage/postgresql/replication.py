@@ -1,8 +1,8 @@
 """Connections that notice a commit which no synchronous standby has.
 
-A commit that waits for a standby has no limit at the server. If that wait is canceled, the server
-answers as if all was well, and only warns: the transaction is visible, and a standby that takes
-over may lack it. These connections raise `NotReplicated` then.
+The server has no time limit for a commit that waits for a standby. If that wait is canceled, the
+server reports a success, and only warns: the transaction is visible, and a standby that takes over
+may not have it. These connections raise `NotReplicated` then.
 """
 
 from __future__ import annotations
@@ -24,10 +24,15 @@ if TYPE_CHECKING:
 RV = TypeVar("RV")
 Row = tuple[Any, ...]
 CANCELED = "SyncRepWaitForLSN"
-"""The function of PostgreSQL that warns. The text of the warning is in the server's language."""
+"""The PostgreSQL function that warns.
+
+The text of the warning is in the server's language.
+"""
 REPLICATED = "SELECT pg_logical_emit_message(true, 'sagas', '')"
-"""A commit that changes nothing: once it is answered, a synchronous standby has all that this
-connection could see."""
+"""A commit that changes nothing.
+
+Once it is done, a synchronous standby has all that this connection could see.
+"""
 
 
 class NotReplicated(errors.OperationalError):
@@ -49,14 +54,14 @@ class StoreConnection(psycopg.AsyncConnection[Row]):
         _watch(self)
 
     async def wait(self, gen: PQGen[RV], *args: Any, **kwargs: Any) -> RV:
-        """All that psycopg does over a connection goes by here."""
+        """Check for the warning after each operation of psycopg."""
         value = await super().wait(gen, *args, **kwargs)
         check(self)
         return value
 
 
 class PlainStoreConnection(psycopg.Connection[Row]):
-    """The same for threads."""
+    """A connection of the store's own, for threads."""
 
     def __init__(self, *args: Any, **kwargs: Any) -> None:
         super().__init__(*args, **kwargs)
@@ -64,7 +69,7 @@ class PlainStoreConnection(psycopg.Connection[Row]):
         _watch(self)
 
     def wait(self, gen: PQGen[RV], *args: Any, **kwargs: Any) -> RV:
-        """All that psycopg does over a connection goes by here."""
+        """Check for the warning after each operation of psycopg."""
         value = super().wait(gen, *args, **kwargs)
         check(self)
         return value
@@ -73,63 +78,74 @@ class PlainStoreConnection(psycopg.Connection[Row]):
 Connection = Union[StoreConnection, PlainStoreConnection]
 
 
-def _watch(link: Connection) -> None:
-    """Note the warning. psycopg keeps the handler, which therefore does not keep the connection."""
-    reference = weakref.ref(link)
+def _watch(connection: Connection) -> None:
+    """Note the warning.
+
+    psycopg keeps the handler, so the handler does not keep the connection.
+    """
+    reference = weakref.ref(connection)
 
     def note(notice: errors.Diagnostic) -> None:
         watched = reference()
         if watched is not None and notice.source_function == CANCELED:
             watched.warned = True
 
-    link.add_notice_handler(note)
+    connection.add_notice_handler(note)
 
 
-def check(link: Connection) -> None:
-    """Raises `NotReplicated` where the server warned since this was called last."""
-    if link.warned:
-        link.warned = False
+def check(connection: Connection) -> None:
+    """Raise `NotReplicated` if the server has warned since the last call."""
+    if connection.warned:
+        connection.warned = False
         raise NotReplicated
 
 
 @contextlib.contextmanager
-def heeded(link: psycopg.AsyncConnection[Any] | psycopg.Connection[Any]) -> Iterator[None]:
-    """The same of a connection that somebody else made: of what is committed within."""
+def warnings_raised(
+    connection: psycopg.AsyncConnection[Any] | psycopg.Connection[Any],
+) -> Iterator[None]:
+    """Raise `NotReplicated` if the server warns of a commit of the block.
+
+    The connection is one of the caller.
+    """
     warned = False
 
     def note(notice: errors.Diagnostic) -> None:
         nonlocal warned
         warned = warned or notice.source_function == CANCELED
 
-    link.add_notice_handler(note)
+    connection.add_notice_handler(note)
     try:
         yield
     finally:
-        link.remove_notice_handler(note)
+        connection.remove_notice_handler(note)
     if warned:
         raise NotReplicated
 
 
-def shut(link: StoreConnection) -> None:
-    """End it, so that psycopg hears of that; until then its descriptor is nobody else's."""
+def shut(connection: StoreConnection) -> None:
+    """Shut the socket down, so that psycopg notices it.
+
+    Its descriptor is not closed, so that no other file gets it before.
+    """
     with contextlib.suppress(OSError, psycopg.Error):
-        with socket.socket(fileno=os.dup(link.pgconn.socket)) as end:
+        with socket.socket(fileno=os.dup(connection.pgconn.socket)) as end:
             end.shutdown(socket.SHUT_RDWR)
 
 
 @contextlib.asynccontextmanager
-async def limited(link: StoreConnection, seconds: float) -> AsyncIterator[None]:
-    """Cuts the connection where what is done within takes longer. Raises `TimeoutError` then.
+async def limited(connection: StoreConnection, seconds: float) -> AsyncIterator[None]:
+    """Cut the connection if the block takes longer. Raises `TimeoutError` then.
 
-    Nothing is canceled at the server, as psycopg 3.2 does for a caller that is canceled: a commit
-    that waits for a standby is seen by nobody before the standby has it.
+    Nothing is canceled on the server, as psycopg 3.2 does for a cancelled caller. A commit that
+    waits for a standby must not become visible before the standby has it.
     """
     is_late = False
 
     def cut() -> None:
         nonlocal is_late
         is_late = True
-        shut(link)
+        shut(connection)
 
     timer = asyncio.get_running_loop().call_later(seconds, cut)
     try:
@@ -143,8 +159,9 @@ async def limited(link: StoreConnection, seconds: float) -> AsyncIterator[None]:
 
 
 class Barrier:
-    """Waits until the synchronous standbys have what is visible; one commit is for all that ask
-    before it is sent.
+    """Waits until the synchronous standbys have what is visible.
+
+    One commit serves all callers that ask before it is sent.
     """
 
     def __init__(self, ask: Callable[[str], Coroutine[Any, Any, object]]) -> None:
@@ -152,7 +169,7 @@ class Barrier:
         self._next: asyncio.Task[None] | None = None
 
     async def passed(self) -> None:
-        """Raises `StoreUnavailable`."""
+        """Wait for the standbys. Raises `StoreUnavailable`."""
         if self._next is None:
             self._next = asyncio.get_running_loop().create_task(self._pass())
             self._next.add_done_callback(lambda job: job.cancelled() or job.exception())

@@ -10,12 +10,12 @@ from sagas.base.logger import logger
 from sagas.storage.postgresql.connections import RIGHTS
 
 LOCK = 5_777_001
-"""The advisory lock under which tables are made and migrated."""
+"""The advisory lock under which tables are created and migrated."""
 
 SCHEMA = """
--- Who drives: a node is one run of a program (its name, and a word of its own); its shards are its
--- own until `lease`. serves: whether other nodes may ask it what it knows; kinds: the definitions
--- that it has, each as saga/version/digest.
+-- Nodes: a node is one run of a program (its name, and a random suffix). It owns its shards until
+-- `lease`. serves: whether other nodes may call it. kinds: its definitions, each as
+-- saga/version/digest.
 CREATE TABLE sagas.nodes(
   node text PRIMARY KEY, name text NOT NULL, version text NOT NULL, since timestamptz NOT NULL,
   lease timestamptz NOT NULL,
@@ -24,46 +24,47 @@ CREATE TABLE sagas.nodes(
 -- Definitions: TOML texts, each once, by their digests.
 CREATE TABLE sagas.definitions(definition text PRIMARY KEY, text text NOT NULL);
 
--- The definitions of a shard, by their places there. A shard of sagas whose steps come from their
--- input gets more of them with its sagas.
+-- The definitions of a shard, by their indexes (`place`). A shard of sagas whose steps come from
+-- their input gets more definitions with its sagas.
 CREATE TABLE sagas.shard_definitions(
   shard bigint NOT NULL, place integer NOT NULL, definition text NOT NULL,
   PRIMARY KEY(shard, place));
 
--- closed: 0 it is driven, 1 it is settled and its audit said yes, 2 it is settled and its audit
--- said no; audit: what it said, or of one that is driven why no program can open it; owner: the
--- node that drives it, or null; epoch: grows with each owner and each time it is taken up, and a
--- commit has to know it.
+-- closed: 0 if the shard is driven, 1 if it is closed and passed its audit, 2 if it is closed and
+-- failed its audit. audit: the verdict of the audit, or why no program can open a driven shard.
+-- owner: the node that drives it, or null. epoch: grows with each owner and each load, and a commit
+-- must name it.
 CREATE SEQUENCE sagas.shard_numbers MINVALUE 0 START 0;
 CREATE TABLE sagas.shards(
   shard bigint PRIMARY KEY, name text NOT NULL UNIQUE, owner text, epoch bigint NOT NULL,
   closed smallint NOT NULL DEFAULT 0, audit text) WITH (fillfactor = 50);
 CREATE INDEX shards_open ON sagas.shards(shard) WHERE closed = 0;
 
--- The events of one commit, a line each; first_seq: how many events the shard has before them;
--- epoch: under which epoch of the shard the commit says that it writes.
+-- The events of one commit, one per line. first_seq: the shard's number of events before them.
+-- epoch: the epoch of the shard under which the commit was written.
 CREATE TABLE sagas.event_log(
   shard bigint NOT NULL, first_seq integer NOT NULL, committed_at double precision NOT NULL,
   text text NOT NULL, epoch bigint NOT NULL,
   PRIMARY KEY(shard, first_seq));
 
--- Each new epoch of a shard, from its birth on: who made it, on which timeline of the server;
--- last_seq: first_seq of the last commit before it, -1 where there is none; null: not looked at.
+-- Each new epoch of a shard, from its creation on: the node that began it, and the timeline of the
+-- server. last_seq: first_seq of the last commit before it, -1 if there is none, or null if it was
+-- not read.
 CREATE TABLE sagas.takeovers(
   shard bigint NOT NULL REFERENCES sagas.shards ON DELETE CASCADE,
   id bigint GENERATED ALWAYS AS IDENTITY, epoch bigint NOT NULL, node text NOT NULL,
   last_seq integer, timeline text NOT NULL, at timestamptz NOT NULL DEFAULT now(),
   PRIMARY KEY(shard, id));
 
--- first_seq of a shard's last commit. Volatile, so that it sees what was committed until the
--- statement had the lock of the shard's row, and not only what was there as it began.
+-- Returns first_seq of a shard's last commit. It is volatile, so that it sees all commits before
+-- the statement got the lock of the shard's row, and not only those before the statement began.
 CREATE FUNCTION sagas.last_seq(number bigint) RETURNS integer LANGUAGE sql VOLATILE AS
   'SELECT coalesce(max(first_seq), -1) FROM sagas.event_log WHERE shard = number';
 
--- definition_index: of its definition in the shard; deadline: when it is
--- aborted; traceparent: the W3C trace context of its start; phase: null while open, then ended or
--- stuck; outcome: JSON (aborted, answer, kept, states); recovered: it ended by a plan; undo_failed:
--- and a compensation failed for good; note: of one that a person resolved, null before.
+-- definition_index: the index of its definition in the shard. deadline: when it is aborted.
+-- traceparent: the W3C trace context of its start. phase: null while open, then ended or stuck.
+-- outcome: JSON (aborted, answer, kept, states). recovered: a plan ended it. undo_failed: and a
+-- compensation failed permanently. note: the note of the operator who resolved it, or null.
 CREATE TABLE sagas.sagas(
   id bigint PRIMARY KEY, key text NOT NULL UNIQUE, saga text NOT NULL,
   definition_index integer NOT NULL, input text NOT NULL,
@@ -75,55 +76,57 @@ CREATE INDEX sagas_stuck ON sagas.sagas(id) WHERE phase = 'stuck';
 CREATE INDEX sagas_recovered ON sagas.sagas(id) WHERE recovered;
 CREATE INDEX sagas_started ON sagas.sagas(at, id);
 
--- What is kept of sagas whose steps come from their input: items, their keys, and the inputs of
+-- The shapes of sagas whose steps come from their input: items, their keys, and the inputs of
 -- included sagas, as a JSON object.
 CREATE TABLE sagas.shapes(id bigint PRIMARY KEY, shape text NOT NULL);
 
--- The labels of sagas, by which they are found.
+-- The labels of sagas.
 CREATE TABLE sagas.labels(
   id bigint NOT NULL, name text NOT NULL, value text NOT NULL, PRIMARY KEY(id, name));
 CREATE INDEX labels_value ON sagas.labels(name, value, id);
 
--- The sagas that others started, each with the id of the one that did.
+-- The children: sagas that other sagas started, each with the id of its parent.
 CREATE TABLE sagas.children(id bigint PRIMARY KEY, parent bigint NOT NULL);
 CREATE INDEX children_parent ON sagas.children(parent);
 
--- What attempts came to. action: run or undo; number: of the attempt; event: that the report came
--- to (commit, missed, fail, undone, undo_missed, undo_fail), or ok while that is to come; value:
--- the result, or {"error": .., "final": .., "called": ..}.
+-- The outcomes of attempts. action: run or undo. number: the number of the attempt. event: the
+-- event of the report (commit, missed, fail, undone, undo_missed, undo_fail), or ok before the
+-- report. value: the result, or an object with `error`, `final` and `called`.
 CREATE TABLE sagas.attempts(
   id bigint NOT NULL, step integer NOT NULL, action text NOT NULL, number integer NOT NULL,
   event text NOT NULL, value text, at double precision NOT NULL, PRIMARY KEY(id, step, action,
   number));
 
--- Attempts that are suspended. reason: unknown (count: how often nobody knew; detail: what was
--- raised; until is null once a person has to say), wait (until when), approval (it was asked for;
--- until when it may be given, or null), child (count: how many children did not complete),
--- cannot_decode (detail: why), or of attempt 0,
--- which never begins, early_result and early_error: how somebody reported the step before it began
--- (detail: as the value of an attempt); early_undone: as early_result, of a saga that has ended
--- without it, and another saga undoes it, if anything is to be undone.
+-- Attempts that are suspended. reason:
+-- unknown: the outcome is unknown. count: how often; detail: the error; until: the next attempt, or
+--   null once an operator must answer.
+-- wait: until a time.
+-- approval: it was requested; until: when the request expires, or null.
+-- child: count children did not complete.
+-- cannot_decode: the detail has the error.
+-- Attempt 0 never begins. It holds a report on a step that has not begun: early_result and
+-- early_error (detail: as the value of an attempt), and early_undone: a result of a saga that ended
+-- without it, where another saga undoes the step, if there is anything to undo.
 CREATE TABLE sagas.suspensions(
   id bigint NOT NULL, step integer NOT NULL, action text NOT NULL, number integer NOT NULL,
   reason text NOT NULL,
   count integer NOT NULL, since double precision NOT NULL, until double precision, detail text,
   PRIMARY KEY(id, step, action, number));
 
--- What attempts did that were not simply called: that waited, or were called again. at: of the
--- first of the spans; spans: a JSON list of [word, since when, what was raised] (core/spans.py).
--- For people alone.
+-- The spans of attempts that waited, or were called again. at: the time of the first span. spans: a
+-- JSON list of [word, start, error] (core/spans.py). Only people read them.
 CREATE TABLE sagas.attempt_spans(
   id bigint NOT NULL, step integer NOT NULL, action text NOT NULL, number integer NOT NULL,
   at double precision NOT NULL, spans text NOT NULL, PRIMARY KEY(id, step, action, number, at));
 
--- How far the functions of attempts were, as they told last (`Task.progress`): for people alone.
+-- The last progress that the functions of attempts reported (`Task.progress`). Only people read it.
 CREATE TABLE sagas.progress(
   id bigint NOT NULL, step integer NOT NULL, action text NOT NULL, number integer NOT NULL,
   fraction double precision NOT NULL, detail text, at double precision NOT NULL,
   PRIMARY KEY(id, step, action, number)) WITH (fillfactor = 70);
 
--- What is asked of the node that has a saga. command: abort or finish; value and answer: JSON;
--- saga: the id of the saga that it is asked of, and of no later one of its key.
+-- Requests to the node that has a saga. command: abort or finish. value and answer: JSON. saga: the
+-- id of the saga, so that a later saga with the same key does not get the request.
 CREATE TABLE sagas.operator_commands(
   id bigint GENERATED ALWAYS AS IDENTITY PRIMARY KEY, key text NOT NULL, command text NOT NULL,
   value text,
@@ -131,12 +134,12 @@ CREATE TABLE sagas.operator_commands(
 CREATE INDEX operator_commands_open ON sagas.operator_commands(id) WHERE answer IS NULL;
 CREATE INDEX operator_commands_key ON sagas.operator_commands(key);
 
--- Sagas that clients started and that no shard has yet. node: who is about to open them; digest: of
--- the client's definition, null where the client has no steps of it: then any node takes it that
--- has a saga of that name and version; commands: what is asked of it: a JSON list of lists with id,
--- command, value and at. They go with the start, and to `operator_commands` in the commit that
--- opens its saga; refused: why the input gives the saga no steps: then no node takes it,
--- and `at` is when it was refused.
+-- Sagas that clients started and that no shard has yet. node: the node that is about to open it.
+-- digest: of the client's definition, or null if the client has no steps of it. Then any node takes
+-- it that has a saga of that name and version. commands: the requests for it: a JSON list of lists
+-- with id, command, value and at. They are deleted with the start, or move to `operator_commands`
+-- in the commit that opens its saga. refused: why the input yields no steps. Then no node takes it,
+-- and `at` is the time when it was refused.
 CREATE TABLE sagas.pending_starts(
   id bigint GENERATED ALWAYS AS IDENTITY PRIMARY KEY, key text NOT NULL UNIQUE,
   saga text NOT NULL, version integer NOT NULL,
@@ -144,14 +147,14 @@ CREATE TABLE sagas.pending_starts(
   labels jsonb NOT NULL DEFAULT '{}', deadline double precision, traceparent text,
   commands jsonb NOT NULL DEFAULT '[]', refused text);
 
--- Attempts that are done elsewhere, from the commit that offers them on.
--- attempt: its id; task: what a worker asks for, saga/step/action, or empty where a message has it;
--- concurrency: how many leases of the task hold at once, or null; lease: the newest, or null;
--- until: when it ends, by this server's clock; outcome: null, then as a worker reported it
--- (OutcomeKind) under the lease `reported`, or what became of it: suspended (nobody
--- knows, and it is offered again), person (a person has to say), withdrawn (nobody had it) or
--- settled; value: as in attempts; cancelled: why its saga is to be
--- undone (aborted or failed), which its worker hears with its heartbeat.
+-- Attempts that external workers execute, from the commit that offers them on. attempt: its id.
+-- task: what a worker claims, saga/step/action, or empty if a message carries it. concurrency: the
+-- maximum number of leases of the task, or null. lease: the newest one, or null. until: when the
+-- lease ends, by this server's clock. outcome: null, then the reported one (OutcomeKind) under the
+-- lease `reported`, or one of: suspended (the outcome is unknown, and it is offered again), person
+-- (an operator must answer), withdrawn (no worker had it), settled (a commit has it). value: as in
+-- attempts. cancelled: why its saga is to be undone (aborted or failed), which its worker gets with
+-- its heartbeat.
 CREATE TABLE sagas.external_attempts(
   attempt text PRIMARY KEY, shard bigint NOT NULL, id bigint NOT NULL, step integer NOT NULL,
   action text NOT NULL,
@@ -168,9 +171,9 @@ CREATE INDEX external_attempts_reported ON sagas.external_attempts(shard)
   WHERE outcome IN ('succeeded', 'failed', 'failed_permanently', 'unknown');
 CREATE INDEX external_attempts_id ON sagas.external_attempts(id);
 
--- What webhooks are told, written with what it tells of. state: pending, delivered or failed;
--- attempts: posts that were begun; status: of the last answer; error: why there was none; due: when
--- it is posted next, or posted again where the program that posts it ends.
+-- Deliveries to webhooks, written with the event that they report. state: pending, delivered or
+-- failed. attempts: the number of posts that began. status: of the last response. error: why there
+-- was none. due: when it is posted next, or again if the program that posts it ends.
 CREATE TABLE sagas.webhook_deliveries(
   id text PRIMARY KEY, webhook text NOT NULL, type text NOT NULL, saga bigint NOT NULL,
   key text NOT NULL, body text NOT NULL, at double precision NOT NULL,
@@ -180,42 +183,42 @@ CREATE INDEX webhook_deliveries_due ON sagas.webhook_deliveries(webhook, due)
   WHERE state = 'pending';
 CREATE INDEX webhook_deliveries_at ON sagas.webhook_deliveries(at);
 
--- Slots of steps that are limited over all nodes, by saga and step; of the key of a limit, by the
--- digest of the key too, and only while a node has the slot. kind: limit (who is called has one, as
--- long as the lease of its node holds) or rate (a call takes one until a time, in seconds of this
--- server's clock).
+-- Slots of steps that are limited over all nodes, by saga and step. A keyed limit also has the
+-- digest of the key, and a slot only while a node has it. kind: limit (each running call has a
+-- slot, as long as the lease of its node holds) or rate (a call takes a slot until a time, in
+-- seconds of this server's clock).
 CREATE TABLE sagas.limit_slots(
   name text NOT NULL, kind text NOT NULL, slot integer NOT NULL, node text, until double precision,
   PRIMARY KEY(name, kind, slot)) WITH (fillfactor = 50);
 
--- Schedules. cron: an expression, or empty; every: seconds, or 0; catch_up: last, all or skip;
--- next_at: of the first time that was not started; error: why the last one could not be.
+-- Schedules. cron: an expression, or empty. every: seconds, or 0. catch_up: last, all or skip.
+-- next_at: the first time that was not started. error: why the last saga could not be started.
 CREATE TABLE sagas.schedules(
   name text PRIMARY KEY, saga text NOT NULL, version integer NOT NULL, input text NOT NULL,
   labels text NOT NULL, cron text NOT NULL, every double precision NOT NULL,
   timezone text NOT NULL, catch_up text NOT NULL, next_at double precision NOT NULL,
   last_at double precision, paused smallint NOT NULL DEFAULT 0, error text);
 
--- What one service asks of another. command, payload and answer: JSON, but for the first. Who asked
--- takes the row away; a crash of the server may lose it.
+-- Calls between services. command: a word. payload and answer: JSON. The caller deletes the row,
+-- and a crash of the server may lose it.
 CREATE UNLOGGED TABLE sagas.peer_calls(
   id text PRIMARY KEY, node text NOT NULL, command text NOT NULL, payload text NOT NULL,
   at timestamptz NOT NULL DEFAULT now(), answer text);
 
--- What nobody outside may know. `leases`: the key by which leases of workers are signed, in hex;
--- `codec`: there since a program with a codec opened the store, whose values are encoded.
+-- Secrets of the store. `leases`: the key that signs leases of workers, in hex. `codec`: a program
+-- with a codec has opened the store, whose values are encoded.
 CREATE TABLE sagas.secrets(name text PRIMARY KEY, value text NOT NULL);
 """
 
 VERSION = 1
 
 STARTED = "CREATE INDEX IF NOT EXISTS sagas_started ON sagas.sagas(at, id)"
-"""Of tables that were made before lists were in the order of the starts."""
+"""For tables of older releases, which have no index of start times."""
 LACKS_STARTED = """
 SELECT to_regclass('sagas.sagas_started') IS NULL AND pg_has_role(relowner, 'USAGE')
 FROM pg_class WHERE oid = to_regclass('sagas.sagas')
 """
-"""Whether the index is missing, and this user may make it."""
+"""Whether the index is missing, and this user may create it."""
 REMEDY = "Run `CREATE INDEX CONCURRENTLY sagas_started ON sagas.sagas(at, id)`"
 
 TABLES = (
@@ -245,102 +248,110 @@ TABLES = (
 """The tables whose rows a node and a client read and write."""
 
 
-def version_of(link: psycopg.Connection[tuple[object, ...]]) -> int:
-    """The version of the tables; 0 where there are none."""
-    if link.execute("SELECT to_regclass('sagas.store')").fetchone() == (None,):
+def version_of(connection: psycopg.Connection[tuple[object, ...]]) -> int:
+    """Return the version of the tables; 0 if there are none."""
+    if connection.execute("SELECT to_regclass('sagas.store')").fetchone() == (None,):
         return 0
-    row = link.execute("SELECT version FROM sagas.store").fetchone()
+    row = connection.execute("SELECT version FROM sagas.store").fetchone()
     return int(str(row[0])) if row else 0
 
 
-def check(version: int, where: str) -> None:
-    """Raises `StoreSchemaTooNew` where the tables are of a later version."""
+def check(version: int, store_name: str) -> None:
+    """Raise `StoreSchemaTooNew` if the tables are of a later version."""
     if version > VERSION:
         raise StoreSchemaTooNew(
-            f"{where}: its tables have version {version}, and this program knows "
+            f"{store_name}: its tables have version {version}, and this program knows "
             f"{VERSION}. Use a later release"
         )
 
 
-def migrate(link: psycopg.Connection[tuple[object, ...]], where: str) -> int:
-    """Makes the tables where there are none, in one transaction; gives the version that was there.
-    Of older tables it makes the index of the starts, where this user may.
+def migrate(connection: psycopg.Connection[tuple[object, ...]], store_name: str) -> int:
+    """Create missing tables in one transaction, and return the version before.
 
-    The connection commits each statement. Raises `StoreSchemaTooNew`, or `InvalidStore` where this
-    user
-    may not.
+    Older tables get the index of start times, if this user may create it.
+
+    The connection commits each statement. Raises `StoreSchemaTooNew`, or `InvalidStore` if this
+    user may not create the tables.
     """
     try:
-        version = version_of(link)
-        check(version, where)
-        if version == VERSION and not _lacks_started(link):
+        version = version_of(connection)
+        check(version, store_name)
+        if version == VERSION and not _lacks_started(connection):
             return version
-        link.execute(
-            "SELECT pg_advisory_lock(%s)", (LOCK,)
-        )  # before the transaction: one that waits within it may not see new tables
+        # before the transaction: one that waits for the lock may not see new tables
+        connection.execute("SELECT pg_advisory_lock(%s)", (LOCK,))
         try:
-            version = version_of(link)
-            check(version, where)
+            version = version_of(connection)
+            check(version, store_name)
             if version < VERSION:
-                with link.transaction():
-                    _make(link)
-            elif _lacks_started(link):
-                _add_started(link, where)
+                with connection.transaction():
+                    _make(connection)
+            elif _lacks_started(connection):
+                _add_started(connection, store_name)
         finally:
-            link.execute("SELECT pg_advisory_unlock(%s)", (LOCK,))
+            connection.execute("SELECT pg_advisory_unlock(%s)", (LOCK,))
         return version
     except errors.InsufficientPrivilege as error:
         raise InvalidStore(
-            f"{where}: {str(error).splitlines()[0]}: {RIGHTS.format(role=link.info.user)}"
+            f"{store_name}: {str(error).splitlines()[0]}: "
+            f"{RIGHTS.format(role=connection.info.user)}"
         ) from error
 
 
-def _lacks_started(link: psycopg.Connection[tuple[object, ...]]) -> bool:
-    return link.execute(LACKS_STARTED).fetchone() == (True,)
+def _lacks_started(connection: psycopg.Connection[tuple[object, ...]]) -> bool:
+    return connection.execute(LACKS_STARTED).fetchone() == (True,)
 
 
-def _add_started(link: psycopg.Connection[tuple[object, ...]], where: str) -> None:
-    """Makes the index, unless that held up the other nodes for long: lists are slow without it."""
+def _add_started(connection: psycopg.Connection[tuple[object, ...]], store_name: str) -> None:
+    """Create the index, unless other nodes would have to wait for it for long.
+
+    Lists are slow without it.
+    """
     try:
-        with link.transaction():
-            link.execute("SET LOCAL lock_timeout = '5s'")
-            link.execute(STARTED)
+        with connection.transaction():
+            connection.execute("SET LOCAL lock_timeout = '5s'")
+            connection.execute(STARTED)
     except (errors.InsufficientPrivilege, errors.LockNotAvailable, errors.QueryCanceled) as error:
-        told = str(error).splitlines()[0]
-        logger.warning("%s: %s. Lists are slow without an index. %s", where, told, REMEDY)
+        detail = str(error).splitlines()[0]
+        logger.warning("%s: %s. Lists are slow without an index. %s", store_name, detail, REMEDY)
 
 
-def _make(link: psycopg.Connection[tuple[object, ...]]) -> None:
-    link.execute("CREATE SCHEMA IF NOT EXISTS sagas")
-    link.execute("CREATE TABLE sagas.store(version integer NOT NULL)")
-    link.execute(SCHEMA)
-    link.execute(f"INSERT INTO sagas.store VALUES({VERSION})")
+def _make(connection: psycopg.Connection[tuple[object, ...]]) -> None:
+    connection.execute("CREATE SCHEMA IF NOT EXISTS sagas")
+    connection.execute("CREATE TABLE sagas.store(version integer NOT NULL)")
+    connection.execute(SCHEMA)
+    connection.execute(f"INSERT INTO sagas.store VALUES({VERSION})")
 
 
-def allow(link: psycopg.Connection[tuple[object, ...]], role: str) -> None:
-    """Gives a role what a node and a client need, and no more: the rows of these tables. Raises
-    `InvalidStore` where this user cannot give that.
+def allow(connection: psycopg.Connection[tuple[object, ...]], role: str) -> None:
+    """Grant a role the rights that a node and a client need: only the rows of these tables.
+
+    Raises `InvalidStore` if this user cannot grant them.
     """
     name = sql.Identifier(role)
-    with link.transaction():
-        link.execute(sql.SQL("GRANT USAGE ON SCHEMA sagas TO {}").format(name))
-        link.execute(sql.SQL("GRANT SELECT ON sagas.store TO {}").format(name))
+    with connection.transaction():
+        connection.execute(sql.SQL("GRANT USAGE ON SCHEMA sagas TO {}").format(name))
+        connection.execute(sql.SQL("GRANT SELECT ON sagas.store TO {}").format(name))
         for table in TABLES:
-            link.execute(
+            connection.execute(
                 sql.SQL("GRANT SELECT, INSERT, UPDATE, DELETE ON sagas.{} TO {}").format(
                     sql.Identifier(table), name
                 )
             )
-        link.execute(sql.SQL("GRANT USAGE ON ALL SEQUENCES IN SCHEMA sagas TO {}").format(name))
-        link.execute(sql.SQL("GRANT EXECUTE ON FUNCTION sagas.last_seq TO {}").format(name))
-        given = (
+        connection.execute(
+            sql.SQL("GRANT USAGE ON ALL SEQUENCES IN SCHEMA sagas TO {}").format(name)
+        )
+        connection.execute(sql.SQL("GRANT EXECUTE ON FUNCTION sagas.last_seq TO {}").format(name))
+        are_granted = (
             "has_schema_privilege(%(role)s, 'sagas', 'USAGE') "
             "AND has_table_privilege(%(role)s, 'sagas.shards', 'INSERT')"
         )
-        if link.execute(f"SELECT {given}", {"role": role}).fetchone() != (
-            True,
-        ):  # PostgreSQL only warns where nothing was given
+        # PostgreSQL only warns if nothing was granted
+        (is_granted,) = connection.execute(f"SELECT {are_granted}", {"role": role}).fetchone() or (
+            False,
+        )
+        if is_granted is not True:
             raise InvalidStore(
-                f"{link.info.user} cannot grant these rights to {role}. Run the command as "
+                f"{connection.info.user} cannot grant these rights to {role}. Run the command as "
                 "the owner of the schema `sagas`"
             )

@@ -1,7 +1,7 @@
 """Loads many shards in one round trip.
 
-How logs are taken up from PostgreSQL: those that are wanted at once go together, by one message
-to the server and its answer.
+Shards that are wanted at the same time are loaded together, by one message to the server and its
+reply.
 """
 
 from __future__ import annotations
@@ -21,9 +21,9 @@ from sagas.storage.postgresql import connections
 from sagas.storage.record_file import RecordFile
 
 MOST = 64
-"""Logs that are taken up at once."""
+"""Maximum number of shards that are loaded at once."""
 
-LOGS = "shard = ANY(%(logs)s::bigint[])"
+LOGS = "shard = ANY(%(shards)s::bigint[])"
 MINE = "owner = %(node)s AND closed = 0"
 SAGAS = (
     f"sagas s WHERE s.id >= l.shard * {SHARD_CAPACITY} AND s.id < (l.shard + 1) * {SHARD_CAPACITY}"
@@ -48,72 +48,81 @@ SELECT shard, {MINE},
   (SELECT json_build_array(first_seq, committed_at,
       length(text) - length(replace(text, E'\\n', '')))
     FROM event_log e WHERE e.shard = l.shard ORDER BY first_seq DESC LIMIT 1)::text,
-  {connections.LINE} FROM shards l WHERE {LOGS}
+  {connections.TIMELINE} FROM shards l WHERE {LOGS}
 """
-"""One transaction: the second part sees all that was written under the epochs before, and
-meanwhile nothing is. A log of which a commit is under way is passed over. A log's sagas are one
-text, since psycopg takes longer for some thousand cells than the server for all.
+"""Loads shards in one transaction.
+
+The second part sees all that was written under the former epochs, and nothing is written in
+between. A shard with a commit under way is skipped. A shard's sagas are one text, since psycopg
+takes longer for a thousand cells than the server takes for all sagas.
 """
 NEW = connections.TAKEOVER.format(node="%(node)s", last="-1", taken="born")
 BORN = f"""
-WITH given AS (SELECT place, digest, text FROM unnest(%(places)s::integer[], %(digests)s::text[],
-    %(texts)s::text[]) AS of(place, digest, text)),
-new AS (INSERT INTO definitions SELECT DISTINCT digest, text FROM given ORDER BY 1
+WITH definition AS (SELECT place, digest, text
+  FROM unnest(%(places)s::integer[], %(digests)s::text[], %(texts)s::text[])
+    AS of(place, digest, text)),
+new AS (INSERT INTO definitions SELECT DISTINCT digest, text FROM definition ORDER BY 1
   ON CONFLICT DO NOTHING),
-new2 AS (INSERT INTO shard_definitions SELECT %(log)s, place, digest FROM given
+new2 AS (INSERT INTO shard_definitions SELECT %(shard)s, place, digest FROM definition
   ON CONFLICT DO NOTHING),
 born AS (INSERT INTO shards(shard, name, owner, epoch)
-  VALUES (%(log)s, %(name)s, %(node)s, %(epoch)s) ON CONFLICT DO NOTHING
+  VALUES (%(shard)s, %(name)s, %(node)s, %(epoch)s) ON CONFLICT DO NOTHING
   RETURNING shard, epoch)
 {NEW}
 """
-"""A log that is not in the store, as far as this node knows: the commit that was to hold it may
-come late, and then meets it, of a later epoch.
+"""Creates a shard that is not in the store, as far as this node knows.
+
+The commit that was to create it may still arrive, and then finds a later epoch.
 """
-DEFINITIONS = "SELECT count(*) FROM shard_definitions WHERE shard = %(log)s"
+DEFINITIONS = "SELECT count(*) FROM shard_definitions WHERE shard = %(shard)s"
 ALONE = (
     f"WITH mine AS (UPDATE shards SET epoch = epoch + 1 WHERE {LOGS} AND {MINE} "
     f"RETURNING shard, epoch), noted AS ({connections.READ}) "
-    f"SELECT epoch, {connections.LINE} FROM mine"
+    f"SELECT epoch, {connections.TIMELINE} FROM mine"
 )
-"""Whatever its epoch is, here as above: this node may not have heard of the last one that it
-made.
+"""Loads one shard, whatever its epoch is.
+
+As above, this node may not know the last epoch that it began.
 """
 
 
-class Want(NamedTuple):
-    """A log that is to be taken up."""
+class LoadRequest(NamedTuple):
+    """A shard that is to be loaded."""
 
-    log: int
+    shard: int
     epoch: int
     born: Born | None
-    came: asyncio.Future[Loaded | None]
+    loaded_shard: asyncio.Future[Loaded | None]
 
-    def tell(self, loaded: Loaded | None, fault: Exception | None = None) -> None:
-        """To who wants it, and waits for it still."""
-        if not self.came.done():
-            self.came.set_exception(fault) if fault else self.came.set_result(loaded)
+    def resolve(self, loaded: Loaded | None, failure: Exception | None = None) -> None:
+        """Answer the caller, if it still waits."""
+        if not self.loaded_shard.done():
+            self.loaded_shard.set_exception(failure) if failure else self.loaded_shard.set_result(
+                loaded
+            )
 
 
 WAKE = """
-SELECT NOT EXISTS (SELECT 1 FROM shards WHERE shard = %(log)s AND (owner IS DISTINCT FROM %(node)s
+SELECT NOT EXISTS (SELECT 1 FROM shards WHERE shard = %(shard)s AND (owner IS DISTINCT FROM %(node)s
 OR epoch <> %(epoch)s OR closed <> 0)), l.first_seq, l.committed_at, l.text
-FROM (SELECT) one LEFT JOIN event_log l ON l.shard = %(log)s ORDER BY l.first_seq
+FROM (SELECT) single LEFT JOIN event_log l ON l.shard = %(shard)s ORDER BY l.first_seq
 """
-"""Beside each chunk of a log, whether the log is this node's under this epoch, or is not born
-yet: as of one moment.
+"""Returns each chunk of a shard's log.
+
+The first column says, as of the same moment, whether this node owns the shard under this epoch, or
+the shard does not exist yet.
 """
 
 
 CHUNKS = f"SELECT first_seq, committed_at, text FROM event_log WHERE {LOGS} ORDER BY first_seq"
 
 
-class Log(NamedTuple):
+class EventLog(NamedTuple):
     """What the store has of an event log.
 
     Attributes:
         text: Its lines.
-        events: How many they are.
+        events: The number of lines.
         tail: Its last chunk, if it has any.
     """
 
@@ -122,14 +131,14 @@ class Log(NamedTuple):
     tail: Tail | None
 
     @classmethod
-    def of(cls, chunks: Sequence[tuple[int, float, str]]) -> Log:
-        """Join its chunks."""
+    def of(cls, chunks: Sequence[tuple[int, float, str]]) -> EventLog:
+        """Join the chunks of a log."""
         text, events = queries.joined([(first, text) for first, _, text in chunks])
         return cls(text, events, Tail(*chunks[-1][:2]) if chunks else None)
 
 
-class Loads:
-    """Takes up logs for one node."""
+class ShardLoader:
+    """Loads shards for one node."""
 
     def __init__(
         self,
@@ -140,122 +149,136 @@ class Loads:
     ) -> None:
         self._record = record
         self._asker, self._node, self._spawn = asker, node, spawn
-        self._wanted: list[Want] = []
+        self._wanted: list[LoadRequest] = []
         self._is_loading = False
-        # shards that are locked go one by one: each may hold for long a connection that others need
-        self._one = asyncio.Lock()
+        # locked shards are loaded one by one: each may need a connection for a long time
+        self._loading_alone = asyncio.Lock()
 
-    async def take_up(self, log: int, epoch: int, line: str) -> Log | None:
-        """As `Database.take_up`, from a server of this timeline."""
-        rows = await self._asker.read(WAKE, log=log, node=self._node, epoch=epoch)
+    async def take_up(self, shard: int, epoch: int, timeline: str) -> EventLog | None:
+        """See `Database.take_up`. The server has this timeline."""
+        rows = await self._asker.read(WAKE, shard=shard, node=self._node, epoch=epoch)
         if not rows[0][0]:
             return None
-        read = Log.of([(first, at, text) for _, first, at, text in rows if first is not None])
+        read = EventLog.of([(first, at, text) for _, first, at, text in rows if first is not None])
         if self._record:
-            self._record.read((log, epoch, line), read.events, read.text)
+            self._record.read((shard, epoch, timeline), read.events, read.text)
         return read
 
-    async def load(self, log: int, epoch: int, born: Born | None) -> Loaded | None:
-        """As `Database.load`."""
-        want = Want(log, epoch, born, asyncio.get_running_loop().create_future())
+    async def load(self, shard: int, epoch: int, born: Born | None) -> Loaded | None:
+        """See `Database.load`."""
+        request = LoadRequest(shard, epoch, born, asyncio.get_running_loop().create_future())
         if born:
-            self._spawn(self._tell_alone(want))
+            self._spawn(self._load_alone(request))
         else:
-            self._wanted.append(want)
+            self._wanted.append(request)
             if not self._is_loading:
                 self._is_loading = True
                 self._spawn(self._load())
-        loaded = await want.came
+        loaded = await request.loaded_shard
         if loaded and self._record:
-            self._record.took((log, loaded.epoch, loaded.line), loaded.events, loaded.text)
+            self._record.took((shard, loaded.epoch, loaded.line), loaded.events, loaded.text)
         return loaded
 
     async def _load(self) -> None:
-        """All that is wanted, one lot behind the other."""
+        """Load all shards that are wanted, one batch after the other."""
         try:
             while self._wanted:
-                lot, self._wanted = self._wanted[:MOST], self._wanted[MOST:]
-                await self._tell(lot)
+                batch, self._wanted = self._wanted[:MOST], self._wanted[MOST:]
+                await self._load_batch(batch)
         finally:
             self._is_loading = False
 
-    async def _tell(self, lot: Sequence[Want]) -> None:
-        """Tells who wants them. One of which a commit is under way comes alone; and so does each
-        where the server refused, which may be because of one.
+    async def _load_batch(self, batch: Sequence[LoadRequest]) -> None:
+        """Load a batch, and answer the callers.
+
+        A shard with a commit under way is loaded alone. If the server refused the batch, each shard
+        is loaded alone, since one of them may be the reason.
         """
         try:
-            rest = await self._together(lot)
-        except Exception as fault:
-            rest = [want for want in lot if not want.came.done()]
-            if not _was_heard(fault):
-                for want in rest:
-                    want.tell(None, fault)
+            rest = await self._together(batch)
+        except Exception as failure:
+            rest = [request for request in batch if not request.loaded_shard.done()]
+            if not _was_answered(failure):
+                for request in rest:
+                    request.resolve(None, failure)
                 return
-        for want in rest:
-            self._spawn(self._tell_alone(want))
+        for request in rest:
+            self._spawn(self._load_alone(request))
 
-    async def _tell_alone(self, want: Want) -> None:
+    async def _load_alone(self, request: LoadRequest) -> None:
         try:
-            async with self._one:
-                loaded = await self._alone(want)
-        except Exception as fault:
-            want.tell(None, fault)
+            async with self._loading_alone:
+                loaded = await self._alone(request)
+        except Exception as failure:
+            request.resolve(None, failure)
         else:
-            want.tell(loaded)
+            request.resolve(loaded)
 
-    async def _together(self, lot: Sequence[Want]) -> list[Want]:
-        """Tells of those that were taken up, one behind the other, so that others have their
-        turns; gives those that are locked.
+    async def _together(self, batch: Sequence[LoadRequest]) -> list[LoadRequest]:
+        """Load shards, and return the requests of those that are locked.
+
+        The callers are answered one after the other, so that others have their turns in the loop.
         """
-        words = {"logs": f"{{{','.join(str(want.log) for want in lot)}}}", "node": self._node}
-        waits, locked = list(lot), list[Want]()
-        async with self._asker.connection() as link:
-            cursor = await psycopg.AsyncClientCursor(link).execute(TOGETHER, words)
-            epochs: dict[int, int] = {log: epoch for log, epoch in await cursor.fetchall()}
+        parameters = {
+            "shards": f"{{{','.join(str(request.shard) for request in batch)}}}",
+            "node": self._node,
+        }
+        waiting, locked = list(batch), list[LoadRequest]()
+        async with self._asker.connection() as connection:
+            cursor = await psycopg.AsyncClientCursor(connection).execute(TOGETHER, parameters)
+            epochs: dict[int, int] = {shard: epoch for shard, epoch in await cursor.fetchall()}
             cursor.nextset()
             while row := await cursor.fetchone():
-                log, is_mine, text, opened, sagas, defined, tail, line = row
-                these, waits = [want for want in waits if want.log == log], [
-                    want for want in waits if want.log != log
+                shard, is_mine, text, opened, sagas, defined, tail, timeline = row
+                requests, waiting = [request for request in waiting if request.shard == shard], [
+                    request for request in waiting if request.shard != shard
                 ]
-                if log not in epochs and is_mine:
-                    locked += these
+                if shard not in epochs and is_mine:
+                    locked += requests
                     continue
                 loaded = None
-                if log in epochs:
+                if shard in epochs:
                     loaded = _loaded(text or "", opened, json.loads(sagas or "[]"))
-                    loaded.epoch, loaded.line = epochs[log], line
+                    loaded.epoch, loaded.line = epochs[shard], timeline
                     loaded.definitions = defined
                     if tail is not None:
                         first, at, lines = json.loads(tail)
                         loaded.tail = Tail(first, float(at))
                         loaded.damage = queries.damage_of(loaded.text, first + lines)
-                for want in these:
-                    want.tell(loaded)
+                for request in requests:
+                    request.resolve(loaded)
                 await asyncio.sleep(0)
-        for want in waits:
-            want.tell(None)
+        for request in waiting:
+            request.resolve(None)
         return locked
 
-    async def _alone(self, want: Want) -> Loaded | None:
-        """Row by row, however large it is."""
-        low, high = queries.bounds(want.log)
-        words = {"low": low, "high": high, "log": want.log, "logs": [want.log], "node": self._node}
+    async def _alone(self, request: LoadRequest) -> Loaded | None:
+        """Load a shard row by row, for any size."""
+        low, high = queries.bounds(request.shard)
+        parameters = {
+            "low": low,
+            "high": high,
+            "shard": request.shard,
+            "shards": [request.shard],
+            "node": self._node,
+        }
 
         async def rows(query: str) -> list[Any]:
             return await (
-                await link.execute(
-                    query.replace("?", "%(low)s", 1).replace("?", "%(high)s", 1), words
+                await connection.execute(
+                    query.replace("?", "%(low)s", 1).replace("?", "%(high)s", 1), parameters
                 )
             ).fetchall()
 
-        async with self._asker.connection() as link, link.transaction():
-            if want.born:
-                await link.execute(BORN, words | _born(want.born) | {"epoch": want.epoch})
+        async with self._asker.connection() as connection, connection.transaction():
+            if request.born:
+                await connection.execute(
+                    BORN, parameters | _born(request.born) | {"epoch": request.epoch}
+                )
             taken = await rows(ALONE)
             if not taken:
                 return None
-            text, events, tail = Log.of(await rows(CHUNKS))
+            text, events, tail = EventLog.of(await rows(CHUNKS))
             ((opened,),) = await rows(queries.COUNT)
             ((defined,),) = await rows(DEFINITIONS)
             open, results, held = [
@@ -269,42 +292,50 @@ class Loads:
 
 
 def _born(born: Born) -> dict[str, Any]:
-    """A log's name and definitions, as `BORN` has them."""
+    """Return a shard's name and definitions as parameters of `BORN`."""
     name, defined = born
     places, digests, texts = zip(*defined) if defined else ((), (), ())
     return {"name": name, "places": [*places], "digests": [*digests], "texts": [*texts]}
 
 
-def _was_heard(fault: Exception) -> bool:
-    """Whether the server was there, and refused, or took too long."""
-    cause = fault.__cause__ if isinstance(fault, StoreUnavailable) else fault
+def _was_answered(failure: Exception) -> bool:
+    """Whether the server answered with an error, or took too long."""
+    cause = failure.__cause__ if isinstance(failure, StoreUnavailable) else failure
     return isinstance(cause, TimeoutError) or getattr(cause, "sqlstate", None) is not None
 
 
 def _loaded(text: str, opened: int, sagas: Sequence[Any]) -> Loaded:
-    """From its cells. Seconds are written as whole numbers there, where they are."""
+    """Return a shard from its cells. JSON may have whole numbers of seconds."""
     results: list[Result] = [
-        (id, step, kind, attempt, outcome, value, float(at))
+        (id, step, action, attempt, outcome, value, float(at))
         for saga in sagas
-        for id, step, kind, attempt, outcome, value, at in saga[5] or ()
+        for id, step, action, attempt, outcome, value, at in saga[5] or ()
     ]
     held: list[HeldRow] = [
         (
             id,
             step,
-            kind,
+            action,
             attempt,
-            why,
+            reason,
             count,
             float(since),
             None if until is None else float(until),
             error,
         )
         for saga in sagas
-        for id, step, kind, attempt, why, count, since, until, error in saga[6] or ()
+        for id, step, action, attempt, reason, count, since, until, error in saga[6] or ()
     ]
     open: list[OpenRow] = [
-        (id, key, place, text, None if deadline is None else float(deadline), traceparent, shape)
-        for id, key, place, text, deadline, _, _, traceparent, shape in sagas
+        (
+            id,
+            key,
+            definition_index,
+            text,
+            None if deadline is None else float(deadline),
+            traceparent,
+            shape,
+        )
+        for id, key, definition_index, text, deadline, _, _, traceparent, shape in sagas
     ]
     return Loaded(text, text.count("\n"), opened, open, results, held)

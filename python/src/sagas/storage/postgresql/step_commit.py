@@ -1,8 +1,8 @@
 """The statement that ends a step's transaction.
 
-The record and the commit are one text. The server stops at the first part that it refuses. The
-text names every table with its schema and leaves the user's settings as they are. The record is
-prepared when a connection is made, since to plan it takes the server longer than to run it.
+The record and the commit are one text. The server stops at the first part that it refuses. The text
+names every table with its schema, and leaves the user's settings unchanged. The record is prepared
+when a connection is made, since planning it takes the server longer than executing it.
 """
 
 from __future__ import annotations
@@ -19,42 +19,47 @@ from sagas.storage.postgresql.step_protocol import encoding_of
 
 COMMIT = "; COMMIT"
 UNPREPARED = ("26000", "42P05")
-"""SQLSTATEs of a statement that is not prepared any more, or is prepared already: a function
-deallocated it unseen, or a pooler hands out other sessions."""
+"""SQLSTATEs of a statement that is no longer prepared, or is already prepared.
+
+A function deallocated it unnoticed, or a pooler changed the session.
+"""
 PREPARED = "sagas_record"
 """The name of the prepared record."""
 PARAMETERS = {
     "id": "bigint",
     "step": "integer",
-    "kind": "text",
+    "action": "text",
     "attempt": "integer",
-    "log": "bigint",
+    "shard": "bigint",
     "node": "text",
     "epoch": "bigint",
-    "line": "text",
+    "timeline": "text",
     "first_seq": "integer",
     "committed_at": "double precision",
     "value": "text",
 }
 TABLE = "sagas", "attempts"
 """The schema and the name of the table that a record is written to."""
-RECORD = f"""INSERT INTO {'.'.join(TABLE)} VALUES ({{id}}, {{step}}, {{kind}}, {{attempt}},
-  (SELECT 'ok' FROM sagas.shards WHERE shard = {{log}} AND owner = {{node}}
-    AND epoch = {{epoch}} AND {connections.LINE} = {{line}}
-    AND EXISTS (SELECT 1 FROM sagas.event_log WHERE shard = {{log}}
+RECORD = f"""INSERT INTO {'.'.join(TABLE)} VALUES ({{id}}, {{step}}, {{action}}, {{attempt}},
+  (SELECT 'ok' FROM sagas.shards WHERE shard = {{shard}} AND owner = {{node}}
+    AND epoch = {{epoch}} AND {connections.TIMELINE} = {{timeline}}
+    AND EXISTS (SELECT 1 FROM sagas.event_log WHERE shard = {{shard}}
       AND first_seq = {{first_seq}} AND committed_at = {{committed_at}}) FOR SHARE),
   {{value}}, extract(epoch FROM clock_timestamp()))"""
-"""If the shard is not this node's any more, or lacks what was committed before the attempt began,
-the outcome is null: the server refuses that, and nothing is committed."""
+"""Records a result.
+
+If this node no longer owns the shard, or the shard lacks a commit from before the attempt began,
+the outcome is null. The server refuses that, and nothing is committed.
+"""
 
 
 def prepares() -> str:
-    """The statements that prepare the record as a connection is made.
+    """Return the statements that prepare the record when a connection is made.
 
     They also plan it, by keys: a plan for small tables would be kept while the tables grow. The
-    settings hold for this text alone.
+    settings are only for this text.
     """
-    places = {word: f"${place}" for place, word in enumerate(PARAMETERS, 1)}
+    places = {name: f"${number}" for number, name in enumerate(PARAMETERS, 1)}
     types, nulls = ", ".join(PARAMETERS.values()), ", ".join("NULL" for _ in PARAMETERS)
     return "; ".join(
         [
@@ -66,41 +71,41 @@ def prepares() -> str:
 
 
 class Fence(NamedTuple):
-    """The owner that a shard must have for anything to be committed, and a chunk of its log."""
+    """The owner that a shard must have for a commit, and a chunk of its log."""
 
-    log: int
+    shard: int
     node: str
     epoch: int
-    line: str
+    timeline: str
     tail: Tail
 
 
-def _literal(link: Any, word: str) -> str:
-    """A text as a literal, for this connection."""
-    if word.isascii() and "'" not in word and "\\" not in word and "\0" not in word:
-        return f"'{word}'"
-    encoding = encoding_of(link)
-    escaped = pq.Escaping(link.pgconn).escape_literal(word.encode(encoding))
+def _literal(connection: Any, text: str) -> str:
+    """Return a text as a literal of this connection."""
+    if text.isascii() and "'" not in text and "\\" not in text and "\0" not in text:
+        return f"'{text}'"
+    encoding = encoding_of(connection)
+    escaped = pq.Escaping(connection.pgconn).escape_literal(text.encode(encoding))
     return bytes(escaped).decode(encoding)
 
 
-def record_and_commit(link: Any, row: Sequence[Any], fence: Fence, value: str) -> str:
-    """The record of a result, which locks the shard's row, and the commit."""
-    id, step, kind, attempt = row
-    log, node, epoch, line, (first_seq, committed_at) = fence
-    words = [
+def record_and_commit(connection: Any, row: Sequence[Any], fence: Fence, value: str) -> str:
+    """Return the record of a result, which locks the shard's row, and the commit."""
+    id, step, action, attempt = row
+    shard, node, epoch, timeline, (first_seq, committed_at) = fence
+    parameters = [
         str(id),
         str(step),
-        f"'{kind}'",
+        f"'{action}'",
         str(attempt),
-        str(log),
-        _literal(link, node),
+        str(shard),
+        _literal(connection, node),
         str(epoch),
-        f"'{line}'",
+        f"'{timeline}'",
         str(first_seq),
         f"'{committed_at!r}'",
-        _literal(link, value),
+        _literal(connection, value),
     ]
-    if is_prepared(link):
-        return f"EXECUTE {PREPARED}({', '.join(words)}){COMMIT}"
-    return RECORD.format(**dict(zip(PARAMETERS, words))) + COMMIT
+    if is_prepared(connection):
+        return f"EXECUTE {PREPARED}({', '.join(parameters)}){COMMIT}"
+    return RECORD.format(**dict(zip(PARAMETERS, parameters))) + COMMIT

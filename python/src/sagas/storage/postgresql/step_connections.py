@@ -1,7 +1,7 @@
 """Connections of transactional steps.
 
-The connections of steps with `transaction=True`: a transaction that begins with the first thing
-that the function does over it, and whose end is the record of the step's result.
+The steps have `transaction=True`. The transaction begins with the function's first statement on the
+connection. It ends with the record of the step's result.
 """
 
 from __future__ import annotations
@@ -22,9 +22,9 @@ from sagas.storage.postgresql.step_protocol import (
     RV,
     Prepares,
     Statements,
-    behind_begin,
+    after_begin,
     encoding_of,
-    go_on,
+    continue_generator,
     joined,
     look_at,
     note,
@@ -37,68 +37,71 @@ if TYPE_CHECKING:
 
 
 class AsyncStepCursor(psycopg.AsyncCursor[Row]):
-    """The begin of the transaction goes with the function's first statement, where that is one
-    statement for sure.
+    """Sends BEGIN together with the function's first statement.
+
+    It does so only if the text is certainly one statement.
     """
 
-    async def execute(self, query: Any, params: Any = None, **more: Any) -> Any:
-        """As psycopg's."""
-        await super().execute(query, params, **joined(self.connection, query, params, more))
+    async def execute(self, query: Any, params: Any = None, **kwargs: Any) -> Any:
+        """Execute a statement, as psycopg does."""
+        await super().execute(query, params, **joined(self.connection, query, params, kwargs))
         note(self)
         return self
 
 
 class AsyncStepLink(psycopg.AsyncConnection[Row]):
-    """For functions in the loop. `begun` is None where no step has it, else whether anything was
-    done over it.
+    """For functions in the loop.
 
-    While it lives it is registered with the loop once: psycopg itself registers it anew for each
-    answer, which takes as long as the rest.
+    `begun` is None if no step has the connection, else whether a statement was executed.
+
+    The connection is registered with the loop once, until it is closed. psycopg itself registers it
+    again for each reply, which takes as long as the rest.
     """
 
     begun: bool | None = None
     heard: Callable[[AsyncStepLink], None] | None = None
-    """Who hears that something came while nobody waits for an answer."""
+    """Called if something arrives while no statement waits for a reply."""
     prepares: Prepares | None = None
-    """What is prepared."""
+    """The prepared statements."""
     statements = Statements.NONE
     spent = False
-    """It is not handed out again: a statement of the function's ended the transaction, or its
-    end was refused, as by a server that was there before.
+    """Whether it must not be used again.
+
+    A statement of the function ended the transaction, or the server refused its end, as a former
+    server does.
     """
     is_set = False
-    """A statement set something on it."""
+    """Whether a statement changed a setting of it."""
     joins = 0
-    """The thread whose next statement may go with the begin."""
+    """The thread whose next statement may be sent together with BEGIN."""
     halfway = False
-    """Such a pair is under way: where it is left there, the connection is of no use."""
-    _reads: int | None = None  # the socket, as far as the loop knows it
-    _gen: PQGen[Any] | None = None  # what waits for the server
+    """Whether such a pair is under way. If it is left so, the connection is of no use."""
+    _reads: int | None = None  # the socket, if the loop watches it
+    _gen: PQGen[Any] | None = None  # the generator that waits for the server
     _answer: asyncio.Future[tuple[Any, Any]] | None = None
-    """what it gave, or what it waits for if that is not an answer"""
+    """The reply, or what the generator waits for instead of a reply."""
 
-    def __init__(self, *words: Any, **more: Any) -> None:
-        super().__init__(*words, **more)
+    def __init__(self, *args: Any, **kwargs: Any) -> None:
+        super().__init__(*args, **kwargs)
         self.cursor_factory = AsyncStepCursor
-        self._home = asyncio.get_running_loop()
-        self._pool = None  # psycopg's word for one that is not its user's to close
+        self._loop = asyncio.get_running_loop()
+        self._pool = None  # psycopg's attribute for a connection that its user must not close
 
-    async def wait(self, gen: PQGen[RV], *words: Any, **more: Any) -> RV:
-        """All that psycopg does over a connection goes by here."""
+    async def wait(self, gen: PQGen[RV], *args: Any, **kwargs: Any) -> RV:
+        """Run a generator of psycopg. All operations of a connection use this method."""
         if self.begun is False:
-            gen = behind_begin(self, gen)
+            gen = after_begin(self, gen)
         try:
             value, state = self._step(gen, None)
             if state == waiting.WAIT_R:
                 value, state = await self._answered(gen)
             if state is not None:
                 self.silence()
-                value = await super().wait(go_on(gen, state), *words, **more)
+                value = await super().wait(continue_generator(gen, state), *args, **kwargs)
         except asyncio.CancelledError as error:
             self._gen = None
-            await super().wait(
-                raising(error), *words, **more
-            )  # what psycopg does where it is interrupted
+            # psycopg handles an interruption so
+            await super().wait(raising(error), *args, **kwargs)
             raise
         finally:
             if self.halfway:
@@ -106,8 +109,9 @@ class AsyncStepLink(psycopg.AsyncConnection[Row]):
         return value  # type: ignore[no-any-return]
 
     async def prepare(self, prepares: Prepares) -> None:
-        """Before any step has it: prepares statements, if the server takes them, or what stands
-        before it.
+        """Prepare statements, before any step has the connection.
+
+        If the server refuses them, the connection is used without them.
         """
         try:
             async with self.lock:
@@ -124,63 +128,62 @@ class AsyncStepLink(psycopg.AsyncConnection[Row]):
             raise
 
     def watch(self) -> None:
-        """The loop tells when something comes."""
+        """Let the loop report when something arrives."""
         if self._reads is None:
             self._reads = self.pgconn.socket
-            self._home.add_reader(self._reads, self._came)
+            self._loop.add_reader(self._reads, self._came)
 
     def _answered(self, gen: PQGen[Any]) -> asyncio.Future[tuple[Any, Any]]:
-        """Steps of it for what comes, until it wants something else."""
+        """Return a future that steps through a generator until it wants something else."""
         self.watch()
-        answer: asyncio.Future[tuple[Any, Any]] = self._home.create_future()
+        answer: asyncio.Future[tuple[Any, Any]] = self._loop.create_future()
         self._gen, self._answer = gen, answer
         return answer
 
     def _step(self, gen: PQGen[Any], ready: Any) -> tuple[Any, Any]:
-        """One step of it: what it gave at its end, or what it waits for."""
+        """Do one step. Return the result of the generator, or what it waits for."""
         try:
             return None, gen.send(ready)
         except BaseException as end:
-            if (
-                self._reads is not None and self.pgconn.status == pq.ConnStatus.BAD
-            ):  # then libpq has closed the socket
+            # libpq closes the socket of a bad connection
+            if self._reads is not None and self.pgconn.status == pq.ConnStatus.BAD:
                 self.silence()
             if isinstance(end, StopIteration):
                 return end.value, None
             raise
 
     def silence(self) -> None:
-        """The loop knows nothing of it."""
+        """Remove the connection from the loop."""
         if self._reads is not None:
-            self._home.remove_reader(self._reads)
+            self._loop.remove_reader(self._reads)
             self._reads = None
 
     def _came(self) -> None:
-        """There is something to be read."""
+        """Handle bytes that arrived."""
         gen, answer = self._gen, self._answer
         if gen is None or answer is None or answer.done():
-            self.silence()  # nobody waits: whoever is next reads it
+            self.silence()  # no statement waits: the next one reads it
             if self.heard:
                 self.heard(self)
             return
         try:
-            told = self._step(gen, waiting.READY_R)
+            result = self._step(gen, waiting.READY_R)
         except Exception as error:
             self._gen = None
             answer.set_exception(error)
         else:
-            if told[1] != waiting.WAIT_R:
+            if result[1] != waiting.WAIT_R:
                 self._gen = None
-                answer.set_result(told)
+                answer.set_result(result)
 
     @property
     def is_unheard(self) -> bool:
-        """Whether something may have come of which the loop does not tell."""
+        """Whether something may have arrived that the loop does not report."""
         return self._reads is None
 
     def is_there(self) -> bool:
-        """Whether it can be used, as far as is known without asking the server."""
-        if self._reads is None and not self.closed:  # something came that nobody asked for
+        """Whether it can be used, as far as is known without a query."""
+        if self._reads is None and not self.closed:  # something arrived that no statement waits for
             try:
                 self.pgconn.consume_input()
             except psycopg.Error:
@@ -188,7 +191,7 @@ class AsyncStepLink(psycopg.AsyncConnection[Row]):
         return not self.closed
 
     async def close(self) -> None:
-        """Not within a step."""
+        """Close it. A step must not do so."""
         if self.begun is not None:
             raise errors.ProgrammingError(FORBIDDEN.format("close"))
         await self._shut()
@@ -198,32 +201,34 @@ class AsyncStepLink(psycopg.AsyncConnection[Row]):
         await super().close()
 
     async def leave(self) -> None:
-        """The step is over: what it did not commit is rolled back, what it set is put back."""
+        """End a step: roll back what it did not commit, and restore the settings."""
         self.begun = None
-        with contextlib.suppress(psycopg.Error):  # then the pool lets it go
+        with contextlib.suppress(psycopg.Error):  # then the pool drops it
             for text in _put_back(self):
                 async with self.lock:
                     await self.wait(run_text(self, text, encoding_of(self)))
 
-    def _exec_command(self, command: Any, *words: Any, **more: Any) -> Any:
+    def _exec_command(self, command: Any, *args: Any, **kwargs: Any) -> Any:
         look_at(self, command)
-        return super()._exec_command(command, *words, **more)
+        return super()._exec_command(command, *args, **kwargs)
 
     async def commit(self) -> None:
-        """Not within a step."""
+        """Commit. A step must not do so."""
         if self.begun is not None:
             raise errors.ProgrammingError(FORBIDDEN.format("commit"))
         await super().commit()
 
     async def rollback(self) -> None:
-        """Not within a step."""
+        """Roll back. A step must not do so."""
         if self.begun is not None:
             raise errors.ProgrammingError(FORBIDDEN.format("rollback"))
         await super().rollback()
 
     async def end(self, text: str, then: Callable[[], object]) -> None:
-        """The last statements and the commit, in one text; `then` is called before they are
-        sent. Raises what the server says of the first that it refuses.
+        """Execute the last statements and the commit, in one text.
+
+        `then` is called before they are sent. Raises the server's error of the first that it
+        refuses.
         """
         async with self.lock:
             then()
@@ -233,17 +238,17 @@ class AsyncStepLink(psycopg.AsyncConnection[Row]):
 
 
 class StepCursor(psycopg.Cursor[Row]):
-    """As `AsyncStepCursor`."""
+    """See `AsyncStepCursor`."""
 
-    def execute(self, query: Any, params: Any = None, **more: Any) -> Any:
-        """As psycopg's."""
-        super().execute(query, params, **joined(self.connection, query, params, more))
+    def execute(self, query: Any, params: Any = None, **kwargs: Any) -> Any:
+        """Execute a statement, as psycopg does."""
+        super().execute(query, params, **joined(self.connection, query, params, kwargs))
         note(self)
         return self
 
 
 class StepLink(psycopg.Connection[Row]):
-    """The same for functions in threads."""
+    """For functions in threads. See `AsyncStepLink`."""
 
     begun: bool | None = None
     prepares: Prepares | None = None
@@ -253,13 +258,13 @@ class StepLink(psycopg.Connection[Row]):
     halfway = False
     is_unheard = True
 
-    def __init__(self, *words: Any, **more: Any) -> None:
-        super().__init__(*words, **more)
+    def __init__(self, *args: Any, **kwargs: Any) -> None:
+        super().__init__(*args, **kwargs)
         self.cursor_factory = StepCursor
         self._pool = None
 
     def prepare(self, prepares: Prepares) -> None:
-        """As `AsyncStepLink.prepare`."""
+        """See `AsyncStepLink.prepare`."""
         try:
             with self.lock:
                 self.wait(run_text(self, prepares.text, encoding_of(self)))
@@ -274,54 +279,54 @@ class StepLink(psycopg.Connection[Row]):
             self.close()
             raise
 
-    def wait(self, gen: PQGen[RV], *words: Any, **more: Any) -> RV:
-        """All that psycopg does over a connection goes by here."""
+    def wait(self, gen: PQGen[RV], *args: Any, **kwargs: Any) -> RV:
+        """Run a generator of psycopg. All operations of a connection use this method."""
         if self.begun is False:
-            gen = behind_begin(self, gen)
+            gen = after_begin(self, gen)
         try:
-            return super().wait(gen, *words, **more)
+            return super().wait(gen, *args, **kwargs)
         finally:
             if self.halfway:
                 super().close()
 
     def is_there(self) -> bool:
-        """As `AsyncStepLink.is_there`; nothing tells what came."""
+        """See `AsyncStepLink.is_there`. Nothing reports what arrives."""
         with contextlib.suppress(psycopg.Error):
             self.pgconn.consume_input()
         return not self.closed
 
     def leave(self) -> None:
-        """As `AsyncStepLink.leave`."""
+        """See `AsyncStepLink.leave`."""
         self.begun = None
         with contextlib.suppress(psycopg.Error):
             for text in _put_back(self):
                 with self.lock:
                     self.wait(run_text(self, text, encoding_of(self)))
 
-    def _exec_command(self, command: Any, *words: Any, **more: Any) -> Any:
+    def _exec_command(self, command: Any, *args: Any, **kwargs: Any) -> Any:
         look_at(self, command)
-        return super()._exec_command(command, *words, **more)
+        return super()._exec_command(command, *args, **kwargs)
 
     def close(self) -> None:
-        """Not within a step."""
+        """Close it. A step must not do so."""
         if self.begun is not None:
             raise errors.ProgrammingError(FORBIDDEN.format("close"))
         super().close()
 
     def commit(self) -> None:
-        """Not within a step."""
+        """Commit. A step must not do so."""
         if self.begun is not None:
             raise errors.ProgrammingError(FORBIDDEN.format("commit"))
         super().commit()
 
     def rollback(self) -> None:
-        """Not within a step."""
+        """Roll back. A step must not do so."""
         if self.begun is not None:
             raise errors.ProgrammingError(FORBIDDEN.format("rollback"))
         super().rollback()
 
     def end(self, text: str, then: Callable[[], object]) -> None:
-        """As `AsyncStepLink.end`."""
+        """See `AsyncStepLink.end`."""
         with self.lock:
             then()
             self.spent = True
@@ -332,37 +337,47 @@ class StepLink(psycopg.Connection[Row]):
 To = TypeVar("To", AsyncStepLink, StepLink)
 
 
-def turned(link: AsyncStepLink | StepLink, kind: type[To]) -> To:
-    """A connection that nobody uses, for functions of this kind; the object before is of no use."""
-    if isinstance(link, kind):
-        return link
-    if isinstance(link, AsyncStepLink):
-        link.silence()
-    made = kind(link.pgconn)
-    made._prepared = link._prepared  # what psycopg has prepared over it, by names of its own
-    made.prepares, made.statements = link.prepares, link.statements
+def converted(connection: AsyncStepLink | StepLink, kind: type[To]) -> To:
+    """Return an idle connection as an object for functions of this kind.
+
+    The former object is of no use any more.
+    """
+    if isinstance(connection, kind):
+        return connection
+    if isinstance(connection, AsyncStepLink):
+        connection.silence()
+    made = kind(connection.pgconn)
+    made._prepared = connection._prepared  # the statements that psycopg prepared
+    made.prepares, made.statements = connection.prepares, connection.statements
     return made
 
 
-def is_prepared(link: AsyncStepLink | StepLink) -> bool:
-    """Whether the statements of the transaction's end are."""
-    return link.statements is Statements.KEPT and link.prepares is not None and link.prepares.works
+def is_prepared(connection: AsyncStepLink | StepLink) -> bool:
+    """Whether the statements of the transaction's end are prepared."""
+    return (
+        connection.statements is Statements.KEPT
+        and connection.prepares is not None
+        and connection.prepares.works
+    )
 
 
-def is_as_made(link: AsyncStepLink | StepLink) -> bool:
-    """Whether nothing that a step did to it is to be put back."""
-    return not link.is_set and link.statements in (Statements.KEPT, Statements.NONE)
+def is_as_made(connection: AsyncStepLink | StepLink) -> bool:
+    """Whether a step left nothing on it that must be restored."""
+    return not connection.is_set and connection.statements in (Statements.KEPT, Statements.NONE)
 
 
-def _put_back(link: AsyncStepLink | StepLink) -> Iterator[str]:
-    """The statements that make a connection as it was; each is done before the next is asked for.
+def _put_back(connection: AsyncStepLink | StepLink) -> Iterator[str]:
+    """Return the statements that restore a connection.
 
-    The rollback is not psycopg's, which lets all go that is prepared."""
-    if link.pgconn.transaction_status in OPEN:
+    Each is executed before the next is requested.
+
+    The rollback is not that of psycopg, which deallocates all prepared statements.
+    """
+    if connection.pgconn.transaction_status in OPEN:
         yield "ROLLBACK"
-    if link.is_set and not link.closed:
+    if connection.is_set and not connection.closed:
         yield AS_MADE
-        link.is_set = False
-    if link.statements is Statements.LET_GO and link.prepares and not link.closed:
-        yield link.prepares.text
-        link.statements = Statements.KEPT
+        connection.is_set = False
+    if connection.statements is Statements.LET_GO and connection.prepares and not connection.closed:
+        yield connection.prepares.text
+        connection.statements = Statements.KEPT

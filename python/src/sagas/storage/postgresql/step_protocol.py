@@ -20,10 +20,11 @@ if TYPE_CHECKING:
 
 RV = TypeVar("RV")
 AS_MADE = "RESET ALL; RESET ROLE; RESET SESSION AUTHORIZATION"
-"""What a step set on its connection is not the next one's."""
+"""Resets a connection: the settings of a step must not affect the next one."""
 MAY_SET = re.compile(r"set_config|;\s*\S", re.IGNORECASE)
-"""In a statement: it may set something although the server has another word for it, as for the
-first of several statements in one text.
+"""Matches a statement that may change a setting, although the server reports another command.
+
+For example, the server reports only the first of several statements in one text.
 """
 FORBIDDEN = "Explicit {}() forbidden: the transaction is the step's, and ends with it"
 ENDED = (
@@ -36,15 +37,18 @@ BROKE = (
 )
 OPEN = (pq.TransactionStatus.INTRANS, pq.TransactionStatus.INERROR)
 JOINS = pq.version() >= 140000
-"""Whether libpq can send one statement behind another, without waiting."""
+"""Whether libpq can send one statement after another, without waiting."""
 LET_GO = "DEALLOCATE ALL"
-"""A statement, and the word that the server has for it; psycopg sends it behind a rollback."""
+"""A statement, and the server's report of it; psycopg sends it after a rollback."""
 FIRST_PAUSE, MOST_PAUSE = 1.0, 600.0
-"""Seconds without what is prepared, once a server did not know it: at first, and at most."""
+"""Seconds without prepared statements, once a server did not know them.
+
+The values are the first pause, and the longest.
+"""
 
 
 class Prepares:
-    """What is prepared over each connection, for the transaction's end."""
+    """The statements that are prepared on each connection, for the transaction's end."""
 
     def __init__(self, text: str) -> None:
         self.text = text
@@ -53,93 +57,98 @@ class Prepares:
 
     @property
     def works(self) -> bool:
-        """Whether it is used, as far as is known: not for a while once a server did not know it."""
+        """Whether to use them. They are not used for a while after a server did not know them."""
         return not self.until or time.monotonic() >= self.until
 
     def refused(self) -> None:
-        """A server did not know it: a function let it go, or a pooler changed the session."""
+        """Note that a server did not know them.
+
+        A function deallocated them, or a pooler changed the session.
+        """
         self.until = time.monotonic() + self._pause
         self._pause = min(MOST_PAUSE, 2 * self._pause)
 
 
 class Statements(enum.Enum):
-    """What became of that over a connection."""
+    """The state of the prepared statements on a connection."""
 
     NONE = "none"
-    """It was not prepared."""
+    """They were not prepared."""
     KEPT = "kept"
     LET_GO = "let go"
-    """psycopg let all go, and knows of it: it is prepared anew."""
+    """psycopg deallocated all statements, and knows it: they are prepared again."""
     LOST = "lost"
-    """A statement of the function's did, and psycopg does not know it: no step has it again."""
+    """A statement of the function deallocated them, and psycopg does not know it.
+
+    No other step gets the connection.
+    """
 
 
-def look_at(link: AsyncStepLink | StepLink, command: object) -> None:
-    """psycopg is about to send this, of its own accord."""
-    if command == LET_GO.encode() and link.statements is Statements.KEPT:
-        link.statements = Statements.LET_GO
+def look_at(connection: AsyncStepLink | StepLink, command: object) -> None:
+    """Note a command that psycopg is about to send by itself."""
+    if command == LET_GO.encode() and connection.statements is Statements.KEPT:
+        connection.statements = Statements.LET_GO
 
 
-def check_whole(link: AsyncStepLink | StepLink) -> None:
-    """Whether the transaction is there to be ended; nothing of its end was sent. Raises what
-    psycopg raises where the connection broke, as while the function did something else, or where
-    the function ended the transaction.
+def check_whole(connection: AsyncStepLink | StepLink) -> None:
+    """Check that the transaction can be ended; nothing of its end was sent.
+
+    Raises psycopg's error if the connection broke, for example while the function did something
+    else, or if the function ended the transaction.
     """
     try:
-        for _ in range(
-            2 if link.is_unheard else 0
-        ):  # what the server said last, and that it is gone
-            if not link.closed:
-                link.pgconn.consume_input()
+        # the server's last bytes, and the end of the connection
+        for _ in range(2 if connection.is_unheard else 0):
+            if not connection.closed:
+                connection.pgconn.consume_input()
     except psycopg.Error as error:
         raise errors.OperationalError(BROKE.format(error)) from error
-    if link.closed:
+    if connection.closed:
         raise errors.OperationalError(BROKE.format("it is closed"))
-    if link.spent or link.pgconn.transaction_status == pq.TransactionStatus.IDLE:
+    if connection.spent or connection.pgconn.transaction_status == pq.TransactionStatus.IDLE:
         raise errors.ProgrammingError(ENDED)
 
 
 def note(cursor: Any) -> None:
-    """What a statement of the function's did to its connection, by the word that the server has
-    for it.
-    """
-    said = cursor.pgresult.command_status if cursor.pgresult else None
-    if said == b"SET":
+    """Note the effect of a function's statement on its connection, by the server's report."""
+    status = cursor.pgresult.command_status if cursor.pgresult else None
+    if status == b"SET":
         cursor.connection.is_set = True
-    elif said == LET_GO.encode():
+    elif status == LET_GO.encode():
         cursor.connection.statements = Statements.LOST
-    elif said == b"COMMIT":
+    elif status == b"COMMIT":
         cursor.connection.spent = True
         raise errors.ProgrammingError(ENDED)
 
 
-def joined(link: Any, query: Any, params: Any, more: dict[str, Any]) -> dict[str, Any]:
-    """The words for psycopg. Where it is the first of a transaction, and goes to the server as
-    one statement with words, it is not prepared, so that it takes one trip and can go with the
-    begin.
+def joined(connection: Any, query: Any, params: Any, more: dict[str, Any]) -> dict[str, Any]:
+    """Return the arguments for psycopg.
+
+    The first statement of a transaction is not prepared if it is one statement with parameters. So
+    it takes one round trip, and can be sent together with BEGIN.
     """
     if MAY_SET.search(query if isinstance(query, str) else str(query)):
-        link.is_set = True
+        connection.is_set = True
     if (
-        link.begun is False
+        connection.begun is False
         and JOINS
         and params
         and more.get("prepare") is None
         and isinstance(query, str)
     ):
-        has_words = (
+        has_parameters = (
             "%(" in query.replace("%%", "")
             if isinstance(params, Mapping)
             else isinstance(params, (tuple, list))
         )
-        if has_words:
-            link.joins = threading.get_ident()
+        if has_parameters:
+            connection.joins = threading.get_ident()
             return more | {"prepare": False}
     return more
 
 
-def go_on(gen: PQGen[RV], state: Any) -> PQGen[RV]:
-    """A generator that has said already what it waits for."""
+def continue_generator(gen: PQGen[RV], state: Any) -> PQGen[RV]:
+    """Continue a generator that has already returned what it waits for."""
     while True:
         ready = yield state
         try:
@@ -153,86 +162,91 @@ def raising(error: BaseException) -> PQGen[None]:
     yield
 
 
-def encoding_of(link: Any) -> str:
-    """As psycopg writes texts: PostgreSQL's SQL_ASCII takes whatever it is given."""
-    encoding: str = link.info.encoding
+def encoding_of(connection: Any) -> str:
+    """Return the encoding in which psycopg writes texts.
+
+    PostgreSQL's SQL_ASCII accepts any bytes.
+    """
+    encoding: str = connection.info.encoding
     return "utf-8" if encoding == "ascii" else encoding
 
 
-def run_text(link: Any, text: str, encoding: str) -> PQGen[None]:
-    """Statements in one text. Raises what the server says of the first that fails."""
-    link.pgconn.send_query(text.encode(encoding))
-    yield from generators.send(link.pgconn)
-    raise_first(link, (yield from fetched(link.pgconn)))
+def run_text(connection: Any, text: str, encoding: str) -> PQGen[None]:
+    """Execute statements in one text. Raises the server's error of the first that fails."""
+    connection.pgconn.send_query(text.encode(encoding))
+    yield from generators.send(connection.pgconn)
+    raise_first(connection, (yield from fetched(connection.pgconn)))
 
 
 def fetched(pgconn: Any) -> PQGen[list[Any]]:
-    """What the server says of what was sent last: as `generators.fetch_many`, which asks twice
-    as much of libpq.
+    """Return the results of the last statements.
+
+    It is as `generators.fetch_many`, which calls libpq twice as often.
     """
-    found: list[Any] = []
+    results: list[Any] = []
     while True:
         while pgconn.is_busy():
             yield waiting.WAIT_R
             pgconn.consume_input()
         result = pgconn.get_result()
         if result is None:
-            return found
-        found.append(result)
+            return results
+        results.append(result)
         if result.status == pq.ExecStatus.PIPELINE_SYNC:  # nothing follows it
-            return found
+            return results
 
 
-def raise_first(link: Any, results: Sequence[Any]) -> None:
+def raise_first(connection: Any, results: Sequence[Any]) -> None:
     for result in results:
         if result.status == pq.ExecStatus.FATAL_ERROR:
-            raise errors.error_from_result(result, encoding=encoding_of(link))
+            raise errors.error_from_result(result, encoding=encoding_of(connection))
 
 
-def behind_begin(link: Any, gen: PQGen[RV]) -> PQGen[RV]:
-    """The first thing that a function does over it, in a transaction."""
-    joins, link.joins, link.begun = link.joins == threading.get_ident(), 0, True
-    if joins and link.pgconn.transaction_status == pq.TransactionStatus.IDLE:
-        return (yield from with_begin(link, gen))
-    yield from run_text(link, "BEGIN", encoding_of(link))
+def after_begin(connection: Any, gen: PQGen[RV]) -> PQGen[RV]:
+    """Execute the function's first operation, in a transaction."""
+    joins, connection.joins, connection.begun = connection.joins == threading.get_ident(), 0, True
+    if joins and connection.pgconn.transaction_status == pq.TransactionStatus.IDLE:
+        return (yield from with_begin(connection, gen))
+    yield from run_text(connection, "BEGIN", encoding_of(connection))
     return (yield from gen)
 
 
-def with_begin(link: Any, gen: PQGen[RV]) -> PQGen[RV]:
-    """The begin and one statement, sent at once: where the begin is refused, the server does
-    nothing of what is behind it.
+def with_begin(connection: Any, gen: PQGen[RV]) -> PQGen[RV]:
+    """Send BEGIN and one statement at once.
+
+    If BEGIN is refused, the server does not execute the statement.
     """
-    pgconn, fault, value = link.pgconn, None, None
-    link.halfway = True
+    pgconn, failure, value = connection.pgconn, None, None
+    connection.halfway = True
     pgconn.enter_pipeline_mode()
     pgconn.send_query_params(b"BEGIN", None)
     try:
-        next(gen)  # it is on its way
+        next(gen)  # the statement is sent
     except Exception as error:  # psycopg refused it
-        fault = error
+        failure = error
     pgconn.pipeline_sync()
     yield from generators.send(pgconn)
     begun = yield from fetched(pgconn)
     try:
-        if fault is None:
+        if failure is None:
             value = yield from resume(gen)
     except Exception as error:
-        if pgconn.status == pq.ConnStatus.BAD:  # nothing more comes
+        if pgconn.status == pq.ConnStatus.BAD:  # the server sends nothing more
             raise
-        fault = error
-    yield from fetched(pgconn)  # where both end
+        failure = error
+    yield from fetched(pgconn)  # the end of both
     pgconn.exit_pipeline_mode()
-    link.halfway = False
-    raise_first(link, begun)
-    if fault is not None:
-        raise fault
+    connection.halfway = False
+    raise_first(connection, begun)
+    if failure is not None:
+        raise failure
     return value  # type: ignore[return-value]
 
 
 def resume(gen: PQGen[RV]) -> PQGen[RV]:
-    """A generator that waits for an answer, which may be there."""
+    """Continue a generator that waits for a reply, which may have arrived."""
     try:
         state = gen.send(waiting.READY_R)
     except StopIteration as end:
         return end.value  # type: ignore[no-any-return]
-    return (yield from go_on(gen, state))
+    return (yield from continue_generator(gen, state))

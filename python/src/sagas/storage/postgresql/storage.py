@@ -15,7 +15,14 @@ from sagas.definition.serialization import cleaned
 from sagas.definition.step import Bounds
 from sagas.storage import queries
 from sagas.storage.external import ExternalAttempts
-from sagas.storage.interface import Drives, MakesTransactions, Peers, StepCaller, Then, Watcher
+from sagas.storage.interface import (
+    FunctionCheck,
+    MakesTransactions,
+    Peers,
+    StepCaller,
+    CommitCallback,
+    Watcher,
+)
 from sagas.storage.postgresql import (
     connections,
     external_attempts,
@@ -28,13 +35,13 @@ from sagas.storage.postgresql.commit_statement import Commit
 from sagas.storage.postgresql.continuity import Continuity
 from sagas.storage.postgresql.external_attempts import PostgreSQLExternalAttempts
 from sagas.storage.postgresql.key_finder import KeyFinder
-from sagas.storage.postgresql.limit_slots import TIDY, Places
+from sagas.storage.postgresql.limit_slots import TIDY, LimitSlots
 from sagas.storage.postgresql.lookups import Lookups
 from sagas.storage.postgresql.missing_tables import MissingTables
-from sagas.storage.postgresql.node_lease import UNDRIVEN, Lease, said_of
+from sagas.storage.postgresql.node_lease import UNDRIVEN, Lease, describe_undriven
 from sagas.storage.postgresql.peer_calls import PostgreSQLPeers
 from sagas.storage.postgresql.reader import Reader
-from sagas.storage.postgresql.shard_loader import Loads
+from sagas.storage.postgresql.shard_loader import ShardLoader
 from sagas.storage.postgresql.shard_numbers import ShardNumbers
 from sagas.storage.postgresql.writer import Writer
 from sagas.storage.record_file import RecordFile
@@ -43,8 +50,11 @@ TEXT = "SELECT coalesce(string_agg(text, '' ORDER BY first_seq), '') FROM event_
 
 
 class PostgreSQL(queries.Questions):
-    """One node's part of the store. A connection writes, a pool asks, one looks for keys, one
-    listens, and one answers questions: a slow one holds up no lease, and no saga."""
+    """One node's part of the store.
+
+    One connection writes, a pool executes short statements, one connection looks up keys, one
+    listens, and one answers questions. So a slow question delays no lease and no saga.
+    """
 
     shared = True
     blobs = None
@@ -58,30 +68,52 @@ class PostgreSQL(queries.Questions):
         sagas: Sequence[str] = (),
         kinds: Sequence[str] = (),
         version: str = "",
-        most: int = 16,
+        max_connections: int = 16,
         transactions: MakesTransactions | None = None,
         record: str | None = None,
         encodes: bool = False,
     ) -> None:
-        """`sagas`: the starts that it takes, each as saga/version, which is of those without a
-        digest, or as saga/version/digest; `kinds`: its definitions, in the latter form.
-        `transactions` gives what calls functions in transactions; `record`: a file; `encodes`:
-        whether there is a codec."""
+        """Create the node's part. It is not open yet.
+
+        Args:
+            url: The URL of the database.
+            node: The name of the node (default: the host's name and the process id).
+            lease: Seconds of the node's lease.
+            sagas: The starts that it takes: saga/version for starts without a digest, or
+                saga/version/digest.
+            kinds: Its definitions, as saga/version/digest.
+            version: The version of its set of definitions.
+            max_connections: Maximum number of connections for transactional steps.
+            transactions: Makes what calls functions in transactions.
+            record: The file of the record, if there is one.
+            encodes: Whether there is a codec.
+        """
         self.url = url = connections.hosts_of(url)
         self.asker = connections.Asker(url, connections.named(url), 2)
         self.lease = Lease(self.asker, node, lease, version, kinds, encodes)
         self._sagas = list(sagas)
         self.external: ExternalAttempts = PostgreSQLExternalAttempts(url, self.asker)
-        told = RecordFile.of(record, self.lease.node)
-        self._loads = Loads(self.asker, self.lease.node, self._spawn, told)
-        self._line = ""
+        record_file = RecordFile.of(record, self.lease.node)
+        self._loader = ShardLoader(self.asker, self.lease.node, self._spawn, record_file)
+        self._timeline = ""
         self._writer = Writer(
-            url, self.path, self.lease.node, self._check_server, self._kept, self._let_go, told
+            url,
+            self.path,
+            self.lease.node,
+            self._check_server,
+            self._kept,
+            self._close_idle,
+            record_file,
         )
         self._writer.late = self._look_at_hosts
         self._transactions = (
             transactions(
-                url, self.path, self.lease.node, lambda: self._line, self._writer.tails.get, most
+                url,
+                self.path,
+                self.lease.node,
+                lambda: self._timeline,
+                self._writer.tails.get,
+                max_connections,
             )
             if transactions
             else None
@@ -103,7 +135,7 @@ class PostgreSQL(queries.Questions):
     @property
     def path(self) -> str:
         """The URL for messages."""
-        return self.asker.where
+        return self.asker.store_name
 
     @property
     def file(self) -> str:
@@ -112,7 +144,7 @@ class PostgreSQL(queries.Questions):
 
     @property
     def record(self) -> RecordFile | None:
-        """Its record."""
+        """The record of this node, if it has one."""
         return self._writer.record
 
     @property
@@ -120,62 +152,66 @@ class PostgreSQL(queries.Questions):
         """What calls functions in transactions."""
         return self._transactions
 
-    def _let_go(self) -> None:
-        """Ends the connections of steps that rest."""
+    def _close_idle(self) -> None:
+        """Close the idle connections of steps."""
         if self._transactions:
-            self._transactions.let_go()
+            self._transactions.close_idle()
 
     # -- opening and closing
 
-    async def open(self, drives: Drives) -> list[LogRow]:
-        """Migrates the tables where they are older; gives the logs that nobody has, as far as
-        this program drives them. Keeps the lease from now on."""
-        self._drives = drives
+    async def open(self, check_functions: FunctionCheck) -> list[LogRow]:
+        """Migrate older tables, and return the shards that this node takes over.
+
+        It keeps the lease from now on.
+        """
+        self._check_functions = check_functions
         if self.record:
             self.record.open()
         await asyncio.to_thread(self._migrate)
         await self.asker.open()
-        await self._keys.open()  # at once: later there may be no connection for it
+        await self._keys.open()  # now: later the server may have no connection left
         await self._questions.open()
-        self._line = await self.lease.begin()
+        self._timeline = await self.lease.begin()
         self._spawn(self._keep())
         if self.record:
-            self.record.moved(self._line)
+            self.record.moved(self._timeline)
         rows: list[LogRow] = []
-        while (taken := await self.lease.take(drives, [row.log for row in rows])) is not None:
+        while (
+            taken := await self.lease.take(check_functions, [row.log for row in rows])
+        ) is not None:
             rows += taken
         await self._numbers.fill()
         await self.asker.ask(TIDY)
         return rows
 
     async def secret(self) -> bytes:
-        """As `Database.secret`."""
+        """See `Database.secret`."""
         return await self.lease.secret()
 
     def _migrate(self) -> None:
-        with connections.faults(self.path):
-            link = connections.connect_now(self.url)
-            with contextlib.closing(link):
-                schema.migrate(link, self.path)
+        with connections.translate_errors(self.path):
+            connection = connections.connect_now(self.url)
+            with contextlib.closing(connection):
+                schema.migrate(connection, self.path)
 
     def peers(self) -> Peers:
-        """What this node and the others ask of each other."""
+        """Return the calls between this node and the others."""
         return PostgreSQLPeers(self)
 
     def watch(self, watcher: Watcher) -> None:
-        """Listens, and takes over."""
+        """Listen to notifications, and take over shards."""
         self._watcher = watcher
         channels = notifications.CHANNEL, external_attempts.CHANNEL
-        self._announcer = Announcer(notifications.News(self.url, self._heard, channels))
+        self._announcer = Announcer(notifications.Notifications(self.url, self._heard, channels))
         self._turn.set()
 
     async def close(self) -> None:
-        """Hands over what this node has."""
+        """Release all that this node has, and close."""
         self._closing = True
         if self._announcer:
             self._announcer.stop()
         self._turn.set()
-        if self._jobs:  # what is under way ends by itself, or the server does not answer
+        if self._jobs:  # jobs end by themselves, unless the server does not answer
             _, late = await asyncio.wait(list(self._jobs), timeout=connections.CONNECT)
             for job in late:
                 job.cancel()
@@ -194,19 +230,19 @@ class PostgreSQL(queries.Questions):
         self._keys.close()
         if self.record:
             self.record.close()
-        if self._jobs:  # who looked for a key hears that it is closed
+        if self._jobs:  # callers of lookups get the error that the store is closed
             await asyncio.wait(list(self._jobs))
 
-    def _heard(self, what: str) -> None:
+    def _heard(self, command: str) -> None:
         assert self._watcher
-        if what in ("reported", ""):
+        if command in ("reported", ""):
             self._watcher.reported()
-        if what in ("tasks", ""):
+        if command in ("tasks", ""):
             self._watcher.offered()
-        if what not in ("places", "reported", "tasks"):
+        if command not in ("places", "reported", "tasks"):
             self._turn.set()
-        if what in ("places", ""):
-            self._watcher.vacant()
+        if command in ("places", ""):
+            self._watcher.slots_freed()
 
     def _spawn(self, work: Any) -> None:
         job = asyncio.get_running_loop().create_task(work)
@@ -219,91 +255,106 @@ class PostgreSQL(queries.Questions):
             logger.error("%s: %r", self.path, job.exception(), exc_info=job.exception())
 
     async def _keep(self) -> None:
-        """Says that this node lives, and looks for what nobody has: each second, and when there
-        is word of it."""
+        """Renew the lease, and look for shards without a node.
+
+        It does so each second, and after each notification.
+        """
         tables = MissingTables(self.url, self.path)
-        tables.seen(self._line)
+        tables.seen(self._timeline)
         while not self._closing:
             self._turn.clear()
             try:
-                await self._beat()
+                await self._heartbeat()
             except StoreUnavailable as error:
                 if await tables.make(error):
                     continue
                 if tables.refusal and self._watcher:
                     self._watcher.refused(tables.refusal)
             else:
-                tables.seen(self._line)
+                tables.seen(self._timeline)
             with contextlib.suppress(TimeoutError):
                 async with asyncio.timeout(0 if self._closing else self.lease.pause):
                     await self._turn.wait()
 
-    async def _beat(self) -> None:
-        if self._watcher is None:  # it opens, which may take longer than a lease
+    async def _heartbeat(self) -> None:
+        if self._watcher is None:  # the node is opening, which may take longer than a lease
             await self.lease.renew()
             return
-        lapsed, orphans, asks, line = await self.lease.beat(self._watcher.logs())
-        self._check_age(line)
-        if not self._is_known(line):
+        has_expired, has_orphans, has_requests, timeline = await self.lease.beat(
+            self._watcher.logs()
+        )
+        self._check_age(timeline)
+        if not self._is_known(timeline):
             self._writer.cut()
-        elif lapsed:
-            self._watcher.lapsed()
-        if orphans and not self._closing:
-            rows = await self.lease.take(self._drives, self._watcher.logs())
-            if rows is not None:  # the next lot comes behind a beat
+        elif has_expired:
+            self._watcher.lease_expired()
+        if has_orphans and not self._closing:
+            rows = await self.lease.take(self._check_functions, self._watcher.logs())
+            if rows is not None:  # the next heartbeat takes the next batch
                 for row in rows:
                     self._writer.forget(row.log)
                 self._watcher.taken(rows)
                 self._turn.set()
-        if asks:
+        if has_requests:
             self._watcher.look()
-        if logs := self.lease.undriven():
-            self._spawn(self._warn(logs))
+        if shards := self.lease.undriven():
+            self._spawn(self._warn(shards))
         self._spawn(self._continuity.look())
         await self._numbers.fill()
 
-    async def _warn(self, logs: list[int]) -> None:
-        """Tells that no node drives these. Not as a part of a beat, which waits for no table."""
+    async def _warn(self, shards: list[int]) -> None:
+        """Log that no node drives these shards.
+
+        It is not a part of a heartbeat, which waits for no table.
+        """
         try:
-            rows = await self._questions.read(UNDRIVEN, logs=logs)
+            rows = await self._questions.read(UNDRIVEN, shards=shards)
         except StoreUnavailable:
-            self.lease.untold(logs)
+            self.lease.unreport(shards)
             return
         if rows:
-            logger.warning("%s", said_of(self.path, logs, rows))
+            logger.warning("%s", describe_undriven(self.path, shards, rows))
 
     def _look_at_hosts(self) -> None:
-        """A statement took too long: a server that was replaced may be waiting for its standby."""
+        """Look for another primary, because a statement took too long.
+
+        A server that was replaced may be waiting for its standby.
+        """
         if self.url.are_several and not self._closing:
             self._spawn(self._choose_host())
 
     async def _choose_host(self) -> None:
-        line = await self.url.choose(connections.address(self.url))
-        if line is not None and line > self._line and not self._closing:
-            self._is_known(line, cuts=True)
+        timeline = await self.url.choose(connections.address(self.url))
+        if timeline is not None and timeline > self._timeline and not self._closing:
+            self._is_known(timeline, cuts=True)
             self._writer.cut()
-            if self._announcer:  # the server before would tell nothing more
-                self._announcer.news.listener.cut()
+            if self._announcer:  # the former server would send nothing more
+                self._announcer.notifications.listener.cut()
 
-    def _check_age(self, line: str) -> None:
-        """Raises `StoreUnavailable` at a server that was replaced, where the URL has another."""
-        if self.url.are_several and line < self._line:
+    def _check_age(self, timeline: str) -> None:
+        """Check that the server was not replaced by another one of the URL.
+
+        Raises `StoreUnavailable` otherwise.
+        """
+        if self.url.are_several and timeline < self._timeline:
             raise StoreUnavailable(
-                f"{self.path}: a server of timeline {line} answers, which one of timeline "
-                f"{self._line} has replaced. Stop the former; or start this node again, if the "
+                f"{self.path}: a server of timeline {timeline} answers, which one of timeline "
+                f"{self._timeline} has replaced. Stop the former; or start this node again, if the "
                 "store was restored there"
             )
 
-    def _is_known(self, line: str, cuts: bool = False) -> bool:
-        """Whether this is the server that was there before. Another one may lack commits: then
-        each log is taken up again before anything is written. `cuts`: what the server before is
-        asked has no answer any more."""
-        if line == self._line:
+    def _is_known(self, timeline: str, cuts: bool = False) -> bool:
+        """Whether this is the same server as before.
+
+        Another one may lack commits. Then each shard is loaded again before anything is written.
+        `cuts`: queries to the former server will have no reply.
+        """
+        if timeline == self._timeline:
             return True
         logger.warning("%s: another server has taken over. Opening its shards again", self.path)
-        self._line = line
+        self._timeline = timeline
         if self.record:
-            self.record.moved(line)
+            self.record.moved(timeline)
         self._begin_again(cuts)
         return False
 
@@ -311,173 +362,188 @@ class PostgreSQL(queries.Questions):
         return {*self._watcher.logs()} if self._watcher else set()
 
     def _begin_again(self, cuts: bool = False) -> None:
-        """The database may lack commits: nothing that was decided before is written, and each log
-        is taken up again. `cuts`: questions that were asked have no answer any more."""
+        """Load each shard again, since the database may lack commits.
+
+        Nothing that was decided before is written. `cuts`: queries under way will have no reply.
+        """
         self._writer.events.clear()
         self._keys.cut()
-        self._let_go()
+        self._close_idle()
         self._spawn(self.asker.renew(cuts))
         self._spawn(self._questions.renew(cuts))
         if self._watcher:
-            self._watcher.lapsed(is_older=True)
+            self._watcher.lease_expired(is_older=True)
 
-    def _check_line(self, line: str) -> None:
-        if line != self._line:
+    def _check_line(self, timeline: str) -> None:
+        if timeline != self._timeline:
             raise StoreUnavailable(f"{self.path}: another server has taken over")
 
     # -- writing
 
-    def new_log(self) -> int:
-        """The number of a log that is to be born. Raises `StoreUnavailable` where none is at
-        hand.
+    def new_shard(self) -> int:
+        """Return the number of a shard that is about to be created.
+
+        Raises `StoreUnavailable` if the reserve of numbers is empty.
         """
         return self._numbers.take()
 
     def holds(self) -> bool:
-        """Whether the lease holds as far as this node knows."""
+        """Whether the lease holds, as far as this node knows."""
         return self.lease.holds()
 
     async def admit(self, name: str, bounds: Bounds, want: int, have: Sequence[int]) -> Grant:
-        """Places of a step, over all nodes."""
-        places = Places(self.asker, self.lease.node, self._say)
+        """Take slots of a step, over all nodes."""
+        places = LimitSlots(self.asker, self.lease.node, self._say)
         return await places.take(name, bounds, want, have, self.lease.pause)
 
     @property
-    def line(self) -> str:
+    def timeline(self) -> str:
         """The server's timeline, as far as this node knows."""
-        return self._line
+        return self._timeline
 
     @property
-    def takes(self) -> float:
-        """How long a commit takes."""
-        return self._writer.takes
+    def commit_seconds(self) -> float:
+        """Seconds that a recent commit took."""
+        return self._writer.commit_seconds
 
     @property
     def commits(self) -> int:
-        """How many transactions were written."""
+        """The number of transactions that were written."""
         return self._writer.commits
 
-    def commit(self, batches: Sequence[Batch], then: Then, now: bool) -> None:
-        """One statement for all; `then` is called in the loop. What others are to hear goes
-        behind it: the server is at work anyway.
+    def commit(self, batches: Sequence[Batch], then: CommitCallback, now: bool) -> None:
+        """Write all batches in one statement, and call `then` in the loop.
+
+        Pending notifications are sent after it: the server is at work anyway.
         """
         self._writer.commit(batches, then)
         if self._announcer:
             self._announcer.hurry()
 
-    def settle(self) -> None:
-        """Nothing: `then` is called as soon as the server's answer is there."""
+    def finish_commit(self) -> None:
+        """Do nothing: `then` is called as soon as the server's reply arrives."""
 
-    async def _check_server(self, link: connections.Link) -> None:
-        line = await connections.line_of(link)
-        self._check_age(line)
-        if not self._is_known(line):
-            why = "another server has taken over, and its data is read first"
-            raise StoreUnavailable(f"{self.path}: {why}")
+    async def _check_server(self, connection: connections.Link) -> None:
+        timeline = await connections.timeline_of(connection)
+        self._check_age(timeline)
+        if not self._is_known(timeline):
+            reason = "another server has taken over, and its data is read first"
+            raise StoreUnavailable(f"{self.path}: {reason}")
 
-    def _say(self, words: list[str]) -> None:
-        """Tells the other nodes, behind what is in the store by now."""
+    def _say(self, parameters: list[str]) -> None:
+        """Notify the other nodes, after what the store has by now."""
         if self._announcer:
-            self._announcer.say(words)
+            self._announcer.say(parameters)
 
     def _kept(self, commit: Commit) -> None:
-        """A commit is in the store: the others hear of it."""
+        """Notify the other nodes of a commit that the store has."""
         if self._announcer:
             self._announcer.kept(commit)
 
     # -- reading, for the coordinator
 
     @property
-    def sought(self) -> int:
-        """How many keys are looked for."""
-        return self._keys.sought
+    def pending_lookups(self) -> int:
+        """The number of keys that are being looked up."""
+        return self._keys.pending_lookups
 
     async def find(self, key: str) -> SagaRow | None:
-        """As `KeyFinder.find`."""
+        """See `KeyFinder.find`."""
         return await self._keys.find(key)
 
-    async def load(self, log: int, epoch: int, born: Born | None) -> Loaded | None:
-        """A log as a pump takes it up, under a new epoch, which fences what was on its way. None
-        where it is another node's, or is not there."""
-        line = self._line
-        loaded = await self._loads.load(log, epoch, born)
-        self._check_line(loaded.line if loaded else line)  # it may come over a connection of before
-        await self._continuity.compare(log, loaded.events if loaded else None)
+    async def load(self, shard: int, epoch: int, born: Born | None) -> Loaded | None:
+        """Load a shard under a new epoch, which fences commits under way.
+
+        Return None if another node owns it, or it is gone.
+        """
+        timeline = self._timeline
+        loaded = await self._loader.load(shard, epoch, born)
+        self._check_line(
+            loaded.line if loaded else timeline
+        )  # its connection may be to a former server
+        await self._continuity.compare(shard, loaded.events if loaded else None)
         if loaded:
-            self._writer.reached(log, loaded.events, loaded.tail)
+            self._writer.reached(shard, loaded.events, loaded.tail)
         return loaded
 
-    def forget(self, log: int) -> None:
-        """As `Database.forget`."""
-        self._writer.forget(log)
+    def forget(self, shard: int) -> None:
+        """See `Database.forget`."""
+        self._writer.forget(shard)
 
-    async def spare(self, log: int) -> bool:
-        """Gives a log back for another node to take, where one has come since that was tried."""
-        return await self.lease.spare(log)
+    async def spare(self, shard: int) -> bool:
+        """Release a shard for another node, if one has come since the last try."""
+        return await self.lease.spare(shard)
 
-    async def take_up(self, log: int, epoch: int) -> tuple[str, int] | None:
-        """A log's lines and how many events they are; None where it is not this node's any more."""
-        line = self._line
-        read = await self._loads.take_up(log, epoch, line)
-        if read is None:
+    async def take_up(self, shard: int, epoch: int) -> tuple[str, int] | None:
+        """Return a shard's event log and its number of events.
+
+        Return None if this node does not own it any more.
+        """
+        timeline = self._timeline
+        event_log = await self._loader.take_up(shard, epoch, timeline)
+        if event_log is None:
             return None
-        self._check_line(line)
-        if self._continuity.lacks(log, read.events) or queries.damage_of(read.text, read.events):
-            return None  # that is looked at as after a failure
-        self._writer.reached(log, read.events, read.tail)
-        return read.text, read.events
+        self._check_line(timeline)
+        if self._continuity.lacks(shard, event_log.events) or queries.damage_of(
+            event_log.text, event_log.events
+        ):
+            return None  # the shard is loaded as after a failure
+        self._writer.reached(shard, event_log.events, event_log.tail)
+        return event_log.text, event_log.events
 
-    async def requests(self, after: int, most: int) -> list[Request]:
-        """What was asked of the sagas of this node's logs."""
-        return await saga_requests.asked_of(self.asker, self.lease.node, after, most)
+    async def requests(self, after: int, limit: int) -> list[Request]:
+        """Return unanswered requests of this node's shards."""
+        return await saga_requests.pending_requests(self.asker, self.lease.node, after, limit)
 
     async def starts(
-        self, most: int, under_way: Sequence[int] | None, left: Sequence[int] = ()
+        self, limit: int, under_way: Sequence[int] | None, left: Sequence[int] = ()
     ) -> list[Start]:
-        """Sagas that clients started, and that are this node's to open."""
+        """Return sagas that clients started, for this node to open."""
         node, sagas = self.lease.node, self._sagas
-        return await saga_requests.take_starts(self.asker, node, sagas, most, under_way, left)
+        return await saga_requests.take_starts(self.asker, node, sagas, limit, under_way, left)
 
-    async def give_back(self, start: int, why: str | None) -> None:
-        """Give back a start that this node took."""
-        await saga_requests.give_back(self.asker, self.lease.node, start, why)
+    async def give_back(self, start: int, reason: str | None) -> None:
+        """Release a start that this node took."""
+        await saga_requests.give_back(self.asker, self.lease.node, start, reason)
 
-    async def ask(self, row: SagaRow, what: str, value: str, payloads: Payloads) -> Any:
-        """Leaves a request for the node that has the saga, and waits for its answer."""
+    async def ask(self, row: SagaRow, command: str, value: str, payloads: Payloads) -> Any:
+        """Add a request for the node that owns the saga, and return its answer."""
         assert self._announcer
-        return await saga_requests.ask(self.asker, self._announcer.news, row, what, value, payloads)
+        return await saga_requests.ask(
+            self.asker, self._announcer.notifications, row, command, value, payloads
+        )
 
     async def replicated(self) -> None:
-        """Waits until the synchronous standbys have what was read."""
+        """Return once the synchronous standbys have what was read."""
         await self.asker.replicated()
 
-    async def news(self, id: int, turn: int) -> None:
-        """Returns when the saga may have ended, or after a while, which is longer each turn."""
+    async def wait_for_end(self, id: int, turn: int) -> None:
+        """Return when the saga may have ended, or after a pause, which grows with each turn."""
         if self._announcer:
-            await self._announcer.news.of(id, turn)
+            await self._announcer.notifications.of(id, turn)
 
     # -- questions
 
-    async def read(self, query: str, *words: Any) -> list[tuple[Any, ...]]:
-        """Rows of a query."""
-        return await self._questions.rows(queries.for_postgresql(query), *cleaned(words))
+    async def read(self, query: str, *parameters: Any) -> list[tuple[Any, ...]]:
+        """Return the rows of a query."""
+        return await self._questions.rows(queries.for_postgresql(query), *cleaned(parameters))
 
     async def known(self, row: SagaRow) -> Known:
-        """What the store has of a saga, with what others ask in the same moment."""
+        """Return what the store has of a saga, in one lookup with other callers."""
         return await self._lookups.known(row)
 
-    async def text(self, log: int) -> str:
-        """A log's lines, which the server puts together."""
-        return str((await self.read(TEXT, log))[0][0])
+    async def text(self, shard: int) -> str:
+        """Return a shard's event log, which the server joins."""
+        return str((await self.read(TEXT, shard))[0][0])
 
     def reader(self) -> Reader:
-        """Another connection, for a thread that only reads."""
+        """Return another connection, for a thread that only reads."""
         return Reader(self.url, self.path)
 
     def find_now(self, key: str) -> SagaRow | None:
-        """Nothing is there at once."""
+        """Raise an error: a database cannot answer at once."""
         raise NotImplementedError
 
     def find_many(self, keys: Sequence[str]) -> dict[str, SagaRow]:
-        """As `find_now`."""
+        """Raise an error: a database cannot answer at once."""
         raise NotImplementedError

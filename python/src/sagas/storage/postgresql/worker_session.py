@@ -1,7 +1,6 @@
-"""A worker's session: begin and report.
+"""A worker's session with a PostgreSQL store.
 
-A worker's session with a store's PostgreSQL: it reports wherever it is, and the node that drives
-the saga hears of it.
+A worker reports from any machine, and the node that drives the saga is notified.
 """
 
 from __future__ import annotations
@@ -19,9 +18,9 @@ from sagas.core.outcomes import Outcome
 from sagas.definition import awaitables
 from sagas.definition.step import Function
 from sagas.definition.task import Task
-from sagas.storage.external import TAKES
+from sagas.storage.external import REPORT_COUNTS
 from sagas.storage.postgresql import connections
-from sagas.storage.postgresql.external_attempts import REPORT, TELL
+from sagas.storage.postgresql.external_attempts import NOTIFY_REPORTED, REPORT
 from sagas.storage.postgresql.step_connections import AsyncStepLink, StepLink
 from sagas.storage.postgresql.step_pool import is_good
 from sagas.storage.postgresql.step_protocol import AS_MADE, check_whole
@@ -29,35 +28,37 @@ from sagas.storage.worker_session import BEGIN, fetched
 
 RECORD = f"""
 UPDATE sagas.external_attempts SET outcome = 'succeeded', value = %(value)s, reported = %(lease)s
-WHERE attempt = %(attempt)s AND {TAKES.format(lease="%(lease)s", outcome="'succeeded'::text")}
+WHERE attempt = %(attempt)s
+  AND {REPORT_COUNTS.format(lease="%(lease)s", outcome="'succeeded'::text")}
 RETURNING attempt
 """
 COMMIT = f"COMMIT; {AS_MADE}"
-"""In one text, so that a pooler gives both to one session."""
+"""In one text, so that a pooler uses one session for both."""
 
 
-class PostgreSQLDesk:
-    """A worker's connection, for one thread."""
+class PostgreSQLWorkerSession:
+    """A worker's connection to the database, for one thread."""
 
     def __init__(self, url: str) -> None:
         self.url, self.path = url, connections.named(url)
-        self._link: psycopg.Connection[connections.Row] | None = None
-        self._own: StepLink | None = None  # of functions that are transactions
+        self._connection: psycopg.Connection[connections.Row] | None = None
+        self._for_functions: StepLink | None = None  # for functions that are transactions
 
-    def _ask(self, text: str, words: Any) -> list[Any]:
+    def _ask(self, text: str, parameters: Any) -> list[Any]:
         try:
-            with connections.faults(self.path):
-                if self._link is None or self._link.closed:
-                    self._link = connections.connect_now(self.url)
-                cursor = self._link.execute(text, words)
+            with connections.translate_errors(self.path):
+                if self._connection is None or self._connection.closed:
+                    self._connection = connections.connect_now(self.url)
+                cursor = self._connection.execute(text, parameters)
                 return cursor.fetchall() if cursor.description else []
         except BaseException:
             self.close()
             raise
 
     def begin(self, order: Order) -> Begun | None:
-        """The texts that the order does not carry; None where the attempt is settled. Raises
-        `WrongStore`, `StoreUnavailable`.
+        """Return the texts that the order does not contain.
+
+        Return None if the attempt is closed. Raises `WrongStore`, `StoreUnavailable`.
         """
         return fetched(
             order,
@@ -66,105 +67,113 @@ class PostgreSQLDesk:
             self.path,
         )
 
-    def _one(self, text: str, *words: Any) -> str:
-        rows = self._ask(text.replace("?", "%s"), words)
+    def _one(self, text: str, *parameters: Any) -> str:
+        rows = self._ask(text.replace("?", "%s"), parameters)
         return str(rows[0][0]) if rows and rows[0][0] is not None else "null"
 
     def report(self, order: Order, outcome: Outcome) -> None:
-        """Writes how it ended, in one statement, and tells the nodes behind it. Raises
-        `StoreUnavailable`.
+        """Store the outcome in one statement, and notify the nodes afterwards.
+
+        Raises `StoreUnavailable`.
         """
-        words = {
+        parameters = {
             "attempt": order.token,
             "lease": order.lease,
             "outcome": str(outcome.kind),
             "value": outcome.value,
         }
-        self._ask(REPORT, words)
+        self._ask(REPORT, parameters)
         self.say()
 
     def say(self) -> None:
-        """Tells the nodes that there is a report."""
-        with contextlib.suppress(StoreUnavailable):  # it is there, and is looked for
-            self._ask(TELL, None)
+        """Notify the nodes that there is a report."""
+        with contextlib.suppress(
+            StoreUnavailable
+        ):  # the report is stored, and the nodes look for it
+            self._ask(NOTIFY_REPORTED, None)
 
     def within(self, order: Order, function: Function) -> Function:
-        """The function as a transaction, whose last statement is its report."""
+        """Return the function as a transaction, whose last statement is its report."""
 
-        def record(link: AsyncStepLink | StepLink, value: Any) -> dict[str, Any]:
-            if link.begun:
-                check_whole(link)
-            link.row_factory = tuple_row
-            told = outcomes.succeeded(value).value
-            return {"attempt": order.token, "lease": order.lease, "value": told}
+        def record(connection: AsyncStepLink | StepLink, value: Any) -> dict[str, Any]:
+            if connection.begun:
+                check_whole(connection)
+            connection.row_factory = tuple_row
+            stored_value = outcomes.succeeded(value).value
+            return {"attempt": order.token, "lease": order.lease, "value": stored_value}
 
         def in_thread(task: Task[Any]) -> Any:
             try:
-                link = self._own_link()
-                task.enter(link)
-                link.begun = False
+                connection = self._function_connection()
+                task.enter(connection)
+                connection.begun = False
                 value = awaitables.whole_now(function(task))
-                recorded = link.execute(RECORD, record(link, value), prepare=False)
+                recorded = connection.execute(RECORD, record(connection, value), prepare=False)
                 if not recorded.fetchall():
                     raise Settled(order.token)
-                link.end(COMMIT, _nothing)
-                link.begun, link.is_set = None, False
-            except BaseException as error:  # it may be anywhere in its transaction
+                connection.end(COMMIT, _nothing)
+                connection.begun, connection.is_set = None, False
+            except BaseException as error:  # the state of its transaction is unknown
                 self._drop()
                 if isinstance(error, psycopg.OperationalError):
                     raise Unknown(str(error)) from error
                 raise
-            if not is_good(link):
+            if not is_good(connection):
                 self._drop()
             self.say()
             return value
 
         async def in_loop(task: Task[Any]) -> Any:
-            link: AsyncStepLink | None = None
+            connection: AsyncStepLink | None = None
             try:
-                link = await self._new_link()
-                task.enter(link)
-                link.begun = False
+                connection = await self._new_connection()
+                task.enter(connection)
+                connection.begun = False
                 value = await awaitables.whole(await function(task))
-                recorded = await link.execute(RECORD, record(link, value), prepare=False)
+                recorded = await connection.execute(
+                    RECORD, record(connection, value), prepare=False
+                )
                 if not await recorded.fetchall():
                     raise Settled(order.token)
-                await link.end("COMMIT", _nothing)
+                await connection.end("COMMIT", _nothing)
             except psycopg.OperationalError as error:
                 raise Unknown(str(error)) from error
             finally:
-                if link is not None:
-                    link.begun = None
-                    await link.close()
+                if connection is not None:
+                    connection.begun = None
+                    await connection.close()
             self.say()
             return value
 
         return in_loop if awaitables.is_async(function) else in_thread
 
-    def _own_link(self) -> StepLink:
-        if self._own is None or self._own.closed:
+    def _function_connection(self) -> StepLink:
+        if self._for_functions is None or self._for_functions.closed:
             made = StepLink.connect(connections.address(self.url))
             assert isinstance(made, StepLink)
-            self._own = made
-        return self._own
+            self._for_functions = made
+        return self._for_functions
 
-    async def _new_link(self) -> AsyncStepLink:
+    async def _new_connection(self) -> AsyncStepLink:
         made = await AsyncStepLink.connect(connections.address(self.url))
         assert isinstance(made, AsyncStepLink)
         return made
 
     def close(self) -> None:
-        """Drops the store's connection; that of functions is looked at when it is used."""
-        link, self._link = self._link, None
-        if link is not None:
-            link.close()
+        """Close the store's connection.
+
+        The connection of functions is checked when it is used.
+        """
+        connection, self._connection = self._connection, None
+        if connection is not None:
+            connection.close()
 
     def _drop(self) -> None:
-        own, self._own = self._own, None
-        if own is not None:
-            own.begun = None
-            own.close()
+        connection, self._for_functions = self._for_functions, None
+        if connection is not None:
+            connection.begun = None
+            connection.close()
 
 
 def _nothing() -> None:
-    """Nobody is told that the commit is about to be sent."""
+    """Do nothing before the commit is sent."""

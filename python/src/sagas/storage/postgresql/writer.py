@@ -12,7 +12,7 @@ from typing import Any, Optional
 from psycopg import errors
 from sagas.base.errors import StoreUnavailable
 from sagas.core.batch import Batch, Tail
-from sagas.storage.interface import Then
+from sagas.storage.interface import CommitCallback
 from sagas.storage.postgresql import connections
 from sagas.storage.postgresql.commit_statement import HAS_MOVED, Commit
 from sagas.storage.postgresql.prepared import Values, Wire
@@ -20,39 +20,43 @@ from sagas.storage.record_file import RecordFile
 
 NONE: frozenset[int] = frozenset()
 OF_ONE = (errors.UniqueViolation, errors.NotNullViolation)
-"""What the server refuses because of one log: another has one of its keys or wrote it before, or a
-worker has reported *done* of an attempt that came to something else."""
-Came = Callable[[frozenset[int], Optional[Exception]], object]
-"""What is called with the logs that are not this node's, or with what kept all from being
-written.
+"""The errors of the server that are because of one shard.
+
+Another shard has one of its keys or wrote it before, or a worker has reported a success of an
+attempt with another outcome.
+"""
+AnswerCallback = Callable[[frozenset[int], Optional[Exception]], object]
+"""Called with the shards that this node lost, or with the error that kept all from being written.
 """
 
 
 class Writer:
-    """`events`: how many each log has, by what the server said: the log that was read or written
-    last is the last one. `tails`: the last chunk of each log that has any. `check`: called with a
-    new connection, and raises where it is not to be used; `refused`: called where there is none to
-    be had. `record`: what is sent and heard is written to it.
+    """Writes commits, one after the other.
+
+    `events` has the number of events of each shard, as the server said. The shard that was read or
+    written last is the last one. `tails` has the last chunk of each shard that has one. `check` is
+    called with a new connection, and raises if it must not be used. `refused` is called if there is
+    no connection. Commits and replies are written to `record`.
     """
 
     def __init__(
         self,
         url: str,
-        where: str,
+        store_name: str,
         node: str,
         check: Callable[[connections.Link], Coroutine[Any, Any, None]],
         kept: Callable[[Commit], object],
         refused: Callable[[], object],
         record: RecordFile | None = None,
     ) -> None:
-        self._url, self._where, self._node = url, where, node.encode()
+        self._url, self._store_name, self._node = url, store_name, node.encode()
         self._check, self._kept, self._refused = check, kept, refused
         self.record = record
         self.late: Callable[[], object] = lambda: None
-        """Called where a commit took too long."""
+        """Called if a commit took too long."""
         self.commits = 0
-        self.takes = 0.0
-        """Seconds that a commit takes, in the middle of the last ones."""
+        self.commit_seconds = 0.0
+        """Seconds that a commit takes: a moving average of the last ones."""
         self.events: dict[int, int] = {}
         self.tails: dict[int, Tail] = {}
         self._wire: Wire | None = None
@@ -61,8 +65,8 @@ class Writer:
         self._rests.set()
         self._is_over = False
 
-    def commit(self, batches: Sequence[Batch], then: Then) -> None:
-        """As `Database.commit`."""
+    def commit(self, batches: Sequence[Batch], then: CommitCallback) -> None:
+        """See `CommitWriter.commit`."""
         self._rests.clear()
         if self._is_over:
             asyncio.get_running_loop().call_soon(self._over, batches, then, self._closed(), NONE)
@@ -71,35 +75,35 @@ class Writer:
         else:
             self._write(self._wire, batches, functools.partial(self._came, batches, then))
 
-    def reached(self, log: int, events: int, tail: Tail | None) -> None:
-        """A log was read, or written, to this chunk."""
-        self.events.pop(log, None)
-        self.events[log] = events
+    def reached(self, shard: int, events: int, tail: Tail | None) -> None:
+        """Note that a shard was read or written up to this chunk."""
+        self.events.pop(shard, None)
+        self.events[shard] = events
         if tail is not None:
-            self.tails[log] = tail
+            self.tails[shard] = tail
         else:
-            self.tails.pop(log, None)
+            self.tails.pop(shard, None)
 
-    def latest(self, logs: Collection[int]) -> tuple[int, Tail] | None:
-        """Return which of these logs was read or written last, and its tail."""
-        for log in reversed(self.events):
-            if log in logs and log in self.tails:
-                return log, self.tails[log]
+    def latest(self, shards: Collection[int]) -> tuple[int, Tail] | None:
+        """Return which of these shards was read or written last, and its tail."""
+        for shard in reversed(self.events):
+            if shard in shards and shard in self.tails:
+                return shard, self.tails[shard]
         return None
 
-    def forget(self, log: int) -> None:
-        """What is known of a log does not count any more: it has a later epoch."""
-        self.events.pop(log, None)
-        self.tails.pop(log, None)
+    def forget(self, shard: int) -> None:
+        """Forget what is known of a shard: it has a later epoch."""
+        self.events.pop(shard, None)
+        self.tails.pop(shard, None)
 
     def cut(self) -> None:
-        """What the connection was doing is over, or is fenced by the epoch that follows."""
+        """Close the connection: its statement is over, or the next epoch fences it."""
         wire, self._wire = self._wire, None
         if wire:
             wire.close()
 
     async def close(self) -> None:
-        """Ends behind what is under way, unless that takes long."""
+        """Close after the commit under way, unless that takes long."""
         with contextlib.suppress(TimeoutError):
             async with asyncio.timeout(connections.CONNECT):
                 await self._rests.wait()
@@ -109,7 +113,7 @@ class Writer:
         self.cut()
 
     def _closed(self) -> StoreUnavailable:
-        return StoreUnavailable(f"{self._where}: closed")
+        return StoreUnavailable(f"{self._store_name}: closed")
 
     def _spawn(self, work: Coroutine[Any, Any, None]) -> None:
         self._job = asyncio.get_running_loop().create_task(work)
@@ -117,66 +121,70 @@ class Writer:
     def _over(
         self,
         batches: Sequence[Batch],
-        then: Then,
-        fault: BaseException | None,
+        then: CommitCallback,
+        failure: BaseException | None,
         lost: frozenset[int],
     ) -> None:
         self._rests.set()
-        then(batches, fault, lost)
+        then(batches, failure, lost)
 
     # -- one statement
 
-    async def _connect(self, batches: Sequence[Batch], then: Then) -> None:
-        fault: BaseException | None = None
+    async def _connect(self, batches: Sequence[Batch], then: CommitCallback) -> None:
+        failure: BaseException | None = None
         try:
-            with connections.faults(self._where):
+            with connections.translate_errors(self._store_name):
                 async with asyncio.timeout(connections.PATIENCE):
                     wire = self._wire = Wire(await self._connected())
         except Exception as error:
-            fault = error
+            failure = error
         except asyncio.CancelledError:
-            fault = self._closed()
-        if fault:
+            failure = self._closed()
+        if failure:
             self._refused()
-            self._over(batches, then, fault, NONE)
+            self._over(batches, then, failure, NONE)
         else:
             self._write(wire, batches, functools.partial(self._came, batches, then))
 
     async def _connected(self) -> connections.Link:
-        link = await connections.connect(self._url, connections.REPEATED)
+        connection = await connections.connect(self._url, connections.REPEATED)
         try:
-            await self._check(link)
+            await self._check(connection)
         except BaseException:
-            await link.close()
+            await connection.close()
             raise
-        return link
+        return connection
 
-    def _write(self, wire: Wire, batches: Sequence[Batch], came: Came) -> None:
+    def _write(self, wire: Wire, batches: Sequence[Batch], on_answer: AnswerCallback) -> None:
         try:
-            commit = Commit(batches, lambda log: self.events.get(log, 0), self.tails)
-            text, words = commit.words(self._node)
-        except Exception as error:  # told to the coordinator, which begins again from the database
-            asyncio.get_running_loop().call_soon(came, NONE, error)
+            commit = Commit(batches, lambda shard: self.events.get(shard, 0), self.tails)
+            text, parameters = commit.bind(self._node)
+        except Exception as error:  # the coordinator gets it, and loads its shards again
+            asyncio.get_running_loop().call_soon(on_answer, NONE, error)
         else:
             if self.record is not None:
                 self.record.commit = commit
             began = time.monotonic()
-            wire.ask(text, words, lambda rows, fault: came(*self._read(commit, rows, fault, began)))
+            wire.ask(
+                text,
+                parameters,
+                lambda rows, failure: on_answer(*self._read(commit, rows, failure, began)),
+            )
 
     def _read(
-        self, commit: Commit, rows: list[Values], fault: Exception | None, began: float
+        self, commit: Commit, rows: list[Values], failure: Exception | None, began: float
     ) -> tuple[frozenset[int], Exception | None]:
-        self.takes += (time.monotonic() - began - self.takes) / 8
-        if fault is not None:
-            if not isinstance(fault, OF_ONE):
+        self.commit_seconds += (time.monotonic() - began - self.commit_seconds) / 8
+        if failure is not None:
+            if not isinstance(failure, OF_ONE):
                 self.cut()
-                if isinstance(fault, (TimeoutError, errors.QueryCanceled)):
+                if isinstance(failure, (TimeoutError, errors.QueryCanceled)):
                     self.late()
                 if self.record:
                     self.record.unanswered()
             elif self.record:
                 self.record.failed()
-            return NONE, fault
+            return NONE, failure
         mine = {int(row[0]) for row in rows if row[0] is not None}
         if HAS_MOVED in mine:
             mine.discard(HAS_MOVED)
@@ -188,66 +196,72 @@ class Writer:
             if commit.rare:
                 self._note_closed(self.record, commit, mine)
         self.commits += 1
-        tails = {log: Tail(first, at) for log, first, at, *_ in commit.rows("lines")}
-        for log, events in commit.events.items():
-            if log in mine:
-                self.reached(log, events, tails.get(log) or self.tails.get(log))
+        tails = {shard: Tail(first, at) for shard, first, at, *_ in commit.rows("lines")}
+        for shard, events in commit.events.items():
+            if shard in mine:
+                self.reached(shard, events, tails.get(shard) or self.tails.get(shard))
         self._kept(commit)
         lost = commit.epochs.keys() - mine
         return frozenset(lost) if lost else NONE, None
 
     def _note_closed(self, record: RecordFile, commit: Commit, mine: set[int]) -> None:
-        for log, *_ in commit.rows("closed"):
-            if log in mine:
-                record.closed((log, commit.epochs[log], record.timeline))
+        for shard, *_ in commit.rows("closed"):
+            if shard in mine:
+                record.closed((shard, commit.epochs[shard], record.timeline))
 
     def _came(
-        self, batches: Sequence[Batch], then: Then, lost: frozenset[int], fault: Exception | None
+        self,
+        batches: Sequence[Batch],
+        then: CommitCallback,
+        lost: frozenset[int],
+        failure: Exception | None,
     ) -> None:
-        if isinstance(fault, OF_ONE):
+        if isinstance(failure, OF_ONE):
             self._spawn(self._one_by_one(batches, then))
         else:
-            self._over(batches, then, fault and self._told(fault), lost)
+            self._over(batches, then, failure and self._translated(failure), lost)
 
     # -- one statement for each log
 
-    async def _one_by_one(self, batches: Sequence[Batch], then: Then) -> None:
-        """One of them cannot be written (`OF_ONE`): the others are."""
+    async def _one_by_one(self, batches: Sequence[Batch], then: CommitCallback) -> None:
+        """Write each shard alone: one of them cannot be written (`OF_ONE`)."""
         lost: set[int] = set()
-        fault: Exception | None = None
+        failure: Exception | None = None
         try:
-            for log in dict.fromkeys(batch.log for batch in batches):
-                lost |= await self._written(log, [batch for batch in batches if batch.log == log])
+            for shard in dict.fromkeys(batch.log for batch in batches):
+                lost |= await self._written(
+                    shard, [batch for batch in batches if batch.log == shard]
+                )
         except Exception as error:
-            fault = error
+            failure = error
         except asyncio.CancelledError:
-            fault = self._closed()
-        self._over(batches, then, fault, NONE if fault else frozenset(lost))
+            failure = self._closed()
+        self._over(batches, then, failure, NONE if failure else frozenset(lost))
 
-    async def _written(self, log: int, batches: Sequence[Batch]) -> frozenset[int]:
-        """Those of its log, unless it cannot be written."""
+    async def _written(self, shard: int, batches: Sequence[Batch]) -> frozenset[int]:
+        """Write the batches of a shard, unless it cannot be written."""
         if self._wire is None:
-            raise StoreUnavailable(f"{self._where}: the connection is closed")
+            raise StoreUnavailable(f"{self._store_name}: the connection is closed")
         future: asyncio.Future[
             tuple[frozenset[int], Exception | None]
         ] = asyncio.get_running_loop().create_future()
 
-        def came(lost: frozenset[int], fault: Exception | None) -> None:
+        def on_answer(lost: frozenset[int], failure: Exception | None) -> None:
             if not future.done():
-                future.set_result((lost, fault))
+                future.set_result((lost, failure))
 
-        self._write(self._wire, batches, came)
-        lost, fault = await future
-        if fault is None:
+        self._write(self._wire, batches, on_answer)
+        lost, failure = await future
+        if failure is None:
             return lost
-        if isinstance(fault, OF_ONE):
-            return frozenset({log})
-        raise self._told(fault)
+        if isinstance(failure, OF_ONE):
+            return frozenset({shard})
+        raise self._translated(failure)
 
-    def _told(self, fault: Exception) -> Exception:
-        """What the coordinator hears."""
+    def _translated(self, failure: Exception) -> Exception:
+        """Return the error for the coordinator."""
         return (
-            connections.unwritable(self._where, fault)
-            if isinstance(fault, connections.FAULTS)
-            else fault
+            connections.store_unavailable(self._store_name, failure)
+            if isinstance(failure, connections.CLIENT_ERRORS)
+            else failure
         )

@@ -1,4 +1,4 @@
-"""Deliveries of webhooks in the file: each change goes into the next transaction."""
+"""Deliveries of webhooks in a file: each change goes into the next transaction."""
 
 from __future__ import annotations
 
@@ -15,25 +15,25 @@ VALUES(?, ?, ?, ?, ?, ?, ?)
 
 
 class SqliteDeliveries:
-    """As `Deliveries`, of the only program. `write` puts a batch into the next transaction."""
+    """See `Deliveries`. This is the only program that has the file open."""
 
     def begin(self, write: Callable[[Batch], Awaitable[None]], clock: Callable[[], float]) -> None:
-        """`write`: puts a batch into the next transaction."""
+        """Start the use of the table. `write` adds a batch to the next transaction."""
         self._write, self._clock = write, clock
 
-    async def change(self, text: str, **words: Any) -> list[tuple[Any, ...]]:
+    async def change(self, text: str, **parameters: Any) -> list[tuple[Any, ...]]:
         batch = Batch(-1, self._clock())
-        found: list[tuple[Any, ...]] = []
+        rows: list[tuple[Any, ...]] = []
 
         def work(db: sqlite3.Connection) -> None:
-            found[:] = db.execute(*self._form(text, words)).fetchall()
+            rows[:] = db.execute(*self._form(text, parameters)).fetchall()
 
         batch.more.work.append(work)
         await self._write(batch)
-        return found
+        return rows
 
-    async def ask(self, text: str, **words: Any) -> list[tuple[Any, ...]]:
-        return await self.change(text, **words)
+    async def ask(self, text: str, **parameters: Any) -> list[tuple[Any, ...]]:
+        return await self.change(text, **parameters)
 
-    def _form(self, text: str, words: dict[str, Any]) -> tuple[str, dict[str, Any]]:
-        return text.format(now=":now", locked=""), {**words, "now": self._clock()}
+    def _form(self, text: str, parameters: dict[str, Any]) -> tuple[str, dict[str, Any]]:
+        return text.format(now=":now", locked=""), {**parameters, "now": self._clock()}

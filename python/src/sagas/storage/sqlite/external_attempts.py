@@ -1,7 +1,6 @@
-"""External attempts in the file: claims and reports of many in one go.
+"""External attempts in a store's file.
 
-Work done elsewhere, in a store's file: what is asked goes into the next transaction of the
-program that has it open.
+Claims and reports go into the next transaction of the program that has the file open.
 """
 
 from __future__ import annotations
@@ -17,29 +16,29 @@ from sagas.storage.deliveries import Deliveries
 from sagas.storage.external import (
     OPEN,
     REPORTED_IN_PAIRS,
-    TAKES,
-    Asked,
-    Beat,
+    REPORT_COUNTS,
+    ExternalRequest,
+    Heartbeat,
     Claim,
     Report,
-    Reported,
+    ReportRequest,
     Row,
-    Waiting,
-    Wanted,
+    QueueState,
+    ClaimRequest,
     earlier,
 )
-from sagas.storage.lots import Lots
+from sagas.storage.lots import Batcher
 from sagas.storage.sqlite.deliveries import SqliteDeliveries
 from sagas.storage.sqlite.statements import SPANS
 
 MOST = 200
-"""Claims and reports in one transaction."""
+"""Maximum number of claims and reports in one transaction."""
 HELD = f"SELECT count(*) FROM external_attempts WHERE task = ? AND {OPEN} AND until > ?"
 BOUND = f"""
 SELECT concurrency FROM external_attempts
 WHERE task = ? AND {OPEN} AND concurrency IS NOT NULL LIMIT 1
 """
-FOUND = f"""
+CLAIMABLE = f"""
 SELECT offered_at, attempt, lease, given_back, id, step, action, cancelled, number, worker, since,
   until
 FROM external_attempts
@@ -49,14 +48,14 @@ LEASE = """
 UPDATE external_attempts SET worker = ?, since = ?, until = ?, given_back = 0, lease = ?
 WHERE attempt = ?
 """
-KEPT = f"""
+CURRENT_LEASE = f"""
 SELECT task, concurrency, until, cancelled FROM external_attempts
 WHERE attempt = ? AND lease = ? AND {OPEN} AND until IS NOT NULL
 """
 LENGTHEN = "UPDATE external_attempts SET until = ?, given_back = ? WHERE attempt = ?"
 REPORT = f"""
 UPDATE external_attempts SET outcome = :outcome, value = :value, reported = :lease
-WHERE attempt = :attempt AND {TAKES.format(lease=":lease", outcome=":outcome")}
+WHERE attempt = :attempt AND {REPORT_COUNTS.format(lease=":lease", outcome=":outcome")}
 """
 SHARD = "SELECT shard FROM external_attempts WHERE attempt = ?"
 FIND = "SELECT lease, outcome, value, reported FROM external_attempts WHERE attempt = ?"
@@ -75,70 +74,79 @@ FROM external_attempts WHERE attempt = ?
 """
 
 
-def _answers(db: sqlite3.Connection, some: Sequence[Asked], now: float) -> list[Any]:
-    """Keeps reports, and then claims: by then what was reported is not counted as held."""
-    claims: dict[tuple[str, ...], list[Wanted]] = {}
-    kept: list[int | None] = []
-    for one in some:
-        if isinstance(one, Wanted):
-            claims.setdefault(one.tasks, []).append(one)
+def _answers(db: sqlite3.Connection, requests: Sequence[ExternalRequest], now: float) -> list[Any]:
+    """Store reports, and then claim attempts.
+
+    By then a reported attempt does not count as leased.
+    """
+    claims: dict[tuple[str, ...], list[ClaimRequest]] = {}
+    shards_of_reports: list[int | None] = []
+    for request in requests:
+        if isinstance(request, ClaimRequest):
+            claims.setdefault(request.tasks, []).append(request)
         else:
-            kept.append(_reported(db, one))
-    shards: Iterator[Any] = iter(kept)
+            shards_of_reports.append(_reported(db, request))
+    shards: Iterator[Any] = iter(shards_of_reports)
     leases: dict[tuple[str, ...], Iterator[Any]] = {
-        tasks: iter(_claimed(db, tasks, of, now)) for tasks, of in claims.items()
+        tasks: iter(_claimed(db, tasks, claims_of_tasks, now))
+        for tasks, claims_of_tasks in claims.items()
     }
-    return [next(leases[one.tasks] if isinstance(one, Wanted) else shards) for one in some]
+    return [
+        next(leases[request.tasks] if isinstance(request, ClaimRequest) else shards)
+        for request in requests
+    ]
 
 
-def _reported(db: sqlite3.Connection, one: Reported) -> int | None:
-    """Keeps a report; gives the attempt's shard, or None if it does not count."""
-    if not db.execute(REPORT, one._asdict()).rowcount:  # `RETURNING` would make a table for it
+def _reported(db: sqlite3.Connection, report: ReportRequest) -> int | None:
+    """Store a report. Return the attempt's shard, or None if the report does not count."""
+    # `RETURNING` would create a temporary table
+    if not db.execute(REPORT, report._asdict()).rowcount:
         return None
-    ((shard,),) = db.execute(SHARD, (one.attempt,)).fetchall()
+    ((shard,),) = db.execute(SHARD, (report.attempt,)).fetchall()
     return int(shard)
 
 
 def _claimed(
-    db: sqlite3.Connection, tasks: Sequence[str], some: Sequence[Wanted], now: float
+    db: sqlite3.Connection, tasks: Sequence[str], claims: Sequence[ClaimRequest], now: float
 ) -> list[list[Claim]]:
-    """The leases of each claim of these tasks: those that came first have those that have waited
-    longest.
+    """Return the leases of each claim of these tasks.
+
+    The claims that came first have the attempts that have waited longest.
     """
-    most = sum(one.most for one in some)
-    found: list[tuple[Any, ...]] = []
+    limit = sum(claim.limit for claim in claims)
+    candidates: list[tuple[Any, ...]] = []
     for task in tasks:
-        room = most
+        free = limit
         for (bound,) in db.execute(BOUND, (task,)).fetchall():
             (held,) = db.execute(HELD, (task, now)).fetchone()
-            room = max(0, min(most, bound - held))
-        found += db.execute(FOUND, (task, now, room)).fetchall()
-    rows = iter(sorted(found, key=lambda row: row[:2])[:most])
+            free = max(0, min(limit, bound - held))
+        candidates += db.execute(CLAIMABLE, (task, now, free)).fetchall()
+    rows = iter(sorted(candidates, key=lambda row: row[:2])[:limit])
     return [
-        [_leased(db, one, row, now) for row in itertools.islice(rows, one.most)] for one in some
+        [_leased(db, claim, row, now) for row in itertools.islice(rows, claim.limit)]
+        for claim in claims
     ]
 
 
-def _leased(db: sqlite3.Connection, one: Wanted, row: tuple[Any, ...], now: float) -> Claim:
-    """Leases what was found."""
-    _, attempt, lease, given_back, id, step, action, cancelled, *was = row
-    count, had, since, until = was
+def _leased(db: sqlite3.Connection, claim: ClaimRequest, row: tuple[Any, ...], now: float) -> Claim:
+    """Lease the attempt of a row."""
+    _, attempt, lease, given_back, id, step, action, cancelled, *earlier_lease = row
+    count, earlier_worker, since, until = earlier_lease
     number = max(int(now * 1000), (lease or 0) + 1)
     if since is not None:
-        spans = earlier(since, had, lease, until)
+        spans = earlier(since, earlier_worker, lease, until)
         db.execute(SPANS, (id, step, action, count, since, spans))
-    db.execute(LEASE, (one.worker, now, now + one.seconds, number, attempt))
+    db.execute(LEASE, (claim.worker, now, now + claim.seconds, number, attempt))
     is_takeover = lease is not None and not given_back
-    return Claim(attempt, number, one.seconds, id, step, action, cancelled, is_takeover)
+    return Claim(attempt, number, claim.seconds, id, step, action, cancelled, is_takeover)
 
 
 class SqliteExternalAttempts:
-    """As `ExternalAttempts`, of the only program. `write` puts a batch into the next
-    transaction."""
+    """See `ExternalAttempts`. This is the only program that has the file open."""
 
     def __init__(self, rows: Callable[..., list[tuple[Any, ...]]]) -> None:
         self._rows = rows
-        self._lots: Lots[Asked, Any] = Lots(self._ask_all, MOST, self._dropped)
+        self._batcher: Batcher[ExternalRequest, Any] = Batcher(self._ask_all, MOST, self._dropped)
         self.deliveries: Deliveries = SqliteDeliveries()
 
     def begin(
@@ -151,62 +159,71 @@ class SqliteExternalAttempts:
         self.deliveries.begin(write, clock)
 
     async def _within(self, work: Callable[[sqlite3.Connection], Any]) -> Any:
-        """What this gives, of a transaction that is in the file."""
+        """Return the result of a function, once its transaction is in the file."""
         batch = Batch(-1, self.clock())
-        found: list[Any] = []
+        result: list[Any] = []
 
-        def done(db: sqlite3.Connection) -> None:
-            found[:] = [work(db)]
+        def run(db: sqlite3.Connection) -> None:
+            result[:] = [work(db)]
 
-        batch.more.work.append(done)
+        batch.more.work.append(run)
         await self.write(batch)
-        return found[0]
+        return result[0]
 
     async def claim(
-        self, tasks: Sequence[str], limited: Sequence[str], most: int, seconds: float, worker: str
+        self, tasks: Sequence[str], limited: Sequence[str], limit: int, seconds: float, worker: str
     ) -> list[Claim]:
-        wanted = Wanted((*map(clean, tasks),), max(0, most), seconds, clean(worker))
-        found: list[Claim] = await self._lots.ask(wanted)
-        return found
+        wanted = ClaimRequest((*map(clean, tasks),), max(0, limit), seconds, clean(worker))
+        claims: list[Claim] = await self._batcher.ask(wanted)
+        return claims
 
-    async def _ask_all(self, some: Sequence[Asked]) -> list[Any]:
-        """The answers to claims, each with its rows, and to reports, each with its shard."""
-        tasks = {task for one in some if isinstance(one, Wanted) for task in one.tasks}
-        if not any(isinstance(one, Reported) for one in some) and not self._has_any(tasks):
-            return [[] for _ in some]
-        answers: list[Any] = await self._within(lambda db: _answers(db, some, self.clock()))
+    async def _ask_all(self, requests: Sequence[ExternalRequest]) -> list[Any]:
+        """Return the claims' leases and the reports' shards."""
+        tasks = {
+            task
+            for request in requests
+            if isinstance(request, ClaimRequest)
+            for task in request.tasks
+        }
+        if not any(
+            isinstance(request, ReportRequest) for request in requests
+        ) and not self._has_any(tasks):
+            return [[] for _ in requests]
+        answers: list[Any] = await self._within(lambda db: _answers(db, requests, self.clock()))
         return answers
 
-    def _dropped(self, what: Asked, answer: Any) -> None:
-        if isinstance(what, Wanted):
+    def _dropped(self, request: ExternalRequest, answer: Any) -> None:
+        if isinstance(request, ClaimRequest):
             self._unwanted(answer)
 
     def _has_any(self, tasks: Iterable[str]) -> bool:
-        """Whether something waits for a worker: else nothing need be written."""
+        """Whether an attempt waits for a worker. Otherwise nothing need be written."""
         now = self.clock()
-        return any(self._rows(FOUND, task, now, 1) for task in tasks)
+        return any(self._rows(CLAIMABLE, task, now, 1) for task in tasks)
 
-    async def heartbeat(self, attempt: str, lease: int, seconds: float) -> Beat | None:
-        def kept(db: sqlite3.Connection) -> Beat | None:
+    async def heartbeat(self, attempt: str, lease: int, seconds: float) -> Heartbeat | None:
+        def extend(db: sqlite3.Connection) -> Heartbeat | None:
             now = self.clock()
-            for task, bound, until, cancelled in db.execute(KEPT, (attempt, lease)).fetchall():
+            for task, bound, until, cancelled in db.execute(
+                CURRENT_LEASE, (attempt, lease)
+            ).fetchall():
                 if bound is not None and until <= now:
                     (held,) = db.execute(HELD, (task, now)).fetchone()
                     if held >= bound:
                         return None
                 db.execute(LENGTHEN, (now + seconds, now + seconds < until, attempt))
-                return Beat(seconds, cancelled)
+                return Heartbeat(seconds, cancelled)
             return None
 
-        found: Beat | None = await self._within(kept)
-        return found
+        heartbeat: Heartbeat | None = await self._within(extend)
+        return heartbeat
 
     async def advance(self, attempt: str, fraction: float, detail: str | None, at: float) -> None:
-        words = (fraction, detail, at, attempt)
-        await self._within(lambda db: db.execute(ADVANCE, words) and None)
+        parameters = (fraction, detail, at, attempt)
+        await self._within(lambda db: db.execute(ADVANCE, parameters) and None)
 
     async def report(self, attempt: str, lease: int, outcome: str, value: str) -> int | None:
-        shard: int | None = await self._lots.ask(Reported(attempt, lease, outcome, value))
+        shard: int | None = await self._batcher.ask(ReportRequest(attempt, lease, outcome, value))
         return shard
 
     async def find(self, attempt: str) -> Row | None:
@@ -215,13 +232,13 @@ class SqliteExternalAttempts:
 
     async def outcomes(self, attempts: Sequence[str]) -> dict[str, str | None]:
         rows = {attempt: self._rows(OUTCOME, attempt) for attempt in attempts}
-        return {attempt: found[0][0] for attempt, found in rows.items() if found}
+        return {attempt: matches[0][0] for attempt, matches in rows.items() if matches}
 
     async def reported(self, shards: Sequence[int]) -> list[Report]:
         return [Report(*row[:3]) for row in self._rows(ALL_REPORTED) if row[3] in shards]
 
-    async def waiting(self) -> list[Waiting]:
-        return [Waiting(*row) for row in self._rows(WAITING, self.clock())]
+    async def waiting(self) -> list[QueueState]:
+        return [QueueState(*row) for row in self._rows(WAITING, self.clock())]
 
-    async def tell(self) -> None:
-        """There is nobody else."""
+    async def notify_owners(self) -> None:
+        """Do nothing: there are no other nodes."""

@@ -1,7 +1,6 @@
-"""Slots of rate limits.
+"""Slots of rate limits in a store's file.
 
-Places of steps with a rate, in a store's file, so that a program that starts again does not begin
-to count again.
+They are stored, so that a restarted program does not begin to count again.
 """
 
 from __future__ import annotations
@@ -23,35 +22,39 @@ SOON = (
 
 
 def free(limit: int, want: int, have: Sequence[int]) -> list[int]:
-    """The places of a limit that nobody has: one program is the whole fleet of a file."""
+    """Return the free slots of a limit. One program is the only node of a file."""
     taken = set(have)
-    return [place for place in range(1, limit + 1) if place not in taken][:want]
+    return [slot for slot in range(1, limit + 1) if slot not in taken][:want]
 
 
 def take(
     connect: Callable[[], sqlite3.Connection],
-    where: str,
+    store_name: str,
     name: str,
     rate: tuple[int, float],
     want: int,
     now: float,
 ) -> tuple[int, float]:
-    """How many calls may begin now, and in how many seconds more may. For a thread."""
+    """Take slots for calls that begin now. For a thread.
+
+    Returns:
+        The number of calls that may begin now, and the seconds until more may begin.
+    """
     calls, seconds = rate
     try:
         with contextlib.closing(connect()) as db:
             db.execute("BEGIN IMMEDIATE")
             db.executemany(
                 "INSERT OR IGNORE INTO limit_slots(name, kind, slot) VALUES(?, 'rate', ?)",
-                [(name, place) for place in range(1, calls + 1)],
+                [(name, slot) for slot in range(1, calls + 1)],
             )
             rows = db.execute(FREE, (name, calls, now, now + seconds, want)).fetchall()
             db.executemany(
                 "UPDATE limit_slots SET until = ? WHERE name = ? AND kind = 'rate' AND slot = ?",
-                [(now + seconds, name, place) for (place,) in rows],
+                [(now + seconds, name, slot) for (slot,) in rows],
             )
             (soon,) = db.execute(SOON, (name, calls, now)).fetchone()
             db.execute("COMMIT")
     except sqlite3.Error as error:
-        raise StoreUnavailable(f"{where}: {error}") from error
+        raise StoreUnavailable(f"{store_name}: {error}") from error
     return len(rows), seconds if soon is None else soon - now

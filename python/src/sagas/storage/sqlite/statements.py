@@ -47,12 +47,14 @@ SETTLED = """
 UPDATE external_attempts SET outcome = 'settled', value = NULL,
 shard = CASE WHEN outcome IS NOT 'succeeded' OR ?2 = 'succeeded' THEN shard END WHERE attempt = ?1
 """
-"""A worker's *done* gives way to nothing else: its shard would be null, which is refused."""
+"""If a worker reported a success, and the commit says otherwise, the shard is null, which is
+refused.
+"""
 DONE = "SELECT 1 FROM external_attempts WHERE attempt = ? AND outcome = 'succeeded'"
 
 HELD = "INSERT OR REPLACE INTO suspensions VALUES(?, ?, ?, ?, ?, ?, ?, ?, ?)"
 ANSWERS = "UPDATE operator_commands SET answer = ? WHERE id = ?"
-ASKED = "INSERT INTO operator_commands(key, command, value, at, answer) VALUES(?, ?, ?, ?, ?)"
+REQUESTS = "INSERT INTO operator_commands(key, command, value, at, answer) VALUES(?, ?, ?, ?, ?)"
 NOTES = "UPDATE sagas SET note = ? WHERE id = ? AND note IS NULL"
 UNDONE = """
 UPDATE suspensions SET reason = 'early_undone'
@@ -61,49 +63,57 @@ WHERE id = ? AND step = ? AND action = 'run' AND number = 0 AND reason = 'early_
 CLOSED = "UPDATE shards SET closed = ?, audit = ? WHERE shard = ?"
 SET_ASIDE = "UPDATE shards SET audit = ? WHERE shard = ? AND closed = 0"
 RowsOf = Callable[[int, Rare], Sequence[Sequence[Any]]]
-"""The words of a part of a batch, by the number of its log."""
+"""The parameters of a part of a batch, by the number of its shard."""
 PARTS: dict[str, tuple[str, RowsOf]] = {
-    "held": (HELD, lambda log, of: [cleaned(row) for row in of.held]),
-    "freed": (FREED, lambda log, of: of.freed),
-    "progress": (PROGRESS, lambda log, of: of.progress),
-    "work": ("", lambda log, of: ()),
-    "labels": (LABELS, lambda log, of: of.labels),
-    "shapes": (SHAPES, lambda log, of: of.shapes),
-    "children": (CHILDREN, lambda log, of: of.children),
-    "offers": (OFFERS, lambda log, of: of.offers),
-    "cancelled": (CANCELLED, lambda log, of: of.cancelled),
-    "suspended": (SUSPENDED, lambda log, of: [(at, came) for at, _, came in of.suspended]),
-    "withdrawn": (WITHDRAWN, lambda log, of: ()),
-    "settled": (SETTLED, lambda log, of: [(at, came) for at, _, came in of.settled]),
-    "deliveries": (DELIVERIES, lambda log, of: [cleaned(row) for row in of.deliveries]),
-    "spans": (SPANS, lambda log, of: [cleaned(row) for row in of.spans]),
-    "answers": (ANSWERS, lambda log, of: of.answers),
-    "asked": (ASKED, lambda log, of: [(*row, answer) for row, answer in of.asked]),
-    "notes": (NOTES, lambda log, of: [(clean(note), id) for note, id in of.notes]),
-    "undone": (UNDONE, lambda log, of: of.undone),
-    "closed": (CLOSED, lambda log, of: [(*of.closed, log)] if of.closed else ()),
-    "set_aside": (SET_ASIDE, lambda log, of: [(*of.set_aside, log)] if of.set_aside else ()),
+    "held": (HELD, lambda shard, rare: [cleaned(row) for row in rare.held]),
+    "freed": (FREED, lambda shard, rare: rare.freed),
+    "progress": (PROGRESS, lambda shard, rare: rare.progress),
+    "work": ("", lambda shard, rare: ()),
+    "labels": (LABELS, lambda shard, rare: rare.labels),
+    "shapes": (SHAPES, lambda shard, rare: rare.shapes),
+    "children": (CHILDREN, lambda shard, rare: rare.children),
+    "offers": (OFFERS, lambda shard, rare: rare.offers),
+    "cancelled": (CANCELLED, lambda shard, rare: rare.cancelled),
+    "suspended": (
+        SUSPENDED,
+        lambda shard, rare: [(at, outcome) for at, _, outcome in rare.suspended],
+    ),
+    "withdrawn": (WITHDRAWN, lambda shard, rare: ()),
+    "settled": (SETTLED, lambda shard, rare: [(at, outcome) for at, _, outcome in rare.settled]),
+    "deliveries": (DELIVERIES, lambda shard, rare: [cleaned(row) for row in rare.deliveries]),
+    "spans": (SPANS, lambda shard, rare: [cleaned(row) for row in rare.spans]),
+    "answers": (ANSWERS, lambda shard, rare: rare.answers),
+    "asked": (REQUESTS, lambda shard, rare: [(*row, answer) for row, answer in rare.asked]),
+    "notes": (NOTES, lambda shard, rare: [(clean(note), id) for note, id in rare.notes]),
+    "undone": (UNDONE, lambda shard, rare: rare.undone),
+    "closed": (CLOSED, lambda shard, rare: [(*rare.closed, shard)] if rare.closed else ()),
+    "set_aside": (
+        SET_ASIDE,
+        lambda shard, rare: [(*rare.set_aside, shard)] if rare.set_aside else (),
+    ),
 }
-"""The statement of each part of a batch, in their order. `work` and `withdrawn` are done by
-themselves; definitions are written before all (`define`)."""
+"""The statement of each part of a batch, in order.
+
+`work` and `withdrawn` are handled separately. Definitions are written before all others (`define`).
+"""
 
 
-def define(db: sqlite3.Connection, logs: Iterable[tuple[int, Sequence[Defined]]]) -> None:
-    """Writes definitions of logs, as far as they are not there."""
-    rows = [(log, *one) for log, defined in logs for one in defined]
+def define(db: sqlite3.Connection, shards: Iterable[tuple[int, Sequence[Defined]]]) -> None:
+    """Insert the definitions of shards that are not stored yet."""
+    rows = [(shard, *row) for shard, defined in shards for row in defined]
     if rows:
         db.executemany(DEFINITION, [row[2:] for row in rows])
         db.executemany(DEFINED, [row[:3] for row in rows])
 
 
 def withdraw(db: sqlite3.Connection, withdrawals: Iterable[Withdrawal]) -> None:
-    """Withdraws attempts, as far as no worker has them."""
-    for one in withdrawals:
-        one.is_done = db.execute(WITHDRAWN, (one.attempt,)).rowcount > 0
+    """Withdraw the attempts that no worker has."""
+    for withdrawal in withdrawals:
+        withdrawal.is_done = db.execute(WITHDRAWN, (withdrawal.attempt,)).rowcount > 0
 
 
 @functools.lru_cache(maxsize=256)
 def of_rows(statement: str, width: int, count: int) -> str:
-    """A statement with marks for so many rows."""
+    """Return a statement with marks for this number of rows."""
     row = "?" if width == 1 else f"({', '.join('?' * width)})"
     return statement.format(", ".join([row] * count))

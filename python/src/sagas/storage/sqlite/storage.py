@@ -1,4 +1,4 @@
-"""The file, its lock and its reads."""
+"""A store in a file: its lock and its reads."""
 
 from __future__ import annotations
 
@@ -30,7 +30,7 @@ from sagas.definition.serialization import cleaned
 from sagas.definition.step import Bounds
 from sagas.storage import codec_note, queries
 from sagas.storage.external import ExternalAttempts
-from sagas.storage.interface import Drives, Watcher
+from sagas.storage.interface import FunctionCheck, Watcher
 from sagas.storage.record_file import RecordFile
 from sagas.storage.sqlite import limit_slots
 from sagas.storage.sqlite.external_attempts import SqliteExternalAttempts
@@ -45,18 +45,19 @@ from sagas.storage.sqlite.store_file import (
     lock_of,
     migrate,
     take_lock,
-    there,
-    told,
+    file_identity,
+    describe_error,
 )
 from sagas.storage.sqlite.writer import Writer
 
-LOOK = 0.2  # seconds: another program's commit makes no event here
+LOOK = 0.2  # seconds: another program's commit sends no notification
 MOST_LOOK = 30.0
 
 
 def migrate_file(path: str) -> str:
-    """Migrates a file that no program has open; says from which version. Raises `StoreLocked`,
-    `StoreSchemaTooNew`, `InvalidStore`, `StoreUnavailable`.
+    """Migrate a file that no program has open, and return a text with both versions.
+
+    Raises `StoreLocked`, `StoreSchemaTooNew`, `InvalidStore`, `StoreUnavailable`.
     """
     if not os.path.isfile(path):
         raise InvalidStore(f"{path}: it is not there")
@@ -72,47 +73,47 @@ def migrate_file(path: str) -> str:
 
 
 class Sqlite(queries.Questions, queries.Rows):
-    """The file and its lock. Short reads happen in the loop, long ones in a thread; a `Writer`
-    writes."""
+    """The file and its lock.
+
+    Short reads happen in the loop, and long ones in a thread. A `Writer` writes.
+    """
 
     shared = False
-    takes = 0.0
-    sought = 0
+    commit_seconds = 0.0
+    pending_lookups = 0
     inside = None
     blobs = None
     record: RecordFile | None = None
 
     def __init__(self, path: str | os.PathLike[str], encodes: bool = False) -> None:
-        """`encodes`: whether there is a codec."""
+        """Create a store that is not open yet. `encodes`: whether there is a codec."""
         self.path, self._encodes = os.fspath(path), encodes
         self.file = os.path.abspath(path)
         self._lock: int | None = None
-        self._there: dict[str, tuple[int, int]] = {}  # its files, as they were at the opening
+        self._identities: dict[str, tuple[int, int]] = {}  # of its files when it was opened
         self._timer: asyncio.Handle | None = None
         self._faults = threading.Lock()
         self._next_log = 0
         self.external: ExternalAttempts = SqliteExternalAttempts(self.rows)
         self._writer = writer = Writer(self._check_files)
-        self.commit, self.settle = (
-            writer.commit,
-            writer.settle,
-        )
+        self.commit, self.finish_commit = writer.commit, writer.finish_commit
 
     @property
     def commits(self) -> int:
-        """How many transactions were written."""
+        """The number of transactions that were written."""
         return self._writer.commits
 
     # -- opening and closing
 
-    async def open(self, drives: Drives) -> list[LogRow]:
-        """Takes the lock and makes the tables. Raises `StoreLocked`, `StoreUnavailable`,
-        `InvalidStore` or `MissingStep`.
+    async def open(self, check_functions: FunctionCheck) -> list[LogRow]:
+        """Take the lock and create the tables.
+
+        Raises `StoreLocked`, `StoreUnavailable`, `InvalidStore` or `MissingStep`.
         """
         self._take_lock()
         self._make()
         lengthen(self._db)
-        self._there = {name: there(name) for name in (self.file, f"{self.file}-wal")}
+        self._identities = {name: file_identity(name) for name in (self.file, f"{self.file}-wal")}
         self._writer.open(self._db)
         self._note_codec()
         self._next_log = int(self.rows("SELECT coalesce(max(shard) + 1, 0) FROM shards")[0][0])
@@ -120,21 +121,21 @@ class Sqlite(queries.Questions, queries.Rows):
         completed = self.completed_children()
         for row in rows:
             below = completed.get(row.log, [])
-            lacks = drives(row.texts, self.places(row.log), below) if row.open else None
-            if lacks:
+            missing = check_functions(row.texts, self.places(row.log), below) if row.open else None
+            if missing:
                 count = sum(row.open for row in rows)
-                told = (
+                hint = (
                     f"open sagas: {count:,}; `sagas store {shlex.quote(self.path)} list --phase "
                     "open` lists them"
                 )
                 raise MissingStep(
-                    f"{self.path}: {lacks}. Declare it again, or let the older program finish "
-                    f"them with open(..., accept_new=False); {told}"
+                    f"{self.path}: {missing}. Declare it again, or let the older program finish "
+                    f"them with open(..., accept_new=False); {hint}"
                 )
         return rows
 
     def _make(self) -> int:
-        """Makes the tables; returns their version before."""
+        """Create the tables, and return their version before."""
         try:
             self._db = connect(self.file)
             self._db.execute("PRAGMA journal_mode=WAL")
@@ -144,21 +145,23 @@ class Sqlite(queries.Questions, queries.Rows):
         except sqlite3.DatabaseError as error:
             self._drop_lock()
             if isinstance(error, sqlite3.OperationalError):
-                raise StoreUnavailable(f"{self.path}: {told(error)}") from error
+                raise StoreUnavailable(f"{self.path}: {describe_error(error)}") from error
             raise InvalidStore(f"{self.path}: {error}") from error
         except BaseException:
             self._drop_lock()
             raise
 
     def _note_codec(self) -> None:
-        """Notes that values are encoded. Raises `MissingCodec` where they are, and there is no
-        codec."""
+        """Store that values are encoded.
+
+        Raises `MissingCodec` if they are encoded, and there is no codec.
+        """
         try:
             is_noted = bool(self._db.execute(codec_note.NOTED).fetchall())
             if self._encodes and not is_noted:
                 self._db.execute(codec_note.NOTE)
         except sqlite3.Error as error:
-            raise StoreUnavailable(f"{self.path}: {told(error)}") from error
+            raise StoreUnavailable(f"{self.path}: {describe_error(error)}") from error
         if is_noted and not self._encodes:
             raise codec_note.missing(self.path)
 
@@ -174,7 +177,7 @@ class Sqlite(queries.Questions, queries.Rows):
                 else f"another program{f' (process {holder})' if holder else ''}"
             )
             raise StoreLocked(f"{self.path}: {who} has this store open. Close it first")
-        with contextlib.suppress(OSError):  # it is only told
+        with contextlib.suppress(OSError):  # the process id is only for messages
             os.ftruncate(self._lock, 0)
             os.pwrite(self._lock, str(os.getpid()).encode(), 0)
 
@@ -184,7 +187,7 @@ class Sqlite(queries.Questions, queries.Rows):
             self._lock = None
 
     async def secret(self) -> bytes:
-        """As `Database.secret`. No commit may be under way."""
+        """See `Database.secret`. No commit may be under way."""
         try:
             self._db.execute(
                 "INSERT OR IGNORE INTO secrets VALUES ('leases', ?)", (secrets.token_hex(32),)
@@ -194,10 +197,10 @@ class Sqlite(queries.Questions, queries.Rows):
         return bytes.fromhex(self.rows("SELECT value FROM secrets WHERE name = 'leases'")[0][0])
 
     def peers(self) -> None:
-        """There are no others."""
+        """Return None: a file has no other nodes."""
 
     def watch(self, watcher: Watcher) -> None:
-        """Looks for requests that other programs left, where the file has changed."""
+        """Look for requests of other programs whenever the file has changed."""
         loop, version = asyncio.get_running_loop(), -1
 
         def look() -> None:
@@ -215,11 +218,13 @@ class Sqlite(queries.Questions, queries.Rows):
         self._timer = loop.call_soon(look)
 
     def _check_files(self) -> None:
-        """Where one was deleted or replaced, SQLite would write on into what nobody will find:
-        from then on nothing is. Raises `StoreUnavailable`.
+        """Check that no file of the store was deleted or replaced.
+
+        SQLite would continue to write into the deleted file, and the data would be lost. So nothing
+        is written from then on. Raises `StoreUnavailable`.
         """
-        for name, was in self._there.items():
-            if there(name) != was:
+        for name, identity in self._identities.items():
+            if file_identity(name) != identity:
                 remedy = (
                     "nothing is written any more. Close the store, restore the file (a copy with "
                     "its -wal, or a backup), and open it again"
@@ -228,13 +233,16 @@ class Sqlite(queries.Questions, queries.Rows):
                     f"{self.path}: {name} was deleted or replaced while the store was open, so "
                     f"{remedy}"
                 )
-        if self._writer.fault:
-            raise self._writer.fault
+        if self._writer.failure:
+            raise self._writer.failure
 
     def _look_for_lock(self) -> None:
-        """Where it was deleted another program could open the store: it is made again."""
+        """Create the lock file again if it was deleted.
+
+        Without it another program could open the store.
+        """
         lock = self._lock
-        if lock is None or there(lock_of(self.file)) == there(lock):
+        if lock is None or file_identity(lock_of(self.file)) == file_identity(lock):
             return
         self._lock = None
         try:
@@ -246,16 +254,19 @@ class Sqlite(queries.Questions, queries.Rows):
             private.discard(lock)
             os.close(lock)
 
-    def _give_up(self, why: str) -> None:
-        """The first reason stays. Either thread may see it."""
+    def _give_up(self, reason: str) -> None:
+        """Write nothing any more, for this reason.
+
+        The first reason stays. Both threads call this.
+        """
         with self._faults:
-            if self._writer.fault:
+            if self._writer.failure:
                 return
-            self._writer.fault = StoreUnavailable(why)
-        logger.critical("%s", why)
+            self._writer.failure = StoreUnavailable(reason)
+        logger.critical("%s", reason)
 
     async def close(self) -> None:
-        """Ends the writer behind what it was given."""
+        """Close after the commits that were given to the writer."""
         if self._timer:
             self._timer.cancel()
         if self._lock is None:
@@ -268,28 +279,27 @@ class Sqlite(queries.Questions, queries.Rows):
 
     # -- writing
 
-    def new_log(self) -> int:
-        """The number of a log that is to be born."""
+    def new_shard(self) -> int:
+        """Return the number of a shard that is about to be created."""
         self._next_log += 1
         return self._next_log - 1
 
     @property
-    def line(self) -> str:
-        """A file has none."""
+    def timeline(self) -> str:
+        """A file has no timeline."""
         return ""
 
     def holds(self) -> bool:
-        """The lock is held until the end."""
+        """Return True: the lock is held until the end."""
         return True
 
     async def admit(self, name: str, bounds: Bounds, want: int, have: Sequence[int]) -> Grant:
-        """Places of a step: this program is the fleet."""
+        """Take slots of a step: this program is the only node."""
         places = limit_slots.free(bounds.concurrency, want, have) if bounds.concurrency else []
         count, pause = len(places) if bounds.concurrency else want, MOST_LOOK
         if bounds.rate_limit and count:
-            connected = functools.partial(
-                connect, self.file, "NORMAL"
-            )  # a program that is killed has counted
+            # a killed program has counted its calls, since only a crash of the machine loses them
+            connected = functools.partial(connect, self.file, "NORMAL")
             count, pause = await asyncio.to_thread(
                 limit_slots.take, connected, self.path, name, bounds.rate_limit, count, time.time()
             )
@@ -297,95 +307,106 @@ class Sqlite(queries.Questions, queries.Rows):
 
     # -- reading
 
-    def rows(self, query: str, *words: Any) -> list[tuple[Any, ...]]:
-        """Rows of the reader. Raises `StoreUnavailable` where the file cannot be read."""
-        return self._read(self._reader, query, cleaned(words))
+    def rows(self, query: str, *parameters: Any) -> list[tuple[Any, ...]]:
+        """Return the rows of a query on the reading connection.
+
+        Raises `StoreUnavailable` if the file cannot be read.
+        """
+        return self._read(self._reader, query, cleaned(parameters))
 
     def _read(
-        self, db: sqlite3.Connection, query: str, words: Sequence[Any]
+        self, db: sqlite3.Connection, query: str, parameters: Sequence[Any]
     ) -> list[tuple[Any, ...]]:
         try:
-            return db.execute(query, words).fetchall()
+            return db.execute(query, parameters).fetchall()
         except sqlite3.Error as error:
             raise StoreUnavailable(f"{self.path}: {error}") from error
 
     def find_many(self, keys: Sequence[str]) -> dict[str, SagaRow]:
-        """The sagas with these keys, by key, as far as they are there."""
-        return self.found(
+        """Return the sagas that have these keys, by key."""
+        return self.find_in_batches(
             keys, functools.partial(self._read, self._writer.reader() or self._reader)
         )
 
-    async def read(self, query: str, *words: Any) -> list[tuple[Any, ...]]:
-        """As `rows`: the file is at hand."""
-        return self.rows(query, *words)
+    async def read(self, query: str, *parameters: Any) -> list[tuple[Any, ...]]:
+        """See `rows`: the file can be read at once."""
+        return self.rows(query, *parameters)
 
-    async def read_long(self, query: str, *words: Any) -> list[tuple[Any, ...]]:
+    async def read_long(self, query: str, *parameters: Any) -> list[tuple[Any, ...]]:
         """As `read`, in a thread."""
-        return await asyncio.to_thread(self._read_apart, query, words)
+        return await asyncio.to_thread(self._read_apart, query, parameters)
 
-    def _read_apart(self, query: str, words: Sequence[Any]) -> list[tuple[Any, ...]]:
+    def _read_apart(self, query: str, parameters: Sequence[Any]) -> list[tuple[Any, ...]]:
         with contextlib.closing(self.reader()) as reader:
-            return reader.rows(query, *words)
+            return reader.rows(query, *parameters)
 
     def reader(self) -> Reader:
-        """Another connection, for a thread that only reads."""
+        """Return another connection, for a thread that only reads."""
         return Reader(self.file)
 
-    def forget(self, log: int) -> None:
-        """Nothing is known but what is read."""
+    def forget(self, shard: int) -> None:
+        """Do nothing: all that is known was just read."""
 
-    async def spare(self, log: int) -> bool:
-        """There is nobody else."""
+    async def spare(self, shard: int) -> bool:
+        """Return False: there are no other nodes."""
         return False
 
-    async def take_up(self, log: int, epoch: int) -> tuple[str, int]:
-        """A log's lines and how many events they are, for who will write behind it: nobody else
-        writes this file. No lines of it may be on their way."""
-        text, self._writer.events[log] = queries.joined(self.rows(queries.LINES, log))
-        return text, self._writer.events[log]
+    async def take_up(self, shard: int, epoch: int) -> tuple[str, int]:
+        """Return a shard's event log and its number of events. See `Database.take_up`.
 
-    async def load(self, log: int, epoch: int, born: Born | None) -> Loaded:
-        """A log as a pump takes it up. No batch of it may be on its way."""
-        within = queries.bounds(log)
-        text, events = await self.take_up(log, epoch)
+        No commit of the shard may be on its way.
+        """
+        text, self._writer.events[shard] = queries.joined(self.rows(queries.LINES, shard))
+        return text, self._writer.events[shard]
+
+    async def load(self, shard: int, epoch: int, born: Born | None) -> Loaded:
+        """Load a shard. No batch of it may be on its way."""
+        within = queries.bounds(shard)
+        text, events = await self.take_up(shard, epoch)
         opened = self.rows(queries.COUNT, *within)[0][0]
         open, results, held = (
             self.rows(query, *within)
             for query in (queries.OPEN_SAGAS, queries.OPEN_RESULTS, queries.OPEN_HELD)
         )
         loaded = Loaded(text, events, opened, open, results, held, epoch)  # type: ignore[arg-type]
-        loaded.definitions = self.rows(queries.DEFINITIONS, log)[0][0]
+        loaded.definitions = self.rows(queries.DEFINITIONS, shard)[0][0]
         loaded.damage = queries.damage_of(text, events)
         return loaded
 
     async def find(self, key: str) -> SagaRow | None:
-        """The saga with this key."""
+        """Return the saga with this key."""
         return self.find_now(key)
 
-    async def requests(self, after: int, most: int) -> list[Request]:
-        """What was asked and has no answer."""
-        return self.rows(queries.REQUESTS, after, most)  # type: ignore[return-value]
+    async def requests(self, after: int, limit: int) -> list[Request]:
+        """Return the requests without an answer."""
+        return self.rows(queries.REQUESTS, after, limit)  # type: ignore[return-value]
 
     async def starts(
-        self, most: int, under_way: Sequence[int] | None, left: Sequence[int] = ()
+        self, limit: int, under_way: Sequence[int] | None, left: Sequence[int] = ()
     ) -> list[Start]:
-        """None: who starts a saga has the store open."""
+        """Return no starts: a program that starts a saga has the store open."""
         return []
 
-    async def give_back(self, start: int, why: str | None) -> None:
-        """There are none."""
+    async def give_back(self, start: int, reason: str | None) -> None:
+        """A file has no starts of clients."""
         raise NotImplementedError
 
-    async def ask(self, row: SagaRow, what: str, value: str, payloads: Payloads) -> Any:
-        """Nobody else has the sagas of a file, so the shard of this one is set aside."""
+    async def ask(self, row: SagaRow, command: str, value: str, payloads: Payloads) -> Any:
+        """Raise `OwnerUnavailable`: the shard of this saga is set aside.
+
+        No other node could own the sagas of a file.
+        """
         raise OwnerUnavailable(
             f"saga {row.key!r} is not executed, because its shard is damaged. Repair the shard, or "
             "delete it: `sagas store STORE attention` lists its sagas"
         )
 
     async def replicated(self) -> None:
-        """A file has no standby."""
+        """Return at once: a file has no standby."""
 
-    async def news(self, id: int, turn: int) -> None:
-        """A saga ends when its shard, which is set aside, is repaired: that is seldom."""
+    async def wait_for_end(self, id: int, turn: int) -> None:
+        """Pause: the saga ends when its shard is repaired.
+
+        The shard is set aside, so that seldom happens.
+        """
         await asyncio.sleep(min(MOST_LOOK, LOOK * 2 ** min(turn, 10)))

@@ -19,17 +19,25 @@ from sagas.storage.sqlite.writer import BUSY, CHECKPOINT, LONG
 
 FRAME = 24  # bytes before each page of a WAL
 LENGTH = CHECKPOINT + LONG * 3 // 4
-"""Pages: where the WAL has just fewer than are moved, commits go on in the loop until the thread
-has the next one."""
+"""The initial length of the WAL, in pages.
+
+If the WAL has just fewer pages than a checkpoint needs, commits continue in the loop until the
+thread makes the next one.
+"""
 LOOKS = 1.0
-"""Seconds that a program waits at most for commands that look whether one has the store open."""
+"""Seconds that a program waits at most for commands that check whether a program has the store
+open.
+"""
 RIGHTS = "this user must be able to read and write it, and to write to its folder"
 
 
 def connect(path: str, synchronous: str = "FULL") -> sqlite3.Connection:
-    """A connection that commits where it is told to. A file that it makes is its user's alone, and
-    so are those that SQLite makes for it."""
-    with contextlib.suppress(OSError):  # it is there, or SQLite says why it cannot be
+    """Return a connection that commits explicitly.
+
+    Only the user of the process may read a file that this creates, or the files that SQLite creates
+    for it.
+    """
+    with contextlib.suppress(OSError):  # it exists, or SQLite reports the error
         os.close(os.open(path, os.O_RDWR | os.O_CREAT | os.O_EXCL | os.O_CLOEXEC, 0o600))
     db = sqlite3.connect(
         path,
@@ -39,13 +47,16 @@ def connect(path: str, synchronous: str = "FULL") -> sqlite3.Connection:
         timeout=BUSY / 1000,
     )
     db.execute(f"PRAGMA synchronous={synchronous}")
-    # (else a sync ends in the disk's own memory on macOS; no other system has a difference)
+    # (on macOS, a sync would otherwise end in the disk's cache)
     db.execute("PRAGMA fullfsync=ON")
     return db
 
 
-def told(error: sqlite3.Error) -> str:
-    """What SQLite says, and what to do about it where the file cannot be opened or written."""
+def describe_error(error: sqlite3.Error) -> str:
+    """Return SQLite's message.
+
+    If the file cannot be opened or written, the message also says what to do.
+    """
     text = str(error)
     if is_of_disk(error):
         return f"{text}. Make room if the disk is full, and check it otherwise"
@@ -53,17 +64,21 @@ def told(error: sqlite3.Error) -> str:
 
 
 def is_of_disk(error: sqlite3.Error) -> bool:
-    """Whether the disk is full, or could not be read or written: of the file it says nothing."""
+    """Whether the disk is full, or could not be read or written.
+
+    Such an error says nothing about the file.
+    """
     code = getattr(error, "sqlite_errorcode", 0) & 0xFF
     return code in (sqlite3.SQLITE_FULL, sqlite3.SQLITE_IOERR)
 
 
 def check_file(path: str) -> None:
-    """Looks at what is there, before anything is made beside it. Raises `InvalidStore` where it is
-    no store, and `StoreUnavailable` where this user may not read it.
+    """Check an existing file, before anything is created next to it.
 
-    By SQLite: to close a file that this program has open there as well would drop the locks on
-    it.
+    Raises `InvalidStore` if it is not a store, and `StoreUnavailable` if this user may not read it.
+
+    The check uses SQLite. If this program has the file open, closing it in another way would drop
+    its locks.
     """
     if os.path.isdir(path):
         raise InvalidStore(f"{path}: this is a folder. Name a file in it")
@@ -82,7 +97,7 @@ def check_file(path: str) -> None:
         with contextlib.closing(sqlite3.connect(uri, uri=True)) as db:
             check_tables(db, path)
     except sqlite3.Error as error:
-        # of anything else, as a page that another program writes just now, the opening itself tells
+        # opening reports all other errors, as of a page that another program is just writing
         if getattr(error, "sqlite_errorcode", None) == sqlite3.SQLITE_NOTADB:
             raise InvalidStore(
                 f"{path}: {error}. Give the path of a store, or of a file that does not exist"
@@ -90,7 +105,7 @@ def check_file(path: str) -> None:
 
 
 def check_tables(db: sqlite3.Connection, path: str) -> None:
-    """Raises `InvalidStore` where a database has tables, and these are not a store's."""
+    """Raise `InvalidStore` if a database has tables, and they are not those of a store."""
     (version,) = db.execute("PRAGMA user_version").fetchone()
     names = {name for (name,) in db.execute("SELECT name FROM sqlite_master")}
     if names and (not version or "sagas" not in names):
@@ -101,15 +116,17 @@ def check_tables(db: sqlite3.Connection, path: str) -> None:
 
 
 def lock_of(path: str | os.PathLike[str]) -> str:
-    """The file that the program that has a store open holds: one for all links to the store, as
-    SQLite has one WAL for them.
+    """Return the lock file that the program with an open store holds.
+
+    All links to the store have the same one, as they have the same WAL.
     """
     return f"{os.path.realpath(path)}.lock"
 
 
 def open_lock(path: str, access: int) -> int:
-    """Opens a file that is there to be locked, and makes it where it is missing. A forked child
-    does not keep it. Raises `StoreUnavailable`.
+    """Open a lock file, or create it if it is missing.
+
+    A forked process does not keep it open. Raises `StoreUnavailable`.
     """
     try:
         lock = os.open(path, access | os.O_CREAT | os.O_CLOEXEC, 0o644)
@@ -134,9 +151,10 @@ def open_lock(path: str, access: int) -> int:
 
 
 def take_lock(path: str, access: int = os.O_RDWR) -> int | None:
-    """Locks a file for this program, and makes it where it is missing; None where another one has
-    it. Commands that look (`is_held`) share the lock for a moment, and are waited for. Raises
-    `StoreUnavailable`.
+    """Lock a file for this program, and create it if it is missing.
+
+    Return None if another program has the lock. Commands that check the lock (`is_held`) share it
+    for a moment, and this waits for them. Raises `StoreUnavailable`.
     """
     lock, end = open_lock(path, access), time.monotonic() + LOOKS
     try:
@@ -153,7 +171,7 @@ def take_lock(path: str, access: int = os.O_RDWR) -> int | None:
 
 
 def try_lock(lock: int, manner: int) -> bool:
-    """Takes a lock if it is free. False where it is not."""
+    """Take a lock if it is free. Return False otherwise."""
     try:
         fcntl.flock(lock, manner | fcntl.LOCK_NB)
     except BlockingIOError:
@@ -162,7 +180,7 @@ def try_lock(lock: int, manner: int) -> bool:
 
 
 def holder_of(path: str) -> str:
-    """The number of the process that has a lock, or that had it last, as far as that is told."""
+    """Return the number of the process that has a lock, or had it last, if it is known."""
     try:
         text = pathlib.Path(path).read_text(encoding="utf-8", errors="replace")
     except OSError:
@@ -171,7 +189,7 @@ def holder_of(path: str) -> str:
 
 
 def close_lock(lock: int) -> None:
-    """Ends a lock, also where a process that was just forked still has it."""
+    """Release a lock. A process that was just forked may still have it open."""
     private.discard(lock)
     with contextlib.suppress(OSError):
         fcntl.flock(lock, fcntl.LOCK_UN)
@@ -184,25 +202,25 @@ def is_held(path: str | os.PathLike[str]) -> bool:
         lock = os.open(lock_of(path), os.O_RDONLY | os.O_CLOEXEC)
     except FileNotFoundError:
         return False
-    except OSError:  # another user's: a program may have it
+    except OSError:  # it belongs to another user: a program may hold it
         return True
-    try:  # shared, so that two looks do not take each other for a program
+    try:  # shared, so that two checks do not take each other for a program
         return not try_lock(lock, fcntl.LOCK_SH)
     finally:
         os.close(lock)
 
 
-def there(path: str | int) -> tuple[int, int]:
-    """Which file has this name, or descriptor; none where there is no such."""
+def file_identity(path: str | int) -> tuple[int, int]:
+    """Return the device and inode of a path or descriptor; zeros if the file is missing."""
     try:
-        found = os.stat(path)
+        status = os.stat(path)
     except OSError:
         return 0, 0
-    return found.st_dev, found.st_ino
+    return status.st_dev, status.st_ino
 
 
 def owner_of(path: str) -> str | None:
-    """Whose file it is, where it is another user's."""
+    """Return the owner of a file, if it is another user."""
     try:
         user = os.stat(path).st_uid
     except OSError:
@@ -216,8 +234,9 @@ def owner_of(path: str) -> str | None:
 
 
 def migrate(db: sqlite3.Connection, path: str) -> int:
-    """Makes the tables where there are none, in one transaction; returns the version that was
-    there. Raises `StoreSchemaTooNew` and `InvalidStore`.
+    """Create missing tables in one transaction, and return the version before.
+
+    Raises `StoreSchemaTooNew` and `InvalidStore`.
     """
     db.execute("BEGIN IMMEDIATE")
     version = int(db.execute("PRAGMA user_version").fetchone()[0])
@@ -235,30 +254,31 @@ def migrate(db: sqlite3.Connection, path: str) -> int:
         for statement in statements():
             db.execute(statement)
     db.execute(STARTED)
-    db.execute(f"PRAGMA user_version = {VERSION}")  # also where it is so: the file can be written
+    # written even if it is the same, to check that the file can be written
+    db.execute(f"PRAGMA user_version = {VERSION}")
     db.execute("COMMIT")
     return version
 
 
 def lengthen(db: sqlite3.Connection) -> None:
-    """Makes the WAL as long as it becomes before it is moved into the file: a commit that
-    lengthens its file takes the disk about twice as long.
+    """Extend the WAL to the length at which it is moved into the file.
 
-    What is filled in is no commit to SQLite, and stands under a writer's lock, so that nobody
-    else writes there. Where there is no room, it is left.
+    A commit that extends its file takes the disk about twice as long.
+
+    SQLite does not take the added bytes for a commit. They are written under the writer's lock, so
+    that no other program writes there. If the disk is full, the WAL is left as it is.
     """
     db.execute("BEGIN IMMEDIATE")
     try:
         path = db.execute("PRAGMA database_list").fetchone()[2]
         page = db.execute("PRAGMA page_size").fetchone()[0]
-        with contextlib.suppress(OSError), open(
-            f"{path}-wal", "r+b", buffering=0
-        ) as wal:  # to close it drops no lock: SQLite has none on this file
+        # closing the WAL drops no lock: SQLite has none on it
+        with contextlib.suppress(OSError), open(f"{path}-wal", "r+b", buffering=0) as wal:
             size = wal.seek(0, os.SEEK_END)
             zeros = bytes(max(0, LENGTH * (page + FRAME) - size))
             if wal.write(zeros) < len(zeros):
                 wal.truncate(size)
-            getattr(os, "fdatasync", os.fsync)(wal.fileno())  # macOS has the second alone
+            getattr(os, "fdatasync", os.fsync)(wal.fileno())  # macOS has only the second
     finally:
         db.execute("ROLLBACK")
 
@@ -276,10 +296,10 @@ class Reader:
             timeout=BUSY / 1000,
         )
 
-    def rows(self, query: str, *words: Any) -> list[tuple[Any, ...]]:
-        """Rows of a query. Raises `StoreUnavailable` where the file cannot be read."""
+    def rows(self, query: str, *parameters: Any) -> list[tuple[Any, ...]]:
+        """Return the rows of a query. Raises `StoreUnavailable` if the file cannot be read."""
         try:
-            return self._db.execute(query, cleaned(words)).fetchall()
+            return self._db.execute(query, cleaned(parameters)).fetchall()
         except sqlite3.Error as error:
             raise StoreUnavailable(f"{self._path}: {error}") from error
 

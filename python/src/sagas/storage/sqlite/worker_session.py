@@ -1,4 +1,4 @@
-"""A worker's session with the file."""
+"""A worker's session with a store's file."""
 
 from __future__ import annotations
 
@@ -15,29 +15,27 @@ from sagas.definition.step import Function
 from sagas.storage.sqlite.external_attempts import REPORT
 from sagas.storage.worker_session import BEGIN, fetched
 
-BUSY = (
-    1.0  # seconds that a worker waits while others write, before it looks how long that has gone on
-)
+BUSY = 1.0
+"""Seconds that a worker waits for other writers in one try."""
 
 
-class SqliteDesk:
+class SqliteWorkerSession:
     """A worker's connection to the file, for one thread."""
 
     def __init__(self, path: str) -> None:
         self.path = os.path.abspath(path)
         self._db: sqlite3.Connection | None = None
 
-    def _ask(self, text: str, words: Any) -> list[tuple[Any, ...]]:
+    def _ask(self, text: str, parameters: Any) -> list[tuple[Any, ...]]:
         try:
             if self._db is None:
-                # without `create`: a file that is not there is another store
+                # without `create`: a missing file would be another store
                 self._db = sqlite3.connect(
                     f"file:{quote(self.path)}?mode=rw", uri=True, isolation_level=None, timeout=BUSY
                 )
-                self._db.execute(
-                    "PRAGMA synchronous=NORMAL"
-                )  # the owner's next commit syncs it; what a crash loses is ordered again
-            return self._db.execute(text, words).fetchall()
+                # the owner's next commit syncs the report, and lost attempts are ordered again
+                self._db.execute("PRAGMA synchronous=NORMAL")
+            return self._db.execute(text, parameters).fetchall()
         except sqlite3.Error as error:
             self.close()
             if not os.path.exists(self.path):
@@ -48,17 +46,18 @@ class SqliteDesk:
             raise StoreUnavailable(f"{self.path}: {error}") from error
 
     def begin(self, order: Order) -> Begun | None:
-        """The texts that the order does not carry; None where the attempt is settled. Raises
-        `WrongStore`, `StoreUnavailable`.
+        """Return the texts that the order does not contain.
+
+        Return None if the attempt is closed. Raises `WrongStore`, `StoreUnavailable`.
         """
         return fetched(order, self._ask(BEGIN, (order.token, order.log)), self._one, self.path)
 
-    def _one(self, text: str, *words: Any) -> str:
-        rows = self._ask(text, words)
+    def _one(self, text: str, *parameters: Any) -> str:
+        rows = self._ask(text, parameters)
         return str(rows[0][0]) if rows and rows[0][0] is not None else "null"
 
     def report(self, order: Order, outcome: Outcome) -> None:
-        """Writes how it ended, in one statement. Raises `StoreUnavailable`."""
+        """Store the outcome in one statement. Raises `StoreUnavailable`."""
         self._ask(
             REPORT,
             {
@@ -70,11 +69,11 @@ class SqliteDesk:
         )
 
     def within(self, order: Order, function: Function) -> Function:
-        """There is none over SQLite: `open` refused it."""
+        """Raise an error: a file has no transactions of steps, and `open` refuses them."""
         raise WrongStore(f"{self.path}: transaction=True needs PostgreSQL")
 
     def close(self) -> None:
-        """Drops the connection."""
+        """Close the connection."""
         db, self._db = self._db, None
         if db is not None:
             with contextlib.suppress(sqlite3.Error):

@@ -1,8 +1,7 @@
-"""The one writer: commits in the loop while the disk is fast, else in a thread.
+"""The only writer of a store's file.
 
-The one writer of a store's file: what waits goes into one transaction. The rows of a small one
-are put where it was asked for, and as long as the disk is fast it is committed there; else a
-thread does.
+All batches that wait go into one transaction. The loop inserts the rows of a small transaction.
+While the disk is fast, the loop also commits it. Otherwise a thread commits.
 """
 
 from __future__ import annotations
@@ -20,22 +19,22 @@ from collections.abc import Callable, Iterable, Sequence
 from typing import Any
 
 from sagas.core.batch import Batch, Ended, Rare
-from sagas.storage.interface import Then
+from sagas.storage.interface import CommitCallback
 from sagas.storage.sqlite import statements
 
 BUSY = 5000  # ms: an operator's command may be writing
 CHECKPOINT = 750
-"""Pages: a WAL of so many is moved into the file by the next commit of the thread, which takes
-as long as some ten commits.
+"""Pages of the WAL at which the thread's next commit moves it into the file.
+
+That takes as long as about ten commits.
 """
 MOST = 6000
-"""Pages: a WAL of so many, as large values make it, is moved by the next commit, wherever that
-is made.
+"""Pages of the WAL at which any next commit moves it into the file.
+
+Large values make it that long.
 """
 LONG = 1000
-"""Pages that the loop writes into the WAL, as far as it knows, until a commit is made in the
-thread for that.
-"""
+"""Pages that the loop writes into the WAL, by its estimate, before the thread commits once."""
 ROWS = (
     *range(1, 17),
     *range(20, 33, 4),
@@ -44,38 +43,48 @@ ROWS = (
     *range(160, 257, 32),
     *range(320, 513, 64),
 )
-"""Of a statement: few numbers, so that their statements are kept, and close, so that few
-statements make any number.
+"""The numbers of rows of a statement.
+
+They are few, so that the statements stay cached, and close together, so that few statements make
+any number.
 """
 FEW_ROWS = 1000
-"""So many results and sagas are put in the loop: a thread waits at each statement for the
-interpreter's lock, and gets it when the loop has nothing to do, which is later than the rows
-take.
+"""Maximum number of results and sagas that the loop inserts.
+
+A thread waits at each statement for the interpreter's lock. It gets the lock when the loop has
+nothing to do, and that takes longer than the rows do.
 """
 AT_ONCE = 0.002
-"""Seconds: where the disk took longer for the last commits of the loop's, those behind them are
-made in the thread. That cannot tell how long the disk takes, since it also waits for the
-interpreter's lock: so after some of them the loop tries again.
+"""Seconds: if the loop's last commits took the disk longer, the thread makes the next ones.
+
+The thread cannot measure the disk, since it also waits for the interpreter's lock. So after some
+commits the loop tries again.
 """
-LAST = 0.125  # a commit's part in how long the last ones took: a single slow one is no slow disk
-FORGET = 0.97  # of what the disk took, a commit of the thread's
+LAST = 0.125  # a commit's weight in the average: a single slow one does not make a slow disk
+FORGET = 0.97  # the factor of the average at each commit of the thread
 NONE: frozenset[int] = frozenset()
 Events = dict[int, int]
-"""How many events each log has."""
-Put = tuple[Events, frozenset[int]]
-"""What a transaction brings the logs to, and those of which it has nothing: they began a saga
-without a look for its key, which is another's.
+"""The number of events of each shard."""
+PutResult = tuple[Events, frozenset[int]]
+"""The number of events of each shard after a transaction, and the lost shards.
+
+Nothing of a lost shard is written. It opened a saga without a lookup of its key, and another saga
+has the key.
 """
 
 
 class Gap(Exception):
-    """A batch does not join on to its log: a fault of this package, and nothing is written."""
+    """A batch does not follow its shard's log: an error of this package.
+
+    Nothing is written.
+    """
 
 
 class Writer:
-    """Has the connection that writes, from `open` on. `events`: how many each log has, by what
-    was read or written last. `check`: called before each commit, in either thread, and raises
-    where its files are not those that were opened.
+    """Owns the connection that writes, once `open` was called.
+
+    `events` has the number of events of each shard that was read or written last. `check` is called
+    before each commit, in either thread. It raises if the store's files were replaced.
     """
 
     _db: sqlite3.Connection
@@ -86,42 +95,42 @@ class Writer:
         self.commits = 0
         self.events: dict[int, int] = {}
         self._jobs: queue.SimpleQueue[
-            tuple[Sequence[Batch], Then, Put | None] | None
+            tuple[Sequence[Batch], CommitCallback, PutResult | None] | None
         ] = queue.SimpleQueue()
-        self._took = AT_ONCE  # seconds, by the last commits of the loop's
-        self._patient: bool | None = None  # waits for other programs, as the connection is set
-        self._moves: bool | None = None  # moves the WAL into the file, as the connection is set
-        self._lent = False  # the thread has the connection
-        self._pages = 0  # that the loop wrote into the WAL, about
+        self._took = AT_ONCE  # seconds, the average of the loop's last commits
+        self._patient: bool | None = None  # whether the connection waits for other programs
+        self._moves: bool | None = None  # whether the connection moves the WAL into the file
+        self._lent = False  # whether the thread has the connection
+        self._pages = 0  # estimate of the pages that the loop wrote into the WAL
         self._over: tuple[
-            Then, Sequence[Batch], BaseException | None, frozenset[int]
-        ] | None = None  # a commit of the loop's, whose `then` is to be called
-        self.fault: Exception | None = None
+            CommitCallback, Sequence[Batch], BaseException | None, frozenset[int]
+        ] | None = None  # a commit of the loop whose `then` is to be called
+        self.failure: Exception | None = None
         """Why nothing is written any more."""
 
     def open(self, db: sqlite3.Connection) -> None:
-        """Begins to write."""
+        """Start the thread."""
         self._db, self._loop = db, asyncio.get_running_loop()
-        self._execute = db.cursor().execute  # one cursor for all that gives no rows
+        self._execute = db.cursor().execute  # one cursor for all statements without rows
         self._thread = threading.Thread(target=self._work, name="sagas-writer", daemon=True)
         self._thread.start()
 
     def close(self) -> None:
-        """Ends behind what it was given."""
+        """Close after the commits that were given."""
         if self._thread:
             self._jobs.put(None)
             self._thread.join()
 
-    def commit(self, batches: Sequence[Batch], then: Then, now: bool) -> None:
-        """As `Database.commit`."""
+    def commit(self, batches: Sequence[Batch], then: CommitCallback, now: bool) -> None:
+        """See `CommitWriter.commit`."""
         rows = 0
         for batch in batches:
             rows += len(batch.results) + len(batch.opened)
-        fault: Exception | None = None
+        failure: Exception | None = None
         lost = NONE
         try:
-            if self.fault:
-                raise self.fault
+            if self.failure:
+                raise self.failure
             put = self._put_here(batches) if rows <= FEW_ROWS else None
             if put is None or not self._sync_here(put[0], rows):
                 self._pages, self._lent = 0, True
@@ -129,82 +138,91 @@ class Writer:
                 return
             lost = put[1]
         except Exception as error:
-            fault = error
-        except BaseException as error:  # Ctrl-C, say: nobody knows how far it came
+            failure = error
+        except BaseException as error:  # for example Ctrl-C: it is unknown how far it came
             self._over = then, batches, error, NONE
             raise
         if now:
-            then(batches, fault, lost)
+            then(batches, failure, lost)
         else:
-            self._over = then, batches, fault, lost
+            self._over = then, batches, failure, lost
 
-    def _put_here(self, batches: Sequence[Batch]) -> Put | None:
-        """As `_put`; None where somebody else writes just now."""
+    def _put_here(self, batches: Sequence[Batch]) -> PutResult | None:
+        """Insert the rows in the loop. Return None if another program is just writing."""
         try:
             return self._put(batches, patient=False)
-        except sqlite3.OperationalError as fault:
-            if fault.sqlite_errorcode & 0xFF == sqlite3.SQLITE_BUSY:
+        except sqlite3.OperationalError as failure:
+            if failure.sqlite_errorcode & 0xFF == sqlite3.SQLITE_BUSY:
                 return None
             raise
 
     def _sync_here(self, events: Events, rows: int) -> bool:
-        """As `_sync`, if the disk is fast, and the WAL need not be moved; whether it was done. (In
-        instructions a saga of three steps, 2026-11-28: 18 % less than by the thread; 7 % at 16.)
+        """Commit in the loop if the disk is fast and the WAL need not be moved.
+
+        Return whether that was done. Measured on 2026-11-28: a saga of three steps takes 18 % fewer
+        instructions than with the thread, and 7 % fewer if there are 16 sagas at a time.
         """
         if self._took >= AT_ONCE or self._pages >= LONG:
             return False
         self._pages += 1 + math.isqrt(
             4 * rows
-        )  # about as many as they are: rows share pages with their neighbours
+        )  # an estimate: rows share pages with their neighbors
         took = self._sync(events, patient=False)
         self._took += LAST * (took - self._took)
         if self._took >= AT_ONCE:
             self._took = max(took, self._took)
         return True
 
-    def settle(self) -> None:
-        """As `Database.settle`."""
+    def finish_commit(self) -> None:
+        """See `CommitWriter.finish_commit`."""
         if self._over:
-            (then, batches, fault, lost), self._over = self._over, None
-            then(batches, fault, lost)
+            (then, batches, failure, lost), self._over = self._over, None
+            then(batches, failure, lost)
 
     def _work(self) -> None:
         while (job := self._jobs.get()) is not None:
             batches, then, put = job
-            fault, lost = self._try(batches, put)
+            failure, lost = self._try(batches, put)
             self._took *= FORGET
             with contextlib.suppress(RuntimeError):  # the loop is closed
-                self._loop.call_soon_threadsafe(self._done, batches, then, fault, lost)
+                self._loop.call_soon_threadsafe(self._done, batches, then, failure, lost)
 
     def _try(
-        self, batches: Sequence[Batch], put: Put | None
+        self, batches: Sequence[Batch], put: PutResult | None
     ) -> tuple[Exception | None, frozenset[int]]:
-        """Ends a transaction, of which all rows are there if they were `put`; gives the logs of
-        which it has nothing, or what kept it from being: that is told to the coordinator, which
-        begins again from the database.
+        """End a transaction. If it was `put`, all its rows are inserted.
+
+        Return the error, or the lost shards. The coordinator gets the error, and loads its shards
+        again.
         """
         try:
             events, lost = self._put(batches, patient=True) if put is None else put
             self._sync(events, patient=True)
-        except Exception as fault:
-            return fault, NONE
+        except Exception as failure:
+            return failure, NONE
         return None, lost
 
     def _done(
-        self, batches: Sequence[Batch], then: Then, fault: Exception | None, lost: frozenset[int]
+        self,
+        batches: Sequence[Batch],
+        then: CommitCallback,
+        failure: Exception | None,
+        lost: frozenset[int],
     ) -> None:
         self._lent = False
-        then(batches, fault, lost)
+        then(batches, failure, lost)
 
     def reader(self) -> sqlite3.Connection | None:
-        """The connection, to read by where it is not writing: it knows what it wrote, and
-        another one would have to look.
+        """Return the connection, for reads while it is not writing.
+
+        It knows its own writes. Another connection would have to look for them.
         """
         return None if self._lent else self._db
 
-    def _put(self, batches: Sequence[Batch], patient: bool) -> Put:
-        """Begins a transaction, and puts the rows of all into it. `patient`: it waits for
-        another program's commit.
+    def _put(self, batches: Sequence[Batch], patient: bool) -> PutResult:
+        """Begin a transaction, and insert all rows.
+
+        With `patient`, it waits for another program's commit.
         """
         try:
             self._begin(patient)
@@ -217,9 +235,12 @@ class Writer:
 
     def _put_those_that_may(
         self, batches: Sequence[Batch], patient: bool, error: sqlite3.IntegrityError
-    ) -> Put:
-        """Begins anew, with the rows of all logs but those that guessed wrong (`Batch.guessed`),
-        or have an attempt that a worker reported otherwise (`Rare.settled`)."""
+    ) -> PutResult:
+        """Begin again, without the shards that cannot be written.
+
+        They guessed a key that is taken (`Batch.guessed`), or a worker reported another outcome of
+        an attempt (`Rare.settled`).
+        """
         try:
             self._roll_back()
             self._begin(patient)
@@ -233,10 +254,13 @@ class Writer:
             raise
 
     def _is_refused(self, batch: Batch) -> bool:
-        """Whether a saga has a key that it guessed to be free, or a worker has reported *done* of
-        an attempt that came to something else."""
+        """Whether a shard's batch cannot be written.
+
+        A key that it guessed to be free is taken, or a worker reported a success of an attempt with
+        another outcome.
+        """
         settled = batch.rare.settled if batch.rare else ()
-        tokens = [token for token, _, came in settled if came is None]
+        tokens = [token for token, _, outcome in settled if outcome is None]
         is_done = (self._db.execute(statements.DONE, (token,)).fetchone() for token in tokens)
         return any(map(self._has, batch.guessed)) or any(is_done)
 
@@ -252,8 +276,9 @@ class Writer:
         self._execute("BEGIN IMMEDIATE")
 
     def _sync(self, events: Events, patient: bool) -> float:
-        """Commits what was put; gives how many seconds the disk took. `patient`: it may move the
-        WAL into the file.
+        """Commit the transaction, and return how many seconds the disk took.
+
+        With `patient`, it may move the WAL into the file.
         """
         try:
             if patient != self._moves:
@@ -271,13 +296,13 @@ class Writer:
         return time.perf_counter() - began
 
     def _roll_back(self) -> None:
-        """A transaction that fails is as if it had never begun."""
+        """Undo a failed transaction."""
         if self._db.in_transaction:
             with contextlib.suppress(sqlite3.Error):
                 self._execute("ROLLBACK")
 
     def _put_rows(self, batches: Sequence[Batch]) -> Events:
-        """Writes the rows of all; gives how many events the logs have then."""
+        """Insert all rows, and return the number of events of each shard then."""
         events: Events = {}
         if len(batches) == 1:
             (batch,) = batches
@@ -287,15 +312,15 @@ class Writer:
             opened = [row for batch in batches for row in batch.opened]
             results = [row for batch in batches for row in batch.results]
             ended = [row for batch in batches for row in batch.ended]
-            logs: dict[int, list[Batch]] = {}
+            shards: dict[int, list[Batch]] = {}
             for batch in batches:
-                logs.setdefault(batch.log, []).append(batch)
-            for of in logs.values():
+                shards.setdefault(batch.log, []).append(batch)
+            for of in shards.values():
                 self._put_lines(of, events)
         if opened:
-            self._lots(statements.OPENED, 8, opened)
+            self._put_many(statements.OPENED, 8, opened)
         if results:
-            self._lots(statements.RESULTS, 7, results)
+            self._put_many(statements.RESULTS, 7, results)
         if ended:
             self._put_ended(ended)
         for batch in batches:
@@ -305,27 +330,30 @@ class Writer:
         return events
 
     def _put_lines(self, batches: Sequence[Batch], events: Events) -> None:
-        """Writes the lines of batches of one log, as one row; how many events it has then goes
-        into `events`.
+        """Insert the lines of batches of one shard, as one row.
+
+        The shard's new number of events goes into `events`.
         """
-        log = batches[0].log
-        had = has = self.events.get(log, 0)
+        shard = batches[0].log
+        had = has = self.events.get(shard, 0)
         for batch in batches:
             if batch.born:
                 name, defined = batch.born
-                statements.define(self._db, [(log, defined)])
-                self._execute("INSERT OR IGNORE INTO shards(shard, name) VALUES(?, ?)", (log, name))
+                statements.define(self._db, [(shard, defined)])
+                self._execute(
+                    "INSERT OR IGNORE INTO shards(shard, name) VALUES(?, ?)", (shard, name)
+                )
             if batch.text:
                 if batch.first != has:
-                    raise Gap(f"shard {log}: event {batch.first} behind {has}")
+                    raise Gap(f"shard {shard}: event {batch.first} follows event {has}")
                 has += batch.text.count("\n")
         if has > had:
             text = batch.text if len(batches) == 1 else "".join([batch.text for batch in batches])
-            self._execute(statements.LINES, (log, had, batch.at, text))
-            events[log] = has
+            self._execute(statements.LINES, (shard, had, batch.at, text))
+            events[shard] = has
 
     def _put_ended(self, rows: Sequence[Ended]) -> None:
-        """Most of them ended in the same way, and at the same time."""
+        """Update ended sagas. Most of them ended in the same way, and at the same time."""
         if len(rows) == 1:
             self._execute(statements.of_rows(statements.ENDED, 1, 1), rows[0])
             return
@@ -333,43 +361,48 @@ class Writer:
         for row in rows:
             ways.setdefault(row[:-1], []).append((row[-1],))
         for way, ids in ways.items():
-            self._lots(statements.ENDED, 1, ids, way)
+            self._put_many(statements.ENDED, 1, ids, way)
 
     def _put_rare(self, rare: Sequence[tuple[int, Rare]]) -> None:
-        """Of the logs with these numbers."""
-        has = {part for _, of in rare for part in of.parts}
+        """Write the rare parts of shards with these numbers."""
+        has = {part for _, parts in rare for part in parts.parts}
         if "defined" in has:
-            statements.define(self._db, ((log, of.defined) for log, of in rare))
+            statements.define(self._db, ((shard, parts.defined) for shard, parts in rare))
         for part, (statement, rows_of) in statements.PARTS.items():
             if part == "work" and part in has:
-                for _, of in rare:
-                    for work in of.work:
+                for _, parts in rare:
+                    for work in parts.work:
                         work(self._db)
             elif part == "withdrawn" and part in has:
-                for _, of in rare:
-                    statements.withdraw(self._db, of.withdrawn)
+                for _, parts in rare:
+                    statements.withdraw(self._db, parts.withdrawn)
             elif part in has:
-                self._many(statement, [rows_of(log, of) for log, of in rare])
+                self._many(statement, [rows_of(shard, parts) for shard, parts in rare])
 
     def _many(self, statement: str, lists: Iterable[Sequence[Sequence[Any]]]) -> None:
         rows = [row for rows in lists for row in rows]
         if rows:
             self._db.executemany(statement, rows)
 
-    def _lots(
-        self, statement: str, width: int, rows: Sequence[Sequence[Any]], words: Sequence[Any] = ()
+    def _put_many(
+        self,
+        statement: str,
+        width: int,
+        rows: Sequence[Sequence[Any]],
+        parameters: Sequence[Any] = (),
     ) -> None:
-        """As `_many`, by a statement for many rows: one for each row takes longer, and gives up
-        the interpreter's lock each time. `words` stand before them.
+        """Insert rows by a statement for many rows. `parameters` come before them.
+
+        One statement for each row takes longer, and releases the interpreter's lock each time.
         """
-        if len(rows) == 1 and not words:
+        if len(rows) == 1 and not parameters:
             self._execute(statements.of_rows(statement, width, 1), rows[0])
             return
-        place = 0
-        while place < len(rows):
-            count = ROWS[bisect.bisect_right(ROWS, len(rows) - place) - 1]
+        first = 0
+        while first < len(rows):
+            count = ROWS[bisect.bisect_right(ROWS, len(rows) - first) - 1]
             self._execute(
                 statements.of_rows(statement, width, count),
-                [*words, *itertools.chain.from_iterable(rows[place : place + count])],
+                [*parameters, *itertools.chain.from_iterable(rows[first : first + count])],
             )
-            place += count
+            first += count
