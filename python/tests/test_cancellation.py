@@ -172,8 +172,8 @@ def test_what_is_wrong_with_progress_is_told_to_the_function() -> None:
         ((0.5, 7), TypeError),
     ]:
         with pytest.raises(error):
-            control.tell(*words)  # type: ignore[arg-type]
-    control.tell(0.25, "x" * 300)
+            control.set_progress(*words)  # type: ignore[arg-type]
+    control.set_progress(0.25, "x" * 300)
     assert control.progress == (0.25, "x" * 200) and str(control.progress).startswith("25% xx")
     assert pickle.loads(pickle.dumps(control)).progress is None
 

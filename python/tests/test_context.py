@@ -17,7 +17,7 @@ from test_service_workers import working
 
 import sagas
 import sagas.testing
-from sagas.definition.task import Told
+from sagas.definition.task import TaskSnapshot
 
 
 class Clients:
@@ -226,7 +226,7 @@ def test_a_store_without_one_says_so(tmp_path: pathlib.Path) -> None:
         in end.errors["asks"]
     )
     copied = pickle.loads(
-        pickle.dumps(sagas.Task(Told("s", "k", "a", False, 1, "t-0", "1", {}, None)))
+        pickle.dumps(sagas.Task(TaskSnapshot("s", "k", "a", False, 1, "t-0", "1", {}, None)))
     )
     with pytest.raises(RuntimeError, match="this task is a copy in another process"):
         copied.context

@@ -36,7 +36,7 @@ from shaped import (
 
 import sagas
 from sagas.definition import serialization
-from sagas.definition.shelf import Fitted, Shelf
+from sagas.definition.shelf import Fitted, DefinitionRegistry
 
 
 def names(saga: sagas.Saga, input: Any) -> dict[str, list[str]]:
@@ -555,7 +555,7 @@ def test_a_wrong_type_of_items_is_found(tmp_path: pathlib.Path) -> None:
     assert "ItemTask[Order, Letter]" in error and "ItemTask[Any, Parcel]" in error
 
 
-def fitted(shelf: Shelf, saga: sagas.Saga, text: str) -> Fitted:
+def fitted(shelf: DefinitionRegistry, saga: sagas.Saga, text: str) -> Fitted:
     """The definition of a saga with an input, whose functions are called here."""
     return shelf.fit(saga, text) or shelf.shaped(text, shelf.shaping(saga, text)())
 
@@ -583,7 +583,7 @@ def test_definitions_that_differ_in_costs_share_the_rest() -> None:
         for count in range(3)
         for last in (0, 1)
     ]
-    shelf, again = Shelf([saga]), Shelf([saga])
+    shelf, again = DefinitionRegistry([saga]), DefinitionRegistry([saga])
     kinds = [fitted(shelf, saga, serialization.write(given)).kind for given in inputs]
     shared: dict[int, list[str]] = {}
     for given, kind in zip(inputs, kinds):

@@ -26,7 +26,7 @@ from sagas.core.model import Attempt, SagaInstance
 from sagas.core.outcomes import Outcome
 from sagas.core.states import Action
 from sagas.definition import children, serialization
-from sagas.definition.compiled import Word
+from sagas.definition.compiled import ActionKey
 from sagas.definition.validation import meant
 from sagas.runtime import current_step, operator_commands
 from sagas.storage import operator_requests
@@ -208,7 +208,7 @@ class Commands:
 
     async def _asked(
         self, live: SagaInstance, step: str, kind: str, outcome: Outcome
-    ) -> Attempt | Word | None:
+    ) -> Attempt | ActionKey | None:
         """The attempt that is under way; the step's word where none has begun; None where it was
         said before that the step ended so. Raises `Moved` where its end is on its way to the
         store."""
@@ -234,7 +234,7 @@ class Commands:
         await self._check_not_begun(live, word)
         return word
 
-    async def _check_not_begun(self, live: SagaInstance, word: Word) -> None:
+    async def _check_not_begun(self, live: SagaInstance, word: ActionKey) -> None:
         """Raises `Moved` where an attempt of it began since the store was read, or its report is
         on its way there."""
         inside = self._access.inside
@@ -248,7 +248,7 @@ class Commands:
             raise Moved(f"saga {live.key!r}")
 
     async def _report_early(
-        self, live: SagaInstance, word: Word, outcome: Outcome, request: Wanted, early: bool
+        self, live: SagaInstance, word: ActionKey, outcome: Outcome, request: Wanted, early: bool
     ) -> None:
         """Stores a report of a step that has not begun. Raises `StepNotWaiting`, or `Moved` where
         that is to be looked at again."""
@@ -293,7 +293,7 @@ class Commands:
         await check_again(inside.store.read, row, names, (step, kind), outcome, payloads)
 
 
-def _over(live: SagaInstance, rows: Iterable[tuple[Any, ...]], word: Word) -> str | None:
+def _over(live: SagaInstance, rows: Iterable[tuple[Any, ...]], word: ActionKey) -> str | None:
     """How a step ended of which no attempt is under way; None where it has not."""
     over = step_reports.over_by(rows, *word)
     undo = live.busy.get((word[0], "undo")) if over and word[1] == "run" else None

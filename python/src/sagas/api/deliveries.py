@@ -8,7 +8,7 @@ from collections.abc import Callable
 from sagas.api.store_access import StoreAccess
 from sagas.core.announcements import ENDS
 from sagas.definition.compiled import Hooks
-from sagas.definition.shelf import Shelf
+from sagas.definition.shelf import DefinitionRegistry
 from sagas.storage import deliveries as table
 from sagas.storage.deliveries import Claimed, Posted
 
@@ -20,7 +20,7 @@ class Deliveries:
     which the store was opened; each raises `StoreUnavailable` and `Closed`.
     """
 
-    def __init__(self, access: StoreAccess, shelf: Shelf) -> None:
+    def __init__(self, access: StoreAccess, shelf: DefinitionRegistry) -> None:
         self._access, self._shelf = access, shelf
 
     @property

@@ -11,11 +11,11 @@ from sagas.api.store_access import StoreAccess
 from sagas.base.errors import Closed, KeyConflict, StoreUnavailable
 from sagas.core.model import SagaInstance
 from sagas.definition import arguments, children, serialization, start_options, undo_sagas
-from sagas.definition.compiled import Kind
+from sagas.definition.compiled import CompiledDefinition
 from sagas.definition.labels import Labels, checked, with_token
 from sagas.definition.payloads import ABSENT
 from sagas.definition.saga import Saga
-from sagas.definition.shelf import Fitted, Shelf
+from sagas.definition.shelf import Fitted, DefinitionRegistry
 from sagas.definition.start_options import Deadline, StartOptions, deadline_at
 from sagas.runtime import relocation
 from sagas.runtime.coordinator import Coordinator
@@ -29,7 +29,7 @@ class Starter:
     there."""
 
     def __init__(
-        self, access: StoreAccess, lookup: SagaLookup, shelf: Shelf, accepts_new: bool
+        self, access: StoreAccess, lookup: SagaLookup, shelf: DefinitionRegistry, accepts_new: bool
     ) -> None:
         self._access, self._lookup, self._shelf = access, lookup, shelf
         self.accepts_new = accepts_new
@@ -64,13 +64,15 @@ class Starter:
             return self._shape(inside, saga, key, text, options, self.accepts_new)
         return self._start(inside, saga, fitted, key, text, options, self.accepts_new)
 
-    def start_child(self, saga: Saga | Kind, key: str, input: Any, options: StartOptions) -> Begun:
+    def start_child(
+        self, saga: Saga | CompiledDefinition, key: str, input: Any, options: StartOptions
+    ) -> Begun:
         """Starts a child, also where the store starts no new sagas: its parent is not new. What
         undoes a child comes as its definition."""
         inside = self._access.here()
         arguments.key(key, or_child=True)
         # the input of a saga that undoes a child has the child's results
-        if isinstance(saga, Kind):
+        if isinstance(saga, CompiledDefinition):
             text = serialization.write(input, "input")
             return self._start(
                 inside, saga, Fitted(saga, None, None), key, text, options, accepts=True
@@ -98,7 +100,7 @@ class Starter:
     def _start(
         self,
         inside: Coordinator,
-        saga: Saga | Kind,
+        saga: Saga | CompiledDefinition,
         fitted: Fitted,
         key: str,
         text: str,
@@ -119,7 +121,7 @@ class Starter:
     async def _look(
         self,
         inside: Coordinator,
-        saga: Saga | Kind,
+        saga: Saga | CompiledDefinition,
         fitted: Fitted,
         key: str,
         text: str,

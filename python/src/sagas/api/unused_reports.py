@@ -16,12 +16,12 @@ from sagas.core.batch import Batch, Known, SagaRow, Wanted
 from sagas.core.states import Action, EarlyReason
 from sagas.definition import children, report_undos, serialization, tokens
 from sagas.definition.capacity import SHARD_CAPACITY
-from sagas.definition.compiled import Kind
+from sagas.definition.compiled import CompiledDefinition
 from sagas.definition.labels import TOKEN
 from sagas.definition.shape_values import ShapeValues
 from sagas.definition.start_options import StartOptions
 from sagas.definition.task import Task
-from sagas.definition.task_data import Told
+from sagas.definition.task_data import TaskSnapshot
 from sagas.definition.validation import meant
 from sagas.runtime import given_values, stored_values
 from sagas.storage import operator_requests
@@ -117,7 +117,7 @@ class UnusedReports:
         return row
 
     async def _input(
-        self, row: SagaRow, known: Known, kind: Kind, step: int, text: str
+        self, row: SagaRow, known: Known, kind: CompiledDefinition, step: int, text: str
     ) -> dict[str, Any]:
         """The input of the saga that undoes a report. It is the same whoever makes it."""
         decode, name = kind.payloads.decode, kind.names[step]
@@ -126,12 +126,12 @@ class UnusedReports:
         token = tokens.saga_token(shard, row.id % SHARD_CAPACITY)
         given = decode(await stored_values.input_of(store, row.id, row.input))
         values = ShapeValues() if known.shape is None else ShapeValues.read(decode(known.shape))
-        place = kind.place(name, values, given)
+        place = kind.location(name, values, given)
         done = {at: value for at, _, _, event, value, _ in known.results if event == "commit"}
         below = [at for at in kind.below[step] if at in done]
         results = {kind.names[at]: decode(done[at] or "null") for at in below}
         task: Task[Any] = Task(
-            Told(
+            TaskSnapshot(
                 kind.name,
                 row.key,
                 name,
@@ -141,7 +141,7 @@ class UnusedReports:
                 place.input if place else given,
                 results,
                 decode(text),
-                place=place,
+                location=place,
             )
         )
         plain = task.plain

@@ -162,8 +162,8 @@ class Worker:
             there = self._steps.get(word)
             if there is not None:
                 where = (
-                    f"{validation.place(function) or '?'} and "
-                    f"{validation.place(there.function) or '?'}"
+                    f"{validation.location_of(function) or '?'} and "
+                    f"{validation.location_of(there.function) or '?'}"
                 )
                 raise DefinitionError(f"{word} is declared twice, at {where}. Remove one of them")
             self._steps[word] = WorkerStep(function, unknown, cancel_on_abort)
@@ -385,7 +385,7 @@ class Worker:
                 self._rests.notify_all()
 
     def _renew(self, one: Held, seconds: float) -> None:
-        url, told = self.url, one.task.news()
+        url, told = self.url, one.task.take_progress()
         more = {"progress": told.fraction, "detail": told.detail} if told else {}
         path = f"/v1/tasks/{one.attempt_id}/heartbeat"
         body = {"lease": one.lease, "seconds": seconds, **more}

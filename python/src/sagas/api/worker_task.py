@@ -15,10 +15,10 @@ from sagas.base.errors import NotSerializable
 from sagas.core import outcomes
 from sagas.core.states import OutcomeKind
 from sagas.definition import awaitables, context, serialization
-from sagas.definition.task_data import Told
+from sagas.definition.task_data import TaskSnapshot
 from sagas.definition.arguments import shown
 from sagas.definition.context import Context
-from sagas.definition.place import ToldPlace
+from sagas.definition.place import RemoteStepLocation
 from sagas.definition.step import Unknowns
 from sagas.definition.task import Task
 from sagas.definition.tracing import Tracer
@@ -93,7 +93,7 @@ def task_of(told: dict[str, Any], shared: Context) -> Task[Any]:
     results = {name: serialization.write(value) for name, value in told["results"].items()}
     result = serialization.write(told["result"]) if undo else None
     task: Task[Any] = Task(
-        Told(
+        TaskSnapshot(
             told["definition"],
             told["key"],
             step,
@@ -106,7 +106,7 @@ def task_of(told: dict[str, Any], shared: Context) -> Task[Any]:
             deadline=told.get("deadline"),
             traceparent=told.get("traceparent"),
             context=shared,
-            place=None if told.get("shape") is None else ToldPlace(told),
+            location=None if told.get("shape") is None else RemoteStepLocation(told),
         )
     )
     if reason := told.get("cancelled"):
@@ -146,7 +146,7 @@ def _outcome(
     try:
         result = manner.function(task)
         if inspect.isawaitable(result):
-            result = asyncio.run(_awaited(manner, task, awaitables.whole(result)))
+            result = asyncio.run(_awaited(manner, task, awaitables.awaited(result)))
     except asyncio.CancelledError:
         return "unknown", {"error": "cancelled, since the saga was aborted"}, None
     except BaseException as error:  # sys.exit() too is only the function's: its thread goes on

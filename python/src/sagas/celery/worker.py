@@ -17,9 +17,9 @@ from sagas.core.dispatch import Begun, Order, Settled
 from sagas.core.outcomes import Outcome
 from sagas.core.states import OutcomeKind
 from sagas.definition import awaitables, children, decoders, tokens, tracing
-from sagas.definition.task_data import Told
-from sagas.definition.compiled import Kind
-from sagas.definition.place import Place
+from sagas.definition.task_data import TaskSnapshot
+from sagas.definition.compiled import CompiledDefinition
+from sagas.definition.place import StepLocation
 from sagas.definition.shape_values import ShapeValues
 from sagas.definition.step import Function, Manner, Step
 from sagas.definition.task import Task
@@ -38,7 +38,7 @@ class Work:
 
     def __init__(self, queue: Queue, step: Step[Any], kind: str, manner: Manner) -> None:
         self.queue, self.step, self.kind, self.manner = queue, step, kind, manner
-        self._kind: Kind | None = None
+        self._kind: CompiledDefinition | None = None
         """The last definition whose steps come from an input."""
 
     @functools.cached_property
@@ -122,7 +122,7 @@ class Work:
             span.ended(outcome.kind.value, outcomes.fault(outcome), outcome.error)
             return outcome
 
-    def _place(self, order: Order, begun: Begun) -> tuple[Place | None, Decoders]:
+    def _location(self, order: Order, begun: Begun) -> tuple[StepLocation | None, Decoders]:
         """Where the step is, if the saga's steps come from its input, and how results are read."""
         if begun.shape is None:
             return None, self.decoders
@@ -130,30 +130,30 @@ class Work:
         kind = self._kind
         if kind is None or kind.text != text:
             root = self.step.saga.outer(order.saga, order.version)
-            kind = self._kind = Kind(text, root)
+            kind = self._kind = CompiledDefinition(text, root)
         values = ShapeValues() if shape == "null" else ShapeValues.read(shape)
-        return kind.place(order.step, values, begun.input), kind.decoders
+        return kind.location(order.step, values, begun.input), kind.decoders
 
     def _task(self, order: Order, begun: Begun) -> Task[Any]:
         """What the function is handed."""
         undo, token = self.kind == "undo", tokens.saga_token(order.log, order.number)
-        place, decoders = self._place(order, begun)
+        location, decoders = self._location(order, begun)
         return Task(
-            Told(
+            TaskSnapshot(
                 order.saga,
                 order.key,
                 order.step,
                 undo,
                 order.attempt,
                 token,
-                place.input if place else begun.input,
+                location.input if location else begun.input,
                 begun.results,
                 begun.result,
                 self.hint,
                 decoders,
                 order.deadline,
                 traceparent=order.traceparent,
-                place=place,
+                location=location,
             )
         )
 
@@ -177,7 +177,7 @@ def _call(function: Function, manner: Manner, task: Task[Any]) -> Outcome:
     try:
         value = function(task)
         return outcomes.succeeded(
-            asyncio.run(awaitables.whole(value)) if inspect.isawaitable(value) else value, task
+            asyncio.run(awaitables.awaited(value)) if inspect.isawaitable(value) else value, task
         )
     except Settled:
         raise

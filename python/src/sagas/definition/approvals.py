@@ -100,7 +100,7 @@ def answering(function: Callable[[Any], Any]) -> Callable[[Any], Any]:
 
 
 async def _awaited(value: Awaitable[Any]) -> Any:
-    return _answer(await awaitables.whole(value))
+    return _answer(await awaitables.awaited(value))
 
 
 def _answer(value: Any) -> Any:

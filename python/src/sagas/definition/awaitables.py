@@ -9,7 +9,7 @@ from typing import Any
 is_async = functools.lru_cache(maxsize=4096)(inspect.iscoroutinefunction)
 
 
-async def whole(value: Any) -> Any:
+async def awaited(value: Any) -> Any:
     """Return what a function's result comes to: whatever can be awaited (a coroutine, a task, a
     future) is awaited, as if the function had done it.
     """
@@ -18,7 +18,7 @@ async def whole(value: Any) -> Any:
     return value
 
 
-def whole_now(value: Any) -> Any:
+def plain_result(value: Any) -> Any:
     """Return the result of a plain function in a transaction, which is over before anything could
     be awaited.
 

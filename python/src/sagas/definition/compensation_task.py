@@ -10,7 +10,7 @@ from typing import TYPE_CHECKING, Any
 from sagas.definition import children, decoders
 from sagas.definition.decoders import Decoder
 from sagas.definition.task import Task
-from sagas.definition.task_data import Told
+from sagas.definition.task_data import TaskSnapshot
 
 if TYPE_CHECKING:
     from sagas.definition.step import Step
@@ -33,10 +33,10 @@ def of(
         hint: How the child's input is read (default: as JSON).
         known: How the results of the child's steps are read (default: as JSON).
     """
-    given, about = task.input, task._about
+    given, about = task.input, task._data
     results = {name: json.dumps(value) for name, value in given["results"].items()}
     found: Task[Any] = Task(
-        Told(
+        TaskSnapshot(
             saga=child,
             key=given["key"],
             name=task.step,

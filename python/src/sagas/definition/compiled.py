@@ -22,17 +22,17 @@ from sagas.definition import (
     undo_text,
 )
 from sagas.definition.context import Context
-from sagas.definition.declaration import Declared
+from sagas.definition.declaration import Declaration
 from sagas.definition.decoders import Decoder
 from sagas.definition.layout import Layout
 from sagas.definition.payloads import PLAIN as PLAIN_PAYLOADS
 from sagas.definition.payloads import Payloads
-from sagas.definition.place import Place
+from sagas.definition.place import StepLocation
 from sagas.definition.saga import Saga
 from sagas.definition.shape_values import ShapeValues
 from sagas.definition.step import Function, Step
 
-Word = tuple[int, str]
+ActionKey = tuple[int, str]
 """A step's number, and `run` or `undo`."""
 VERSION = re.compile(r"# version (\d+)\n")
 NAME = re.compile(r'^name = "(.*)"$', re.M)
@@ -68,12 +68,12 @@ def _simple(step: Step[Any] | None, word: str, is_fair: bool) -> Function | None
     return step.manner(word).function if step.manner(word).is_simple else None
 
 
-def _fault(text: str, hint: Decoder) -> mismatches.Misfit | None:
+def _fault(text: str, hint: Decoder) -> mismatches.Mismatch | None:
     """Why a stored value cannot be read, where it cannot."""
     try:
         hint(serialization.read(text))
     except NameError as error:
-        return mismatches.Misfit(f": {error}")
+        return mismatches.Mismatch(f": {error}")
     except Exception as error:  # of the type's own code
         return mismatches.of(error)
     return None
@@ -105,7 +105,7 @@ class Action:
     def __init__(
         self,
         name: str,
-        word: Word,
+        word: ActionKey,
         step: Step[Any] | None,
         given: list[tuple[int, str]],
         hint: Decoder | None,
@@ -126,7 +126,7 @@ Hooks = Mapping[str, tuple[str, ...]]
 """The webhooks that are told, by the type of what is told."""
 
 
-class Kind:
+class CompiledDefinition:
     """A definition on a log's shelf. `steps` has None where the program has no such step any
     more. `context`: what their functions share; `payloads`: how their values are stored; `hooks`:
     who is told of its sagas; `undoes`: the name of the child that its sagas undo, or None.
@@ -138,11 +138,11 @@ class Kind:
         saga: Saga | None,
         context: Context | None = None,
         payloads: Payloads = PLAIN_PAYLOADS,
-        declared: Declared | None = None,
+        declared: Declaration | None = None,
     ) -> None:
         self.payloads = payloads
         self.hooks: Hooks = {}
-        self.declared = declared or Declared(saga)
+        self.declared = declared or Declaration(saga)
         is_shaped = shape_text.is_shaped(text)
         listed = shape_text.steps(text) if is_shaped else tomllib.loads(text)["step"]
         self.layout: Layout | None = shape_text.layout(text, listed) if is_shaped else None
@@ -157,9 +157,9 @@ class Kind:
             kind: [int(step.get(word, 1)) for step in listed]
             for kind, word in (("run", "tries"), ("undo", "undo_tries"))
         }
-        place = {name: number for number, name in enumerate(self.names)}
+        number_of = {name: number for number, name in enumerate(self.names)}
         self.below = self._below(
-            [[place[need] for need in step.get("needs", ())] for step in listed]
+            [[number_of[need] for need in step.get("needs", ())] for step in listed]
         )
         told_hints = [self.declared.hints(step) for step in self.steps]
         self.inputs = [hint for hint, _, _ in told_hints]
@@ -192,9 +192,9 @@ class Kind:
         # stored values are made into others
         self.reads = bool(payloads.reads or self.decoders or any(self.inputs) or any(undo_inputs))
 
-    def with_costs(self, text: str) -> Kind:
+    def with_costs(self, text: str) -> CompiledDefinition:
         """Return the definition of a text that differs from this one's in its costs alone."""
-        kind = Kind.__new__(Kind)
+        kind = CompiledDefinition.__new__(CompiledDefinition)
         kind.__dict__ |= self.__dict__  # nothing else in it comes from costs
         kind.text = text
         return kind
@@ -202,22 +202,22 @@ class Kind:
     def _declared_steps(self, saga: Saga | None) -> list[Step[Any] | None]:
         """The steps as the program has them."""
         if self.layout is not None:
-            return [self.declared.step(spot) for spot in self.layout.spots.values()]
+            return [self.declared.step(spot) for spot in self.layout.origins.values()]
         plain = shape_validation.plain_steps(saga) if saga else {}
         return [plain.get(name) for name in self.names]
 
-    def place(self, step: str, values: ShapeValues, input: str) -> Place | None:
+    def location(self, step: str, values: ShapeValues, input: str) -> StepLocation | None:
         """Where a step of a saga is, by the step's name, what is kept of the saga's shape, and its
         input; None where its steps do not come from the input.
         """
         if self.layout is None:
             return None
-        return Place(self.layout.spots[step], self.layout, values, self.declared, input)
+        return StepLocation(self.layout.origins[step], self.layout, values, self.declared, input)
 
     def declared_name(self, step: int) -> str:
         """The name with which a step was declared, by its number: `hotel/room`."""
         name = self.names[step]
-        return name if self.layout is None else self.layout.spots[name].declared
+        return name if self.layout is None else self.layout.origins[name].declared
 
     @property
     def saga(self) -> Saga | None:

@@ -140,11 +140,11 @@ class Control:
         """In another process nobody hears of it."""
         return Control, ()
 
-    def tell(self, fraction: float, detail: str | None = None) -> None:
+    def set_progress(self, fraction: float, detail: str | None = None) -> None:
         """Keep how far it is. Raises as `checked`."""
         self.progress, self.is_new = checked(fraction, detail), True
 
-    def news(self) -> Progress | None:
+    def take_progress(self) -> Progress | None:
         """Return how far it is, if that was not asked for since it was told."""
         told, self.is_new = self.progress if self.is_new else None, False
         return told

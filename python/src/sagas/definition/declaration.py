@@ -1,4 +1,4 @@
-"""`Declared`: the declared steps of a definition, and the types of what they read."""
+"""`Declaration`: the declared steps of a definition, and the types of what they read."""
 
 from __future__ import annotations
 
@@ -7,7 +7,7 @@ from typing import TYPE_CHECKING, Any
 
 from sagas.definition import children, decoders, item_types, joins
 from sagas.definition.decoders import Decoder
-from sagas.definition.layout import Scope, Spot
+from sagas.definition.layout import Scope, StepOrigin
 from sagas.definition.parts import FanOut, Inclusion
 
 if TYPE_CHECKING:
@@ -21,7 +21,7 @@ Hints = tuple[Decoder | None, Decoder | None, Decoder | None]
 """How a step's input is read, its result, and the input of its compensation."""
 
 
-class Declared:
+class Declaration:
     """A saga as the program declares it today, by the places of steps. What it finds is kept: the
     definitions of all its shapes ask for the same.
     """
@@ -44,7 +44,7 @@ class Declared:
         saga = self._within(names)
         return None if saga is None else saga.parts_by_name.get(name)
 
-    def step(self, spot: Spot) -> Step[Any] | None:
+    def step(self, spot: StepOrigin) -> Step[Any] | None:
         """The step that is declared at a place; None where there is none any more, or it is there
         for items, or is not, as the definition does not have it.
         """
@@ -94,7 +94,7 @@ class Declared:
             self._inputs[saga] = saga.input_decoder
         return self._inputs[saga]
 
-    def item(self, spot: Spot) -> Decoder | None:
+    def item(self, spot: StepOrigin) -> Decoder | None:
         """How the items of a step, or of an inclusion, are read."""
         part = self._part(tuple(name for name, _ in spot.scope), spot.name)
         if part is None:

@@ -18,7 +18,7 @@ from typing import Any
 
 from sagas.base.errors import NotSerializable
 from sagas.definition import mismatches, type_checks
-from sagas.definition.mismatches import Misfit
+from sagas.definition.mismatches import Mismatch
 
 Decoder = Callable[[Any], Any]
 _MADE: dict[Any, type] = {
@@ -167,7 +167,7 @@ def _named_leaf(make: Decoder, why: str) -> Decoder:
         try:
             return make(value)
         except Exception:
-            raise Misfit(why) from None
+            raise Mismatch(why) from None
 
     return read
 
@@ -194,7 +194,7 @@ def _of_dataclass(hint: Any, whole: Any) -> Decoder:
 
     def make(value: Any) -> Any:
         if not isinstance(value, dict):
-            raise Misfit(f": {hint.__name__} requires an object")
+            raise Mismatch(f": {hint.__name__} requires an object")
         if not parts:  # at the first value, since a class may name itself
             told = type_checks.field_hints(whole)
             parts.update(
@@ -217,7 +217,7 @@ def _of_dataclass(hint: Any, whole: Any) -> Decoder:
             return hint(**given)
         except Exception as error:
             lacks = mismatches.lacking(value, hint)
-            raise lacks or Misfit(
+            raise lacks or Mismatch(
                 f": {hint.__name__} rejects it ({type(error).__name__})"
             ) from None
 
@@ -229,7 +229,7 @@ def _of_named_tuple(hint: Any) -> Decoder:
         told = typing.get_type_hints(hint)
         parts = [decoder(told.get(name)) or _same for name in hint._fields]
         if not isinstance(value, (list, tuple)) or len(value) != len(parts):
-            raise Misfit(f": {hint.__name__} requires a list of {len(parts)}")
+            raise Mismatch(f": {hint.__name__} requires a list of {len(parts)}")
         return hint(*_each(value, parts))
 
     return make
@@ -242,11 +242,11 @@ def _of_items(make: Decoder, inner: Decoder | None) -> Decoder | None:
 
     def read(value: Any) -> Any:
         if not isinstance(value, (list, tuple)):
-            raise Misfit(": must be a list")
+            raise Mismatch(": must be a list")
         try:
             return make([part(item) for item in value])
         except Exception:
-            raise _first(value, part) or Misfit(": its items cannot be read") from None
+            raise _first(value, part) or Mismatch(": its items cannot be read") from None
 
     return read
 
@@ -301,7 +301,7 @@ def _of_dict(key: Decoder | None, inner: Decoder | None) -> Decoder | None:
 
     def read(value: Any) -> Any:
         if not isinstance(value, dict):
-            raise Misfit(": must be an object")
+            raise Mismatch(": must be an object")
         made = {}
         for word, item in value.items():
             try:
@@ -318,7 +318,7 @@ def _of_dict(key: Decoder | None, inner: Decoder | None) -> Decoder | None:
 def _of_tuple(parts: list[Decoder]) -> Decoder:
     def read(value: Any) -> Any:
         if not isinstance(value, (list, tuple)):
-            raise Misfit(": must be a list")
+            raise Mismatch(": must be a list")
         return tuple(_each(value, parts))
 
     return read
@@ -365,7 +365,7 @@ def _of_union(words: tuple[Any, ...]) -> Decoder | None:
         has_more = any(word is not type(None) for word in plain)
         if len(faults) == 1 and (isinstance(value, dict) or not has_more):
             raise mismatches.of(faults[0])
-        raise Misfit(": matches none of its types")
+        raise Mismatch(": matches none of its types")
 
     return make
 

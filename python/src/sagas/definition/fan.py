@@ -33,7 +33,7 @@ class Fan:
         layout, name = self._layout, step if isinstance(step, str) else step.path[0]
         if layout is None and getattr(step, "for_each", None) is not None:
             raise KeyError(f"the items of {step!r} are not known here. Name one: {name}-0")
-        if layout is None or name in layout.spots:
+        if layout is None or name in layout.origins:
             return one(name)
         path = (step,) if isinstance(step, str) else step.path
         if self._values is None:

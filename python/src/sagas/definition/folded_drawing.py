@@ -25,7 +25,7 @@ def fold(drawing: str, definition: str, unfold: Collection[str]) -> str:
         unfold: The declared names of the groups whose parts are drawn, or `ALL`.
     """
     groups = Groups.read(definition)
-    if ALL in unfold or not groups.found:
+    if ALL in unfold or not groups.by_name:
         return drawing
     lines = drawing.splitlines()
     nodes = {name: (look, label) for name, look, label in _parts(NODE, lines)}

@@ -14,7 +14,7 @@ Scope = tuple[tuple[str, "int | None"], ...]
 WORD = re.compile(r"([a-z][a-z0-9_-]*)(?:\[(\d+)\])?\Z")
 
 
-class Spot(NamedTuple):
+class StepOrigin(NamedTuple):
     """Where a step comes from: its inclusions, its declared name, and the number of its item."""
 
     scope: Scope
@@ -34,14 +34,14 @@ class Spot(NamedTuple):
     @property
     def group(self) -> str:
         """All items of it, by the name under which they are kept: `car[1]/room`."""
-        return Spot(self.scope, self.name).word
+        return StepOrigin(self.scope, self.name).word
 
 
 def _word(name: str, index: int | None) -> str:
     return name if index is None else f"{name}[{index}]"
 
 
-def spot_of(word: str) -> Spot:
+def parse_origin(word: str) -> StepOrigin:
     """Return the spot that a word means.
 
     Raises:
@@ -51,7 +51,7 @@ def spot_of(word: str) -> Spot:
     parts = [(one[1], None if one[2] is None else int(one[2])) for one in found if one]
     if len(parts) < len(found):
         raise ValueError(f"{word!r} is not the place of a step")
-    return Spot(tuple(parts[:-1]), *parts[-1])
+    return StepOrigin(tuple(parts[:-1]), *parts[-1])
 
 
 class Layout:
@@ -62,11 +62,11 @@ class Layout:
     """
 
     def __init__(
-        self, names: Sequence[str], spots: Sequence[Spot], giving: Collection[str] = ()
+        self, names: Sequence[str], spots: Sequence[StepOrigin], giving: Collection[str] = ()
     ) -> None:
-        self.spots, self._giving = dict(zip(names, spots)), giving
+        self.origins, self._giving = dict(zip(names, spots)), giving
         self._groups: dict[tuple[Scope, str], dict[int | None, str]] = {}
-        for name, spot in self.spots.items():
+        for name, spot in self.origins.items():
             self._groups.setdefault((spot.scope, spot.name), {})[spot.number] = name
 
     def gives(self, scope: Scope) -> bool:
@@ -87,7 +87,7 @@ class Layout:
         whole one.
         """
         count, cut = len(scope), len(self.prefix(scope))
-        for name, spot in self.spots.items():
+        for name, spot in self.origins.items():
             if spot.scope[:count] == scope:
                 yield name[cut:], name
 
@@ -95,7 +95,9 @@ class Layout:
         """The step of this item. Raises `KeyError`."""
         found = self._groups.get((scope, name), {}).get(index)
         if found is None:
-            raise KeyError(f"step {Spot(scope, name, index).word!r} is not there for this input")
+            raise KeyError(
+                f"step {StepOrigin(scope, name, index).word!r} is not there for this input"
+            )
         return found
 
     def gather(
@@ -123,7 +125,7 @@ class Layout:
         return found if keys is None else dict(zip(keys, found))
 
 
-class ToldLayout(Layout):
+class RemoteLayout(Layout):
     """The same for a worker elsewhere, which knows the numbers of items, and no other steps than
     those that have results.
     """
@@ -135,5 +137,7 @@ class ToldLayout(Layout):
     def own(self, scope: Scope, name: str, index: int | None) -> str:
         """As of `Layout`; whether there is such a step, only the results tell."""
         if (index is None) != (self._values.count(scope, name) is None):
-            raise KeyError(f"step {Spot(scope, name, index).word!r} is not there for this input")
+            raise KeyError(
+                f"step {StepOrigin(scope, name, index).word!r} is not there for this input"
+            )
         return self.name(scope, name, index)

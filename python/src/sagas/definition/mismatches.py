@@ -10,20 +10,20 @@ from typing import Any
 MOST_SHOWN = 80
 
 
-MOST_TOLD = 5
+MAX_LISTED = 5
 MOST_DEEP = 64
 
 
-class Misfit(TypeError):
+class Mismatch(TypeError):
     """A value, as JSON has it, that is not of its type. `path` is the way to it from the whole."""
 
     def __init__(self, why: str, path: str = "") -> None:
         super().__init__(f"{path}{why}")
         self.why, self.path = why, path
 
-    def within(self, part: str) -> Misfit:
+    def within(self, part: str) -> Mismatch:
         """The same, as it is told of what has the value as this part."""
-        return Misfit(self.why, part + self.path)
+        return Mismatch(self.why, part + self.path)
 
 
 def part(name: object) -> str:
@@ -32,24 +32,26 @@ def part(name: object) -> str:
     return f".{name}" if plain else f"[{json.dumps(name if isinstance(name, str) else str(name))}]"
 
 
-def of(error: Exception, at: str = "") -> Misfit:
+def of(error: Exception, at: str = "") -> Mismatch:
     """What was raised while a value was made, told of the whole of which it is this part."""
-    if isinstance(error, Misfit):
+    if isinstance(error, Mismatch):
         return error.within(at)
-    told = next(_of_model(error), None) or Misfit(f": cannot be read ({type(error).__name__})")
-    return told.within(at)
+    joined_paths = next(_of_model(error), None) or Mismatch(
+        f": cannot be read ({type(error).__name__})"
+    )
+    return joined_paths.within(at)
 
 
-def _of_model(error: Exception) -> Iterator[Misfit]:
+def _of_model(error: Exception) -> Iterator[Mismatch]:
     """What pydantic says, without what it was given: a text of the model's own may have that."""
     errors = getattr(error, "errors", None)
     for one in errors() if callable(errors) else ():
         path = "".join(f"[{word}]" if isinstance(word, int) else part(word) for word in one["loc"])
         own = str(one["type"]).endswith("_error") or str(one["type"]).startswith("value_error")
-        yield Misfit(f": {one['type'] if own else one['msg']}", path)
+        yield Mismatch(f": {one['type'] if own else one['msg']}", path)
 
 
-def lacking(value: dict[str, Any], hint: Any) -> Misfit | None:
+def lacking(value: dict[str, Any], hint: Any) -> Mismatch | None:
     """Which fields a dataclass needs that an object does not have."""
     fields = [field for field in dataclasses.fields(hint) if field.init]
     none = dataclasses.MISSING
@@ -60,14 +62,14 @@ def lacking(value: dict[str, Any], hint: Any) -> Misfit | None:
     odd = ", ".join(repr(word) for word in value if word not in {field.name for field in fields})
     shown = f"{odd[:MOST_SHOWN]}{'...' if odd[MOST_SHOWN:] else ''}"
     more = f"; it has {shown}, which {hint.__name__} does not" if odd else ""
-    return Misfit(f": missing {' and '.join(lacks)}, which {hint.__name__} requires{more}")
+    return Mismatch(f": missing {' and '.join(lacks)}, which {hint.__name__} requires{more}")
 
 
-def told(paths: list[str]) -> str:
+def joined_paths(paths: list[str]) -> str:
     """Ways to parts of a value, for a message."""
     named = [path or "its whole" for path in paths]
-    more = f" and {len(named) - MOST_TOLD} more" if len(named) > MOST_TOLD else ""
-    return f"{', '.join(named[:MOST_TOLD])}{more}"
+    more = f" and {len(named) - MAX_LISTED} more" if len(named) > MAX_LISTED else ""
+    return f"{', '.join(named[:MAX_LISTED])}{more}"
 
 
 def differences(one: Any, other: Any, at: str = "") -> Iterator[str]:

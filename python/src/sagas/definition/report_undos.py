@@ -13,11 +13,11 @@ from collections.abc import Callable, Mapping
 from typing import Any
 
 from sagas.definition import compensation_task
-from sagas.definition.place import ToldPlace
+from sagas.definition.place import RemoteStepLocation
 from sagas.definition.saga import Saga
 from sagas.definition.step import NEVER, CostOf, Step
 from sagas.definition.task import Task
-from sagas.definition.task_data import Told
+from sagas.definition.task_data import TaskSnapshot
 from sagas.definition.undo_text import MOST_NAME, name_of
 
 QUEUED = "workers of a queue call its compensation, which only its own saga can have called"
@@ -81,13 +81,13 @@ def path_of(saga: Saga, step: Step[Any], before: str = "") -> str | None:
     return None
 
 
-def told_of(given: Mapping[str, Any], step_of: Step[Any], attempt: int) -> Told:
+def told_of(given: Mapping[str, Any], step_of: Step[Any], attempt: int) -> TaskSnapshot:
     """Return what a compensation's task is asked for, by the input of its saga. That of a saga that
     undoes a child names no step: it is the declared one.
     """
-    place, step = given.get("place"), given.get("step", step_of.name)
+    location, step = given.get("place"), given.get("step", step_of.name)
     results = {name: json.dumps(value) for name, value in given["results"].items()}
-    return Told(
+    return TaskSnapshot(
         saga=given.get("saga", step_of.saga.name),
         key=given["key"],
         name=step,
@@ -97,7 +97,7 @@ def told_of(given: Mapping[str, Any], step_of: Step[Any], attempt: int) -> Told:
         input=json.dumps(given["input"]),
         given={name: text for name, text in results.items() if name != step},
         own=results.get(step, "null"),
-        place=None if place is None else ToldPlace(place),
+        location=None if location is None else RemoteStepLocation(location),
     )
 
 
@@ -114,7 +114,7 @@ def _undoing(function: Callable[[Any], Any], step: Step[Any]) -> Callable[[Any],
     hint, known = compensation_task.hints(function, step)
 
     def own(task: Any) -> Task[Any]:
-        about = task._about
+        about = task._data
         inner: Task[Any] = Task(
             dataclasses.replace(
                 told_of(task.input, step, task.attempt),

@@ -430,7 +430,7 @@ class Saga(WaitSteps, Inclusions):
         for_each: ForEach | None = None,
         when: Callable[[Any], Any] | None = None,
     ) -> Step[Any]:
-        where = validation.place(function) or validation.caller(4)
+        where = validation.location_of(function) or validation.caller(4)
         named = name or str(getattr(function, "__name__", "?"))
         needed = validation.listed(needs, self, named, where)
         make: type[Step[Any]] = Step if for_each is None else FanOut

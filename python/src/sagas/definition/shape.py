@@ -19,8 +19,8 @@ from sagas.definition import (
     shape_validation,
     validation,
 )
-from sagas.definition.declaration import Declared
-from sagas.definition.layout import Scope, Spot
+from sagas.definition.declaration import Declaration
+from sagas.definition.layout import Scope, StepOrigin
 from sagas.definition.parts import Inclusion
 from sagas.definition.shape_values import ShapeValues
 
@@ -53,7 +53,7 @@ class Level:
         inner: The included sagas, by the part and the number.
     """
 
-    __slots__ = ("saga", "scope", "prefix", "owner", "found", "inner", "_entries")
+    __slots__ = ("saga", "scope", "prefix", "owner", "indices", "inner", "_entries")
 
     def __init__(
         self,
@@ -63,7 +63,7 @@ class Level:
         owner: tuple[Level, Inclusion, int | None] | None = None,
     ) -> None:
         self.saga, self.scope, self.prefix, self.owner = saga, scope, prefix, owner
-        self.found: dict[str, Sequence[int | None]] = {}
+        self.indices: dict[str, Sequence[int | None]] = {}
         self.inner: dict[tuple[str, int | None], Level] = {}
         self._entries: dict[str, dict[int | None, Entry]] | None = None
 
@@ -80,7 +80,7 @@ class Level:
                     index: Entry(index, self.name(part, index), self.inner.get((part, index)))
                     for index in indices
                 }
-                for part, indices in self.found.items()
+                for part, indices in self.indices.items()
             }
         return self._entries
 
@@ -91,7 +91,7 @@ class ShapedStep:
 
     name: str
     step: Step[Any]
-    spot: Spot
+    origin: StepOrigin
     needs: list[str]
 
 
@@ -107,7 +107,7 @@ class Shape:
         count: How many steps it has.
     """
 
-    def __init__(self, saga: Saga, text: str, declared: Declared | None = None) -> None:
+    def __init__(self, saga: Saga, text: str, declared: Declaration | None = None) -> None:
         """Make it.
 
         Args:
@@ -120,7 +120,7 @@ class Shape:
             TooLarge: It has more steps than a saga can have.
         """
         self.saga, self.values = saga, ShapeValues()
-        self._declared = declared or Declared(saga)
+        self._declared = declared or Declaration(saga)
         self.structure: list[int] = []
         self.costs: list[Cost] = []
         self.count = 0
@@ -142,7 +142,7 @@ class Shape:
     def _fill(self, level: Level, value: Any) -> Level:
         kept: dict[Any, tuple[str, int, set[str]]] = {}
         for part in level.saga.parts:
-            level.found[part.name] = indices = self._indices(level, part, value, kept)
+            level.indices[part.name] = indices = self._indices(level, part, value, kept)
             if isinstance(part, Inclusion):
                 for index in indices:
                     inside = self._inside(level, part, index, value)
@@ -153,7 +153,7 @@ class Shape:
                 raise self._too_many()
             if costs := self._declared.computed_costs(part):
                 for index in indices:
-                    spot = Spot(level.scope, part.name, index)
+                    spot = StepOrigin(level.scope, part.name, index)
                     self.costs += [
                         self._cost(part, word, cost, spot, value) for word, cost in costs
                     ]
@@ -170,7 +170,7 @@ class Shape:
                 return ()
         if part.for_each is None:
             return ONE
-        group = Spot(level.scope, part.name).word if level.scope else part.name
+        group = StepOrigin(level.scope, part.name).word if level.scope else part.name
         if part.for_each in kept:
             self.values.items[group], count, types = kept[part.for_each]
         else:
@@ -194,7 +194,7 @@ class Shape:
 
     def _check_types(self, level: Level, part: Part, types: set[str]) -> None:
         """Items that JSON has otherwise need a type by which they are read again."""
-        if types and self._declared.item(Spot(level.scope, part.name)) is None:
+        if types and self._declared.item(StepOrigin(level.scope, part.name)) is None:
             told = min(types)
             raise _invalid(
                 part,
@@ -204,7 +204,7 @@ class Shape:
             )
 
     def _cost(
-        self, step: Step[Any], word: str, given: Callable[[Any], Any], spot: Spot, value: Any
+        self, step: Step[Any], word: str, given: Callable[[Any], Any], spot: StepOrigin, value: Any
     ) -> Cost:
         about = value if spot.number is None else self._item(step, spot)
         cost: Cost = _asked(step, word, given, about)
@@ -213,14 +213,14 @@ class Shape:
             raise _invalid(step, f"{word}= returned a {type(cost).__name__} that is not {rule}")
         return cost
 
-    def _item(self, part: Part, spot: Spot) -> Any:
+    def _item(self, part: Part, spot: StepOrigin) -> Any:
         try:
             return self.values.item(spot, self._declared.item(spot))
         except Exception as error:  # of the type's own code
             raise _invalid(part, f"item {spot.number}{mismatches.of(error)}") from None
 
     def _inside(self, level: Level, part: Inclusion, index: int | None, value: Any) -> Level:
-        spot = Spot(level.scope, part.name, index)
+        spot = StepOrigin(level.scope, part.name, index)
         given = value if index is None else self._item(part, spot)
         if part.input is not None:
             given = _asked(part, "input", _reader(part.input), given)
@@ -267,7 +267,7 @@ class Shape:
                 if entry.inside is not None:
                     yield from self._steps(entry.inside)
                 elif not isinstance(part, Inclusion):
-                    spot = Spot(level.scope, part.name, index)
+                    spot = StepOrigin(level.scope, part.name, index)
                     needs = self._needed(level, part, index)
                     yield ShapedStep(entry.name, part, spot, needs)
 
@@ -301,7 +301,7 @@ class Shape:
         """The step that needs all of a part, and that all items of another one need."""
         name = level.prefix + part.name + joins.ENDING
         if name not in self._joins:
-            spot = Spot(level.scope, part.name + joins.ENDING)
+            spot = StepOrigin(level.scope, part.name + joins.ENDING)
             step = joins.step_of(level.saga, spot.name)
             assert step is not None
             self._joins[name] = level, ShapedStep(name, step, spot, names)

@@ -9,7 +9,7 @@ from typing import TYPE_CHECKING, Any
 from sagas.base.errors import TooLarge
 from sagas.definition import listed_steps, validation
 from sagas.definition.declaration import COSTS
-from sagas.definition.layout import Layout, spot_of
+from sagas.definition.layout import Layout, parse_origin
 from sagas.definition.shape import Shape, ShapedStep
 
 if TYPE_CHECKING:
@@ -64,7 +64,7 @@ class Template:
 
     def _step(self, one: ShapedStep, lines: list[str]) -> list[str]:
         """Add a step to these lines. Return those after the last computed cost."""
-        lines += ("", "[[step]]", f'name = "{one.name}"', f"{OF}{one.spot.word}")
+        lines += ("", "[[step]]", f'name = "{one.name}"', f"{OF}{one.origin.word}")
         if listed_steps.is_compensated(one.step):
             lines.append(listed_steps.COMPENSATED)
         if one.needs:
@@ -157,5 +157,5 @@ def steps(text: str) -> list[dict[str, Any]]:
 
 def layout(text: str, steps: list[dict[str, Any]]) -> Layout:
     """Return the layout of a definition, given its text and its steps."""
-    names, spots = [one["name"] for one in steps], [spot_of(one["of"]) for one in steps]
+    names, spots = [one["name"] for one in steps], [parse_origin(one["of"]) for one in steps]
     return Layout(names, spots, giving(text))

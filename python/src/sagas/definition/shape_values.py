@@ -6,7 +6,7 @@ from typing import Any
 
 from sagas.definition import serialization
 from sagas.definition.decoders import Decoder
-from sagas.definition.layout import Scope, Spot
+from sagas.definition.layout import Scope, StepOrigin
 
 
 class ShapeValues:
@@ -34,16 +34,16 @@ class ShapeValues:
         return cls(told.get("inputs"), told.get("items"), told.get("keys"))
 
     @classmethod
-    def of_told(cls, told: dict[str, Any]) -> ShapeValues:
+    def of_numbering(cls, told: dict[str, Any]) -> ShapeValues:
         """Make those of which only numbers and keys are known, of what `told` returned."""
         items: dict[str, list[Any] | str] = {
             group: [None] * count for group, count in told["counts"].items()
         }
         return cls(None, items, told["keys"])
 
-    def told(self, scope: Scope) -> dict[str, Any]:
+    def numbering(self, scope: Scope) -> dict[str, Any]:
         """The numbers of items within a scope, and their keys, by the groups as they are there."""
-        head = f"{Spot(scope[:-1], *scope[-1]).word}/" if scope else ""
+        head = f"{StepOrigin(scope[:-1], *scope[-1]).word}/" if scope else ""
         counts, keys = {}, {}
         for whole in self.items:
             if whole.startswith(head):
@@ -60,7 +60,7 @@ class ShapeValues:
         return serialization.write({word: part for word, part in told.items() if part})
 
     def _items(self, scope: Scope, name: str) -> tuple[str, list[Any]] | None:
-        group = Spot(scope, name).word
+        group = StepOrigin(scope, name).word
         found = self.items.get(group)
         if isinstance(found, str):
             group, found = found, self.items[found]
@@ -76,14 +76,14 @@ class ShapeValues:
         found = self._items(scope, name)
         return None if found is None else self.keys.get(found[0])
 
-    def key(self, spot: Spot) -> int | str | None:
+    def key(self, spot: StepOrigin) -> int | str | None:
         """The key of a step's item, or its number; None where it has no item."""
         if spot.number is None:
             return None
         keys = self.keys_of(spot.scope, spot.name)
         return spot.number if keys is None else keys[spot.number]
 
-    def item(self, spot: Spot, decoder: Decoder | None = None) -> Any:
+    def item(self, spot: StepOrigin, decoder: Decoder | None = None) -> Any:
         """A step's item: a new object at each call."""
         found = self._items(spot.scope, spot.name)
         assert found is not None and spot.number is not None
@@ -95,4 +95,4 @@ class ShapeValues:
     def input(self, scope: Scope) -> str:
         """The input of an included saga, as JSON."""
         *outer, last = scope
-        return serialization.write(self.inputs[Spot(tuple(outer), *last).word])
+        return serialization.write(self.inputs[StepOrigin(tuple(outer), *last).word])

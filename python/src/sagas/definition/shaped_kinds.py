@@ -9,8 +9,8 @@ from collections.abc import Callable, Iterator
 from typing import TYPE_CHECKING, Any, Protocol, TypeVar
 
 from sagas.definition import shape_text
-from sagas.definition.compiled import Hooks, Kind, name_of, version_of
-from sagas.definition.declaration import Declared
+from sagas.definition.compiled import Hooks, CompiledDefinition, name_of, version_of
+from sagas.definition.declaration import Declaration
 from sagas.definition.shape import Shape
 
 if TYPE_CHECKING:
@@ -48,7 +48,7 @@ class Model:
 
     def __init__(self, template: shape_text.Template) -> None:
         self.template = template
-        self.kind: Kind | None = None
+        self.kind: CompiledDefinition | None = None
 
 
 class ShapedKinds:
@@ -56,17 +56,21 @@ class ShapedKinds:
 
     def __init__(self, known: Known) -> None:
         self._known = known
-        self._kinds: weakref.WeakValueDictionary[str, Kind] = weakref.WeakValueDictionary()
-        self._alike: weakref.WeakValueDictionary[str, Kind] = weakref.WeakValueDictionary()
-        self._recent: OrderedDict[tuple[Any, ...], Kind] = OrderedDict()
+        self._kinds: weakref.WeakValueDictionary[
+            str, CompiledDefinition
+        ] = weakref.WeakValueDictionary()
+        self._alike: weakref.WeakValueDictionary[
+            str, CompiledDefinition
+        ] = weakref.WeakValueDictionary()
+        self._recent: OrderedDict[tuple[Any, ...], CompiledDefinition] = OrderedDict()
         self._models: OrderedDict[tuple[Any, ...], Model] = OrderedDict()
-        self._declared: dict[tuple[str, int], Declared] = {}
+        self._declared: dict[tuple[str, int], Declaration] = {}
 
-    def all(self) -> Iterator[Kind]:
+    def all(self) -> Iterator[CompiledDefinition]:
         """Those that somebody has."""
         return iter([*self._kinds.values()])
 
-    def kind(self, text: str) -> Kind:
+    def kind(self, text: str) -> CompiledDefinition:
         """The definition of a text."""
         kind = self._kinds.get(text)
         if kind is None:
@@ -76,16 +80,16 @@ class ShapedKinds:
             self._kinds[text] = self._alike[alike] = kind
         return kind
 
-    def _made(self, text: str) -> Kind:
+    def _made(self, text: str) -> CompiledDefinition:
         known, declared = self._known, self._declaration(name_of(text), version_of(text))
-        kind = Kind(text, declared.root, known.context, known.payloads, declared)
+        kind = CompiledDefinition(text, declared.root, known.context, known.payloads, declared)
         kind.hooks = known.hooks(kind.name)
         return kind
 
-    def _declaration(self, name: str, version: int) -> Declared:
+    def _declaration(self, name: str, version: int) -> Declaration:
         """The declaration of a saga, with what was found of it so far."""
         if (name, version) not in self._declared:
-            self._declared[name, version] = Declared(self._known.sagas.get((name, version)))
+            self._declared[name, version] = Declaration(self._known.sagas.get((name, version)))
         return self._declared[name, version]
 
     def shaping(self, saga: Saga, text: str) -> Callable[[], Shape]:
@@ -97,7 +101,7 @@ class ShapedKinds:
         """
         return functools.partial(Shape, saga, text, self._declaration(saga.name, saga.version))
 
-    def of(self, shape: Shape) -> tuple[Kind, str]:
+    def of(self, shape: Shape) -> tuple[CompiledDefinition, str]:
         """The definition of a shape, and what is kept of it, as it is stored.
 
         Raises:
@@ -113,7 +117,7 @@ class ShapedKinds:
             self._recent.move_to_end(signature)
         return kind, self._known.payloads.encode(shape.values.text())
 
-    def _written(self, structure: tuple[Any, ...], shape: Shape) -> Kind:
+    def _written(self, structure: tuple[Any, ...], shape: Shape) -> CompiledDefinition:
         """The definition of a shape, made like another one of the same structure, if any."""
         model = self._models.get(structure)
         if model is None:

@@ -1,4 +1,4 @@
-"""`Shelf`: the sagas that a store was opened with, and their definitions."""
+"""`DefinitionRegistry`: the sagas that a store was opened with, and their definitions."""
 
 from __future__ import annotations
 
@@ -17,7 +17,7 @@ from sagas.definition import (
     validation,
 )
 from sagas.definition.capacity import MOST_DEFINITIONS, SHARD_CAPACITY
-from sagas.definition.compiled import Hooks, Kind, name_of, version_of
+from sagas.definition.compiled import Hooks, CompiledDefinition, name_of, version_of
 from sagas.definition.context import Context
 from sagas.definition.payloads import PLAIN as PLAIN_PAYLOADS
 from sagas.definition.listed_steps import of as listed_steps
@@ -28,7 +28,7 @@ from sagas.definition.shaped_kinds import ShapedKinds
 from sagas.definition.step import Step
 
 
-def shelf_of(sagas: Iterable[Saga]) -> tuple[str, list[str]]:
+def digest_and_texts(sagas: Iterable[Saga]) -> tuple[str, list[str]]:
     """The definitions' texts, sorted by name, and the digest that names them."""
     texts = [
         definition_text.declared(saga)
@@ -49,7 +49,7 @@ class DefinitionSet(NamedTuple):
     """
 
     digest: str = ""
-    kinds: Sequence[Kind] = ()
+    kinds: Sequence[CompiledDefinition] = ()
 
 
 GROWING = DefinitionSet()
@@ -64,12 +64,12 @@ class Fitted(NamedTuple):
         wrong: Why it cannot be started, or None.
     """
 
-    kind: Kind | None
+    kind: CompiledDefinition | None
     shape: str | None
     wrong: SagasError | None
 
 
-class Shelf:
+class DefinitionRegistry:
     """The sagas that a store was opened with, and the definitions of older logs by them.
 
     Attributes:
@@ -99,8 +99,8 @@ class Shelf:
             raise DefinitionError("a store needs at least one saga")
         self.declared = list(self.sagas.values())
         self.sagas = undo_sagas.with_undo_sagas(self.sagas)
-        self.shelf, self.texts = shelf_of(self.sagas.values())
-        self._kinds: dict[str, Kind] = {}
+        self.digest, self.texts = digest_and_texts(self.sagas.values())
+        self._kinds: dict[str, CompiledDefinition] = {}
         self._report_undos: dict[tuple[str, int, str], Saga] = {}
         self._shaped = ShapedKinds(self)
         self.kinds = [self.kind(saga.toml()) for saga in self._fixed()]
@@ -122,7 +122,7 @@ class Shelf:
         name = (undo_text.name_of(saga.name), saga.version, report_undos.step_name(saga, step))
         if name not in self._report_undos:
             made = self._report_undos[name] = report_undos.saga_of(saga, step)
-            kind = Kind(made.toml(), made, self.context, self.payloads)
+            kind = CompiledDefinition(made.toml(), made, self.context, self.payloads)
             kind = self._kinds.setdefault(kind.text, kind)
             kind.hooks = self._hooks_of(kind)
             self._fitted[made] = Fitted(kind, None, None)
@@ -161,14 +161,14 @@ class Shelf:
                     "have steps with queue=, because their workers read stored values themselves"
                 )
 
-    def _divided(self) -> Iterator[tuple[Kind, DefinitionSet]]:
+    def _divided(self) -> Iterator[tuple[CompiledDefinition, DefinitionSet]]:
         """Each definition with its set, of as many as a log has."""
         for first in range(0, len(self.kinds), MOST_DEFINITIONS):
             kinds = self.kinds[first : first + MOST_DEFINITIONS]
             found = DefinitionSet(digest_of_texts([kind.text for kind in kinds]), kinds)
             yield from ((kind, found) for kind in kinds)
 
-    def kind(self, text: str) -> Kind:
+    def kind(self, text: str) -> CompiledDefinition:
         """The definition of a text."""
         if shape_text.is_shaped(text):
             return self._shaped.kind(text)
@@ -176,7 +176,7 @@ class Shelf:
             saga = self._undoing(text) or self._saga(text)
             if text in self._kinds:
                 return self._kinds[text]
-            kind = self._kinds[text] = Kind(text, saga, self.context, self.payloads)
+            kind = self._kinds[text] = CompiledDefinition(text, saga, self.context, self.payloads)
             kind.hooks = self._hooks_of(kind)
         return self._kinds[text]
 
@@ -193,7 +193,7 @@ class Shelf:
         child = self.sagas.get((child_name, version)) if child_name else saga and saga.undoes
         return undo_sagas.of_text(child, text) if child else None
 
-    def undo_kind(self, child: Kind) -> Kind | None:
+    def undo_kind(self, child: CompiledDefinition) -> CompiledDefinition | None:
         """Return the definition of the saga that undoes a completed child.
 
         Args:
@@ -274,7 +274,7 @@ class Shelf:
         for kind in (*self._kinds.values(), *self._shaped.all()):
             kind.hooks = self._hooks_of(kind)
 
-    def _hooks_of(self, kind: Kind) -> Hooks:
+    def _hooks_of(self, kind: CompiledDefinition) -> Hooks:
         """The webhooks that get posts of sagas of a definition; of one that undoes children, those
         of the children as well.
         """
@@ -287,6 +287,6 @@ class Shelf:
             name: (*dict.fromkeys((*found.get(name, ()), *more.get(name, ()))),) for name in types
         }
 
-    def set_of(self, kind: Kind) -> DefinitionSet:
+    def set_of(self, kind: CompiledDefinition) -> DefinitionSet:
         """The definitions of the logs that take new sagas of this one."""
         return self._sets.get(kind, GROWING)

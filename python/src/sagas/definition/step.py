@@ -365,7 +365,7 @@ class Step(Selection[R]):
         """
 
         def declare(function: Callable[[Any], Any] | None) -> Callable[[Any], Any] | None:
-            where = validation.place(function) or validation.caller(3)
+            where = validation.location_of(function) or validation.caller(3)
             if self.has_compensation and not self.undo.implied:
                 raise validation.of_step(
                     self,

@@ -10,11 +10,11 @@ from sagas.base.errors import CannotDecode, ResultNotSerializable, StepFailed
 from sagas.definition import mismatches, serialization, tokens
 from sagas.definition.collection import Collection, of_names
 from sagas.definition.control import Cancellation, Progress
-from sagas.definition.place import NO_ITEM, Place
+from sagas.definition.place import NO_ITEM, StepLocation
 from sagas.definition.selection import Selection
-from sagas.definition.task_data import About as About
-from sagas.definition.task_data import Told as Told
-from sagas.definition.task_data import whole as whole
+from sagas.definition.task_data import TaskData as TaskData
+from sagas.definition.task_data import TaskSnapshot as TaskSnapshot
+from sagas.definition.task_data import snapshot as snapshot
 
 I = TypeVar("I")
 R = TypeVar("R")
@@ -35,10 +35,10 @@ class Task(Generic[I]):
         {'greet': 'hello h-1 greet 1 you'}
     """
 
-    __slots__ = ("_about", "_given", "_connection", "_take")
+    __slots__ = ("_data", "_given", "_connection", "_take")
 
-    def __init__(self, about: About) -> None:
-        self._about = about
+    def __init__(self, about: TaskData) -> None:
+        self._data = about
         self._given: Mapping[str, str] | None = None
         self._connection: Any = None
         self._take: Callable[[], Any] | None = None
@@ -46,32 +46,32 @@ class Task(Generic[I]):
     @property
     def saga(self) -> str:
         """The saga's name."""
-        return self._about.saga
+        return self._data.saga
 
     @property
     def key(self) -> str:
         """The saga's key."""
-        return self._about.key
+        return self._data.key
 
     @property
     def step(self) -> str:
         """The step's name."""
-        return self._about.name
+        return self._data.name
 
     @property
     def is_compensation(self) -> bool:
         """Whether it undoes the step."""
-        return self._about.undo
+        return self._data.undo
 
     @property
     def attempt(self) -> int:
         """The attempt's number, from 1."""
-        return self._about.attempt
+        return self._data.attempt
 
     @property
     def deadline(self) -> datetime.datetime | None:
         """When the saga is aborted if it has not ended, or None. It has a time zone."""
-        at = self._about.deadline
+        at = self._data.deadline
         return None if at is None else datetime.datetime.fromtimestamp(at, datetime.timezone.utc)
 
     @property
@@ -81,19 +81,19 @@ class Task(Generic[I]):
         Hand it on as the header `traceparent`. Where `opentelemetry-api` is installed, the span of
         this attempt is a child of it, and is current while the function runs.
         """
-        return self._about.traceparent
+        return self._data.traceparent
 
-    def __reduce__(self) -> tuple[type[Task[Any]], tuple[Told]]:
+    def __reduce__(self) -> tuple[type[Task[Any]], tuple[TaskSnapshot]]:
         """A copy, or one for another process, knows all of it, and has no connection and no
         context; it is never cancelled, and nobody hears of its progress.
         """
-        return Task, (whole(self._about),)
+        return Task, (snapshot(self._data),)
 
     @property
     def _texts(self) -> Mapping[str, str]:
         """The results that it may ask for: gathered once, since a step may ask for each of many."""
         if self._given is None:
-            self._given = self._about.given
+            self._given = self._data.given
         return self._given
 
     def enter(self, connection: Any) -> None:
@@ -143,7 +143,7 @@ class Task(Generic[I]):
         Raises:
             RuntimeError: There is none.
         """
-        return self._about.context.get()
+        return self._data.context.get()
 
     @property
     def cancelled(self) -> Cancellation:
@@ -156,7 +156,7 @@ class Task(Generic[I]):
             A `Cancellation`: `is_set()`, `wait(timeout)` in a plain function, `await` in an async
             one, and `reason`.
         """
-        return self._about.control.cancelled
+        return self._data.control.cancelled
 
     def progress(self, fraction: float, detail: str | None = None) -> None:
         """Report how far the function is, for people.
@@ -172,11 +172,11 @@ class Task(Generic[I]):
             TypeError: The fraction is not a number, or the detail is not a text.
             ValueError: The fraction is not from 0 to 1.
         """
-        self._about.control.tell(fraction, detail)
+        self._data.control.set_progress(fraction, detail)
 
-    def news(self) -> Progress | None:
+    def take_progress(self) -> Progress | None:
         """Return what `progress` was told since this was asked last, for a heartbeat."""
-        return self._about.control.news()
+        return self._data.control.take_progress()
 
     @property
     def idempotency_key(self) -> str:
@@ -185,7 +185,7 @@ class Task(Generic[I]):
         It differs between a step and its compensation.
         """
         kind = "undo" if self.is_compensation else "run"
-        return tokens.idempotency_key(self._about.saga_token, self.step, kind)
+        return tokens.idempotency_key(self._data.saga_token, self.step, kind)
 
     @property
     def attempt_id(self) -> str:
@@ -199,7 +199,7 @@ class Task(Generic[I]):
     @property
     def original_idempotency_key(self) -> str:
         """The idempotency key of the action: in a compensation, of what it undoes."""
-        return tokens.idempotency_key(self._about.saga_token, self.step, "run")
+        return tokens.idempotency_key(self._data.saga_token, self.step, "run")
 
     @property
     def input(self) -> I:
@@ -209,7 +209,7 @@ class Task(Generic[I]):
             CannotDecode: The stored input does not fit the type of the hint.
         """
         try:
-            given: I = serialization.read(self._about.input, self._about.hint)
+            given: I = serialization.read(self._data.input, self._data.hint)
             return given
         except Exception as error:  # of the type's own code
             raise self._unread("input", error) from None
@@ -223,21 +223,21 @@ class Task(Generic[I]):
         Raises:
             CannotDecode: A stored result does not fit its step's type.
         """
-        texts, place = self._texts, self._about.place
-        if place is None:
+        texts, location = self._texts, self._data.location
+        if location is None:
             return {name: self._kept(name, text) for name, text in texts.items()}
-        return {name: self._kept(step, texts[step]) for name, step in place.visible(texts)}
+        return {name: self._kept(step, texts[step]) for name, step in location.visible(texts)}
 
     def _kept(self, name: str, text: str) -> Any:
         """A step's result. Raises `CannotDecode`."""
         try:
-            return serialization.kept(text, self._about.decoders.get(name))
+            return serialization.kept(text, self._data.decoders.get(name))
         except Exception as error:  # of the type's own code
             raise self._unread(f"result of {name!r}", error) from None
 
     def _unread(self, what: str, error: Exception) -> CannotDecode:
         """Why what is stored cannot be read."""
-        about = self._about
+        about = self._data
         whose = "the compensation of step" if about.undo else "step"
         told = error if isinstance(error, NameError) else mismatches.of(error)
         text = f"{what}: {told}" if isinstance(told, NameError) else f"{what}{told}"
@@ -252,7 +252,7 @@ class Task(Generic[I]):
         Raises:
             CannotDecode: The stored result does not fit the step's type.
         """
-        own = self._about.own
+        own = self._data.own
         return None if own is None else self._kept(self.step, own)
 
     @property
@@ -261,22 +261,22 @@ class Task(Generic[I]):
 
         With the shape of its saga.
         """
-        about, texts, place = self._about, self._texts, self._about.place
-        names = place.visible(texts) if place else ((name, name) for name in texts)
+        about, texts, location = self._data, self._texts, self._data.location
+        names = location.visible(texts) if location else ((name, name) for name in texts)
         results = {name: serialization.read(texts[step]) for name, step in names}
         return {
             "declared_step": self.declared_step,
-            **(place.plain if place else NO_ITEM),
-            "shape": place.shape if place else None,
+            **(location.plain if location else NO_ITEM),
+            "shape": location.shape if location else None,
             "input": serialization.read(about.input),
-            "results": results | dict(place.groups(texts)) if place else results,
+            "results": results | dict(location.groups(texts)) if location else results,
             "result": None if about.own is None else serialization.read(about.own),
         }
 
     @property
     def texts(self) -> dict[str, Any]:
         """All of the task as JSON texts, from which another node makes it again."""
-        about = self._about
+        about = self._data
         told = {
             "saga": about.saga,
             "key": about.key,
@@ -308,16 +308,16 @@ class Task(Generic[I]):
             StepFailed: The item failed, and its failure was collected.
             CannotDecode: The stored result does not fit the step's type.
         """
-        place = self._about.place
-        if place is None:
+        location = self._data.location
+        if location is None:
             return self._result(step if isinstance(step, str) else step.path[0])
         if isinstance(step, Collection):
-            return of_names(place.gather(step, str), self._result)
-        return place.gather(step, self._result)
+            return of_names(location.gather(step, str), self._result)
+        return location.gather(step, self._result)
 
     def _result(self, name: str) -> Any:
         """The result of one step, by its whole name."""
-        about = self._about
+        about = self._data
         text = self._texts.get(name)
         if text is None:
             if about.undo and name == about.name and about.own is not None:
@@ -336,14 +336,14 @@ class Task(Generic[I]):
     @property
     def has_item(self) -> bool:
         """Whether its step has an item: it was declared with `for_each=`."""
-        place = self._about.place
-        return place is not None and place.spot.number is not None
+        location = self._data.location
+        return location is not None and location.origin.number is not None
 
-    def _placed(self) -> Place:
-        place = self._about.place
-        if place is None or not self.has_item:
+    def _placed(self) -> StepLocation:
+        location = self._data.location
+        if location is None or not self.has_item:
             raise RuntimeError(f"step {self.step!r} has no item. Declare it with for_each=")
-        return place
+        return location
 
     @property
     def item(self) -> Any:
@@ -353,9 +353,9 @@ class Task(Generic[I]):
             RuntimeError: The step has no item.
             CannotDecode: The stored item does not fit the type of the hint.
         """
-        place = self._placed()
+        location = self._placed()
         try:
-            return place.item()
+            return location.item()
         except Exception as error:  # of the type's own code
             raise self._unread("item", error) from None
 
@@ -376,8 +376,8 @@ class Task(Generic[I]):
 
         `ship` of `ship-0`; `hotel/room` of a step of an included saga.
         """
-        place = self._about.place
-        return self.step if place is None else place.spot.declared
+        location = self._data.location
+        return self.step if location is None else location.origin.declared
 
     @property
     def given(self) -> Any:
@@ -388,13 +388,13 @@ class Task(Generic[I]):
         Raises:
             Exception: Whatever that function raises.
         """
-        place = self._about.place
-        return None if place is None else place.given(self._about)
+        location = self._data.location
+        return None if location is None else location.given(self._data)
 
     @property
     def lacks_given(self) -> bool:
         """Whether the program does not have the function that computes `given`."""
-        return self._about.place is not None and self._about.place.lacks_given
+        return self._data.location is not None and self._data.location.lacks_given
 
     def __repr__(self) -> str:
         return f"<task {self.attempt_id} of {self.key!r}>"

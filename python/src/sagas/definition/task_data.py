@@ -1,4 +1,4 @@
-"""`About`: what a task is asked for, and `Told`: all of it at once."""
+"""`TaskData`: what a task is asked for, and `TaskSnapshot`: all of it at once."""
 
 from __future__ import annotations
 
@@ -11,10 +11,10 @@ from sagas.definition.control import Control
 from sagas.definition.decoders import Decoder
 
 if TYPE_CHECKING:
-    from sagas.definition.place import Place
+    from sagas.definition.place import StepLocation
 
 
-class About(Protocol):
+class TaskData(Protocol):
     """What a task is asked for: looked up only then, since most functions ask for little. Inputs
     and results are JSON texts.
 
@@ -83,12 +83,12 @@ class About(Protocol):
         ...
 
     @property
-    def place(self) -> Place | None:
+    def location(self) -> StepLocation | None:
         """Where its step is in a saga whose steps come from its input; None in all others."""
 
 
 @dataclasses.dataclass(slots=True)
-class Told:
+class TaskSnapshot:
     """All of it at once, for a task of which nothing else is here. Nothing changes it."""
 
     saga: str
@@ -106,12 +106,12 @@ class Told:
     context: Context = dataclasses.field(default_factory=lambda: Context(ELSEWHERE))
     control: Control = dataclasses.field(default_factory=Control)
     traceparent: str | None = None
-    place: Place | None = None
+    location: StepLocation | None = None
 
 
-def whole(about: About) -> Told:
+def snapshot(about: TaskData) -> TaskSnapshot:
     """As it is now, whatever becomes of it."""
-    return Told(
+    return TaskSnapshot(
         about.saga,
         about.key,
         about.name,
@@ -127,5 +127,5 @@ def whole(about: About) -> Told:
         about.context,
         about.control,
         about.traceparent,
-        about.place,
+        about.location,
     )

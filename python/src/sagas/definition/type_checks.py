@@ -17,10 +17,10 @@ from collections.abc import Callable, Sequence
 from typing import Any
 
 from sagas.definition import mismatches
-from sagas.definition.mismatches import Misfit
+from sagas.definition.mismatches import Mismatch
 
 Check = Callable[[Any], None]
-"""Raises `Misfit`."""
+"""Raises `Mismatch`."""
 NAMES: dict[Any, str] = {
     str: "a text",
     int: "an integer",
@@ -77,7 +77,7 @@ def _plain(hint: Any) -> Check:
     def look(value: Any) -> None:
         kinds = (int, float) if hint is float else hint
         if not isinstance(value, kinds) or (isinstance(value, bool) and hint is not bool):
-            raise Misfit(f": must be {NAMES[hint]}, not {name(value)}")
+            raise Mismatch(f": must be {NAMES[hint]}, not {name(value)}")
 
     return look
 
@@ -90,7 +90,7 @@ def name(value: Any) -> str:
 def _literal(words: Sequence[Any]) -> Check:
     def look(value: Any) -> None:
         if not any(type(value) is type(word) and value == word for word in words):
-            raise Misfit(f": must be one of {', '.join(map(repr, words))}")
+            raise Mismatch(f": must be one of {', '.join(map(repr, words))}")
 
     return look
 
@@ -105,10 +105,10 @@ def _union(parts: Sequence[Check | None]) -> Check | None:
         for part in known:
             try:
                 return part(value)
-            except Misfit as fault:
+            except Mismatch as fault:
                 faults.append(fault)
         deepest = max(faults, key=lambda fault: len(fault.path))
-        raise deepest if deepest.path else Misfit(": matches none of its types")
+        raise deepest if deepest.path else Mismatch(": matches none of its types")
 
     return look
 
@@ -119,9 +119,9 @@ def _items(origin: Any, words: Sequence[Any]) -> Check:
 
     def look(value: Any) -> None:
         if not isinstance(value, list):
-            raise Misfit(f": must be a list, not {name(value)}")
+            raise Mismatch(f": must be a list, not {name(value)}")
         if not is_each and len(value) != len(parts):
-            raise Misfit(f": must be a list of {len(parts)}, not of {len(value)}")
+            raise Mismatch(f": must be a list of {len(parts)}, not of {len(value)}")
         for place, item in enumerate(value):
             _look(parts[0 if is_each else place], item, f"[{place}]")
 
@@ -132,14 +132,14 @@ def _look(part: Check | None, value: Any, at: str) -> None:
     if part is not None:
         try:
             part(value)
-        except Misfit as fault:
+        except Mismatch as fault:
             raise fault.within(at) from None
 
 
 def _entries(part: Check | None) -> Check:
     def look(value: Any) -> None:
         if not isinstance(value, dict):
-            raise Misfit(f": must be an object, not {name(value)}")
+            raise Mismatch(f": must be an object, not {name(value)}")
         for word, item in value.items():
             _look(part, item, mismatches.part(word))
 
@@ -151,7 +151,7 @@ def _fields(hint: Any, whole: Any) -> Check:
 
     def look(value: Any) -> None:
         if not isinstance(value, dict):
-            raise Misfit(f": {hint.__name__} requires an object")
+            raise Mismatch(f": {hint.__name__} requires an object")
         if not parts:  # at the first value, since a class may name itself
             told = field_hints(whole)
             fields = [field for field in dataclasses.fields(hint) if field.init]

@@ -19,13 +19,13 @@ if TYPE_CHECKING:
 
 NAME = re.compile(r"[a-z][a-z0-9_-]{0,31}\Z")
 NAMES = "invalid name: use 1 to 32 characters a-z, 0-9, _ or -, starting with a letter"
-MOST_TOLD = 8  # steps
+MAX_LISTED = 8  # steps
 MOST_PLACES, MOST_SECONDS = 10_000, 31 * 86400
 ON_EXHAUSTED = ("fail", "ask", "retry")
 MOST_STEPS, MOST_NEEDS, MOST_COST, MOST_TRIES = 1024, 8192, 1_000_000_000, 9
 
 
-def place(function: Any) -> str | None:
+def location_of(function: Any) -> str | None:
     """File and line of a function."""
     code = getattr(inspect.unwrap(function), "__code__", None) if callable(function) else None
     return f"{code.co_filename}:{code.co_firstlineno}" if code else None
@@ -356,10 +356,10 @@ def check_cycles(parts: Sequence[Part]) -> None:
         still = [step for step in left if not all(need in done for need in step.needs)]
         if len(still) == len(left):
             cycle = _cycle(still)
-            told = " needs ".join(step.name for step in cycle[:MOST_TOLD])
+            told = " needs ".join(step.name for step in cycle[:MAX_LISTED])
             raise of_step(
                 cycle[0],
-                f"is in a cycle of needs: {told}{' ...' if cycle[MOST_TOLD:] else ''}. Remove "
+                f"is in a cycle of needs: {told}{' ...' if cycle[MAX_LISTED:] else ''}. Remove "
                 "one of them",
             )
         waiting = {step.name for step in still}

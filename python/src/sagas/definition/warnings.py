@@ -6,7 +6,7 @@ from collections.abc import Iterator
 from typing import TYPE_CHECKING, Any
 
 from sagas.definition import decoders, listed_steps, undo_text
-from sagas.definition.validation import MOST_TOLD, check_saga, place
+from sagas.definition.validation import MAX_LISTED, check_saga, location_of
 
 if TYPE_CHECKING:
     from sagas.definition.saga import Saga
@@ -62,7 +62,7 @@ def _unread(saga: Saga) -> Iterator[str]:
         for function in (step.run.function, step.undo.function):
             unread = decoders.unread(function) if function else None
             if unread:
-                where = f"{place(function)}: saga {saga.name!r}, step {step.name!r}"
+                where = f"{location_of(function)}: saga {saga.name!r}, step {step.name!r}"
                 yield (
                     f"{where}: its type hints cannot be read, so its values stay plain JSON: "
                     f"{unread}"
@@ -83,7 +83,7 @@ def _undoing_nothing(saga: Saga) -> Iterator[str]:
             yield (
                 f"{step.where}: saga {saga.name!r}, step {step.name!r}: undo={undo}, but nothing "
                 f"of its child saga {child.name!r} can be undone, because "
-                f"{' and '.join(stays[:MOST_TOLD])} cannot be. A plan may choose that cost, and "
+                f"{' and '.join(stays[:MAX_LISTED])} cannot be. A plan may choose that cost, and "
                 "then leaves all in place. Set undo=sagas.NEVER"
             )
 
@@ -160,10 +160,10 @@ def _holding(saga: Saga, stays: dict[str, bool]) -> Iterator[str]:
             and len(below[step.name]) + 1 < len(saga.steps)
         ):
             told = [f"{other.name!r}" for other in saga.steps if other.name in held]
-            more = [f"{len(told) - MOST_TOLD} more"] if told[MOST_TOLD:] else []
+            more = [f"{len(told) - MAX_LISTED} more"] if told[MAX_LISTED:] else []
             yield (
                 f"{step.where}: saga {saga.name!r}, step {step.name!r} has no compensation, "
-                f"so {' and '.join(told[:MOST_TOLD] + more)}, which it needs, can never be "
+                f"so {' and '.join(told[:MAX_LISTED] + more)}, which it needs, can never be "
                 "undone after it commits. Set undo=0 if there is nothing to undo, or "
                 "undo=NEVER to confirm"
             )

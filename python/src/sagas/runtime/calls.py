@@ -327,12 +327,12 @@ class Calls:
         for attempt in self.running:
             attempt.control.cancelled.set("closing")
 
-    def news(self) -> list[Attempt]:
+    def take_progress(self) -> list[Attempt]:
         """Return the attempts whose functions told of progress since this was asked."""
         found = []
         for attempt in self.running:
             control = attempt.extras.control if attempt.extras else None
-            if control and attempt.state is RUNNING and control.news():
+            if control and attempt.state is RUNNING and control.take_progress():
                 found.append(attempt)
         return found
 

@@ -27,7 +27,7 @@ from sagas.definition import children as child_keys
 from sagas.definition import tokens
 from sagas.definition.arguments import BELOW
 from sagas.definition.capacity import SHARD_CAPACITY
-from sagas.definition.compiled import Kind
+from sagas.definition.compiled import CompiledDefinition
 from sagas.definition.labels import TOKEN
 from sagas.definition.saga import Saga
 from sagas.definition.start_options import StartOptions, deadline_at
@@ -54,7 +54,7 @@ class ChildEnd(NamedTuple):
 
     end: SagaResult
     id: int
-    kind: Kind
+    kind: CompiledDefinition
     text: str
     results: Mapping[int, str]
 
@@ -62,7 +62,9 @@ class ChildEnd(NamedTuple):
 class Carrier(Protocol):
     """What starts, finds and aborts sagas by their keys, wherever they are executed."""
 
-    async def start(self, saga: Saga | Kind, key: str, given: Any, options: StartOptions) -> bool:
+    async def start(
+        self, saga: Saga | CompiledDefinition, key: str, given: Any, options: StartOptions
+    ) -> bool:
         """Start a saga, also where the store starts no new ones. False: the key has one."""
 
     async def end(self, key: str) -> ChildEnd:
@@ -224,7 +226,7 @@ class Children:
                 )
         return None
 
-    async def _new(self, attempt: Attempt) -> tuple[Saga | Kind | None, Any]:
+    async def _new(self, attempt: Attempt) -> tuple[Saga | CompiledDefinition | None, Any]:
         """What its child is of, and is started with; nothing where there is nothing to be undone.
         What undoes a child is made of the definition that the child ran with.
 
@@ -289,7 +291,7 @@ class Children:
         """Whether a saga has the key."""
         return bool(await self._host.store.read(PARENT, key))
 
-    async def _options(self, attempt: Attempt, saga: Saga | Kind) -> StartOptions:
+    async def _options(self, attempt: Attempt, saga: Saga | CompiledDefinition) -> StartOptions:
         """Labels and trace context of the parent, and the earlier deadline; what undoes a child has
         no deadline.
         """

@@ -18,7 +18,7 @@ from sagas.core.batch import Batch, Start
 from sagas.core.model import SagaInstance
 from sagas.definition import undo_sagas
 from sagas.definition.saga import Saga
-from sagas.definition.shelf import Fitted, Shelf
+from sagas.definition.shelf import Fitted, DefinitionRegistry
 from sagas.definition.start_options import StartOptions
 from sagas.runtime.commit_queue import CommitQueue
 from sagas.runtime.declared_calls import DeclaredCalls
@@ -72,7 +72,7 @@ class Starts:
         self,
         host: Host,
         store: Database,
-        definitions: Shelf,
+        definitions: DefinitionRegistry,
         sagas: Instances,
         commits: CommitQueue,
         doubt: Doubt,

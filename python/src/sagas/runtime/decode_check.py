@@ -15,7 +15,7 @@ from sagas.core.batch import Loaded
 from sagas.core.model import RUNNING
 from sagas.core.shard import ShardDriver
 from sagas.definition.blobs import Reference
-from sagas.definition.compiled import Kind
+from sagas.definition.compiled import CompiledDefinition
 from sagas.definition.payloads import ABSENT
 from sagas.runtime import stored_values
 from sagas.runtime.retries import until_answered
@@ -35,7 +35,9 @@ class Checked(Protocol):
     has_unread: bool
 
 
-async def faults(kinds: Sequence[Kind], rows: Loaded, store: Database) -> AsyncIterator[str]:
+async def faults(
+    kinds: Sequence[CompiledDefinition], rows: Loaded, store: Database
+) -> AsyncIterator[str]:
     """Of each open saga of a shard yield the first thing that cannot be read. What is in a blob
     store is not looked at: a function that needs it reads it.
     """

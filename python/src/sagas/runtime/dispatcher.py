@@ -246,7 +246,7 @@ class Dispatcher:
         except outcomes.Unawaited:
             return self._late(attempt, function, began, task, _come_of(value, context))
         if inside and task.leave() is not None:
-            return self._late(attempt, function, began, task, awaitables.whole(value))
+            return self._late(attempt, function, began, task, awaitables.awaited(value))
         self._over.append(attempt)
         if len(self._over) >= self._most:
             self._tell()
@@ -297,7 +297,7 @@ async def _raised(error: BaseException) -> Any:
 
 async def _come_of(value: Any, context: contextvars.Context) -> Any:
     """What comes of what a function gave that is to be awaited, in its context."""
-    return await _Rest(_Turns(), None, context, awaitables.whole(value))
+    return await _Rest(_Turns(), None, context, awaitables.awaited(value))
 
 
 async def _whole(rest: _Rest) -> Any:

@@ -9,7 +9,7 @@ from sagas.base.errors import Moved, SagasError
 from sagas.core import early_reports
 from sagas.core.early_reports import EarlyReport, Refusal
 from sagas.core.model import SagaInstance
-from sagas.definition.compiled import Word
+from sagas.definition.compiled import ActionKey
 from sagas.runtime.executor_host import Host
 
 
@@ -42,7 +42,7 @@ class EarlyReports:
             runner.keep(effects)
         return future
 
-    def waiting(self, saga: SagaInstance, word: Word) -> asyncio.Future[None] | None:
+    def waiting(self, saga: SagaInstance, word: ActionKey) -> asyncio.Future[None] | None:
         """Return the future of a report of this step that is on its way; None if there is none."""
         for one, future in self._waiting.items():
             if isinstance(one, EarlyReport) and one.saga is saga and one.word == word:

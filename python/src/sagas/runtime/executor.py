@@ -284,7 +284,7 @@ class Executor:
         """Write what functions told of their progress since the last look."""
         shards: dict[ShardDriver, Effects] = {}
         now = self._clock()
-        for attempt in self.calls.news():
+        for attempt in self.calls.take_progress():
             shard, control = attempt.instance.shard, attempt.control
             if shard and shard.is_known and control.progress:
                 effects = shards.setdefault(shard, shard.effects(now))

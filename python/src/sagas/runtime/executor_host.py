@@ -14,7 +14,7 @@ from sagas.core.model import Attempt
 from sagas.core.outcomes import Outcome
 from sagas.core.shard import ShardDriver
 from sagas.core.suspensions import SuspensionRow
-from sagas.definition.shelf import Shelf
+from sagas.definition.shelf import DefinitionRegistry
 from sagas.runtime.declared_calls import DeclaredCalls
 from sagas.runtime.dispatcher import Turns
 from sagas.storage.interface import Database
@@ -25,7 +25,7 @@ class Host(Turns, Protocol):
 
     loop: asyncio.AbstractEventLoop
     store: Database
-    shelf: Shelf
+    shelf: DefinitionRegistry
     teller: Teller
     clock: Callable[[], float]
     closed: SagasError | None

@@ -18,12 +18,12 @@ from sagas.core.model import Attempt
 from sagas.core.offers import task_name, task_of
 from sagas.core.suspensions import Lease
 from sagas.definition.blobs import BlobUnavailable
-from sagas.definition.compiled import Kind
+from sagas.definition.compiled import CompiledDefinition
 from sagas.definition.control import Progress
 from sagas.definition import compensation_task, report_undos, shape_validation, undo_text
 from sagas.definition.shape_values import ShapeValues
 from sagas.definition.task import Task
-from sagas.definition.task_data import Told
+from sagas.definition.task_data import TaskSnapshot
 from sagas.runtime import given_values
 from sagas.runtime.external_reports import ExternalReports
 from sagas.runtime.leased_tasks import Heartbeat, LeasedTask, Queue, Word
@@ -344,12 +344,12 @@ class ExternalQueue(ExternalReports):
             return None
         return LeasedTask(claim.attempt, lease, now + claim.seconds, task, given)
 
-    async def _task(self, claim: Claim) -> tuple[Kind, Task[Any]]:
+    async def _task(self, claim: Claim) -> tuple[CompiledDefinition, Task[Any]]:
         """The definition, and what a worker is handed, of an attempt that another node drives."""
         read, undo = self.owner.store.read, claim.action == "undo"
         rows = await read(OF_SAGA, claim.id)
         ((key, text, deadline, traceparent, definition, shape),) = rows
-        kind: Kind = self.owner.shelf.kind(definition)
+        kind: CompiledDefinition = self.owner.shelf.kind(definition)
         decode, text = kind.payloads.decode, kind.payloads.decode(text)
         results: dict[int, str] = {
             step: decode(value or "null") for step, value in await read(RESULTS, claim.id)
@@ -357,9 +357,9 @@ class ExternalQueue(ExternalReports):
         token, _, number = claim.attempt.rpartition("-")
         name = kind.names[claim.step]
         values = ShapeValues() if shape is None else ShapeValues.read(decode(shape))
-        place = kind.place(name, values, text)
+        place = kind.location(name, values, text)
         hint = kind.actions[claim.action][claim.step].hint
-        told = Told(
+        told = TaskSnapshot(
             kind.name,
             key,
             name,
@@ -374,7 +374,7 @@ class ExternalQueue(ExternalReports):
             deadline,
             kind.actions[claim.action][claim.step].context,
             traceparent=traceparent,
-            place=place,
+            location=place,
         )
         return kind, Task(told)
 

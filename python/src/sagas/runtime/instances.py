@@ -8,7 +8,7 @@ from collections.abc import Callable
 from sagas.base.errors import SagasError
 from sagas.core.effects import Abort
 from sagas.core.model import SagaInstance
-from sagas.definition.compiled import Kind
+from sagas.definition.compiled import CompiledDefinition
 from sagas.definition.start_options import StartOptions
 from sagas.runtime.waiters import Waiters
 
@@ -38,7 +38,9 @@ class Instances:
         self._empty = asyncio.Event()
         self._left: SagasError | None = None  # why sagas are left that nobody drives any more
 
-    def add(self, key: str, text: str, kind: Kind, options: StartOptions) -> SagaInstance:
+    def add(
+        self, key: str, text: str, kind: CompiledDefinition, options: StartOptions
+    ) -> SagaInstance:
         """Make one that has a key from now on. Its definition has a place once it has a shard."""
         saga = self.by_key[key] = SagaInstance(key, text, kind, -1, options)
         return saga

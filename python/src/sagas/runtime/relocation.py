@@ -20,14 +20,19 @@ from sagas.runtime.retries import until_answered
 from sagas.storage.interface import Database
 
 if TYPE_CHECKING:
-    from sagas.definition.compiled import Kind
+    from sagas.definition.compiled import CompiledDefinition
     from sagas.definition.saga import Saga
 
 INPUT = "SELECT input FROM sagas WHERE key = ?"
 
 
 def conflict(
-    key: str, kind: Kind | Saga, text: str, name: str, there: str, payloads: Payloads | None = None
+    key: str,
+    kind: CompiledDefinition | Saga,
+    text: str,
+    name: str,
+    there: str,
+    payloads: Payloads | None = None,
 ) -> KeyConflict | None:
     """Return what a start meets where its key has a saga; None if it is the same.
 
@@ -52,7 +57,7 @@ def conflict(
             return KeyConflict(f"key {key!r} belongs to a saga with another input. Use another key")
         there = stored.decode(there)
     if there != text and (differ := input_equality.differences(kind, there, text)):
-        told = mismatches.told(differ)
+        told = mismatches.joined_paths(differ)
         return KeyConflict(
             f"key {key!r} belongs to a saga with another input, which differs at {told}. "
             "Use another key"
@@ -63,7 +68,7 @@ def conflict(
 async def conflict_there(
     store: Database,
     key: str,
-    kind: Kind | Saga,
+    kind: CompiledDefinition | Saga,
     text: str,
     name: str,
     there: str,

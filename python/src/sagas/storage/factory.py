@@ -9,7 +9,7 @@ from typing import Any
 from sagas.base.errors import DefinitionError, InvalidStore
 from sagas.definition import definition_text
 from sagas.definition.compiled import digest_of
-from sagas.definition.shelf import Shelf
+from sagas.definition.shelf import DefinitionRegistry
 from sagas.storage.interface import Database
 from sagas.storage.record_file import told_path
 from sagas.storage.sqlite.storage import Sqlite
@@ -68,7 +68,7 @@ def missing(error: ImportError) -> InvalidStore:
 
 def make(
     name: str,
-    shelf: Shelf,
+    shelf: DefinitionRegistry,
     node: str | None,
     lease: float,
     most: int,
@@ -116,7 +116,7 @@ def make(
         most=most,
         sagas=[*names, *kinds],
         kinds=kinds,
-        version=shelf.shelf,
+        version=shelf.digest,
         transactions=transactions,
         record=told_path(record),
         encodes=shelf.payloads.codec is not None,

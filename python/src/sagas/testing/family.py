@@ -11,7 +11,7 @@ from sagas.core.model import Attempt
 from sagas.core.outcomes import SUCCEEDED, Outcome
 from sagas.core.states import SagaPhase
 from sagas.definition import serialization, shape_text, tokens, undo_sagas
-from sagas.definition.compiled import Kind
+from sagas.definition.compiled import CompiledDefinition
 from sagas.definition.context import Context
 from sagas.definition.payloads import Payloads
 from sagas.definition.saga import Saga
@@ -32,7 +32,7 @@ class Family:
 
     def __init__(self, clock: Clock, context: Context, payloads: Payloads) -> None:
         self._clock, self._context, self._payloads = clock, context, payloads
-        self._members: dict[str, tuple[Simulation, Kind, str]] = {}
+        self._members: dict[str, tuple[Simulation, CompiledDefinition, str]] = {}
         self.trials: dict[str, Trial] = {}
 
     async def play(self, saga: Saga, key: str, given: Any, scenario: Scenario) -> Trial:
@@ -49,7 +49,7 @@ class Family:
             definition, kept = shape_text.write(shape), self._payloads.encode(shape.values.text())
         else:
             definition = saga.toml()
-        kind = Kind(definition, saga, self._context, self._payloads)
+        kind = CompiledDefinition(definition, saga, self._context, self._payloads)
         if wrong := kind.misfit(text):
             raise wrong
         if kind.layout is not None:

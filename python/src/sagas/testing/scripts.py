@@ -100,9 +100,9 @@ def check_there(saga: Saga, layout: Layout, named: Iterable[str]) -> None:
     """
     for name in named:
         declared = next(one.path for one in shape_validation.patterns(saga) if one.is_of(name))
-        if name == declared or name in layout.spots:
+        if name == declared or name in layout.origins:
             continue
-        there = [step for step, spot in layout.spots.items() if spot.declared == declared]
+        there = [step for step, spot in layout.origins.items() if spot.declared == declared]
         said = f"it has {', '.join(there[:3])}{' and others' * (len(there) > 3)}"
         raise KeyError(
             f"saga {saga.name!r} has no step {name!r} for this input: of step {declared!r} "

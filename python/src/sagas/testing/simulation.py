@@ -29,7 +29,7 @@ from sagas.core.shard_definitions import ShardDefinitions
 from sagas.core.states import Action, OutcomeKind, Suspension, saga_phase, step_state
 from sagas.core.suspensions import SuspensionRow
 from sagas.definition import children, serialization
-from sagas.definition.compiled import Kind
+from sagas.definition.compiled import CompiledDefinition
 from sagas.definition.start_options import StartOptions
 from sagas.runtime import invocation
 from sagas.testing.engine import Engine
@@ -106,7 +106,7 @@ class Simulation:
         self,
         key: str,
         text: str,
-        kind: Kind,
+        kind: CompiledDefinition,
         scenario: Scenario,
         clock: Clock,
         children: Children,

@@ -103,7 +103,7 @@ class PostgreSQLDesk:
                 link = self._own_link()
                 task.enter(link)
                 link.begun = False
-                value = awaitables.whole_now(function(task))
+                value = awaitables.plain_result(function(task))
                 recorded = link.execute(RECORD, record(link, value), prepare=False)
                 if not recorded.fetchall():
                     raise Settled(order.token)
@@ -125,7 +125,7 @@ class PostgreSQLDesk:
                 link = await self._new_link()
                 task.enter(link)
                 link.begun = False
-                value = await awaitables.whole(await function(task))
+                value = await awaitables.awaited(await function(task))
                 recorded = await link.execute(RECORD, record(link, value), prepare=False)
                 if not await recorded.fetchall():
                     raise Settled(order.token)
