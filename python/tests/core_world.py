@@ -503,7 +503,7 @@ class World:
         line = f'"event":"{word}","saga":{saga.number},"step":{attempt.step}}}'
         if self.store.text.count(line) < 1:
             raise Wrong(f"{attempt.row} is called before it is durable")
-        for name, value in attempt.given.items():
+        for name, value in attempt.needed_results.items():
             step = saga.kind.names.index(name)
             if attempt.kind == "run" and self.effects.get((saga.number, step, "run")) != value:
                 raise Wrong(f"{attempt.row} is given {value} of {name}")

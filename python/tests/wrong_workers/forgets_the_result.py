@@ -20,6 +20,6 @@ def apply() -> None:
 
     def task(self: Work, order: Order, begun: Begun) -> Task[Any]:
         told = snapshot(right(self, order, begun)._data)
-        return Task(dataclasses.replace(told, own="null" if told.undo else None))
+        return Task(dataclasses.replace(told, own_result="null" if told.undo else None))
 
     setattr(Work, "_task", task)

@@ -23,7 +23,7 @@ def apply() -> None:
         told = snapshot(right(self, order, begun)._data)
         return Task(
             dataclasses.replace(
-                told, given={name: seen.setdefault(name, text) for name, text in told.given.items()}
+                told, needed_results={name: seen.setdefault(name, text) for name, text in told.needed_results.items()}
             )
         )
 

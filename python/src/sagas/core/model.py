@@ -346,9 +346,9 @@ class Attempt(AcknowledgedAttempt):
         return self.instance.kind.payloads.decode(self.instance.text)
 
     @property
-    def given(self) -> dict[str, str]:
+    def needed_results(self) -> dict[str, str]:
         decode = self.instance.kind.payloads.decode
-        given = self.action.given
+        given = self.action.needed_results
         return {name: decode(self.results.get(number, "null")) for number, name in given}
 
     @property
@@ -360,7 +360,7 @@ class Attempt(AcknowledgedAttempt):
         return self.instance.options.traceparent
 
     @property
-    def own(self) -> str | None:
+    def own_result(self) -> str | None:
         own = self.results.get(self.step) if self.action.undo else None
         return None if own is None else self.instance.kind.payloads.decode(own)
 
@@ -393,7 +393,7 @@ class Attempt(AcknowledgedAttempt):
         instance = self.instance
         if not instance.is_partial:
             return False
-        needed = [self.results.get(number) for number, _ in self.action.given]
+        needed = [self.results.get(number) for number, _ in self.action.needed_results]
         if self.action.undo:
             needed.append(self.results.get(self.step))
         return ABSENT in (instance.text, instance.options.shape, *needed)

@@ -15,10 +15,10 @@ ELSEWHERE = "this task is a copy in another process, or is called by a worker, a
 
 
 class Context:
-    """What the functions of a store share: clients, pools and settings, say.
+    """Hold the value of `task.context`, which the functions of a store share.
 
     Attributes:
-        lacks: Why there is none; None while there is one.
+        lacks: Why there is no value; None while there is one.
     """
 
     def __init__(self, lacks: str = NOT_GIVEN) -> None:
@@ -26,38 +26,38 @@ class Context:
         self._value: Any = None
 
     def __reduce__(self) -> tuple[type[Context], tuple[str]]:
-        """Another process has none."""
+        """Pickle it without its value: another process has no context."""
         return Context, (ELSEWHERE,)
 
     def put(self, value: Any) -> None:
-        """From now on it is this."""
+        """Set the value."""
         self.lacks, self._value = None, value
 
     def get(self) -> Any:
-        """Return it.
+        """Return the value.
 
         Raises:
-            RuntimeError: There is none.
+            RuntimeError: There is no value.
         """
         if self.lacks is not None:
             raise RuntimeError(f"task.context: {self.lacks}")
         return self._value
 
 
-def is_factory(given: object) -> bool:
-    """Whether it makes the context, as a function or a class does; else it is the context."""
-    if isinstance(given, functools.partial):
+def is_factory(context: object) -> bool:
+    """Return whether the argument `context` is a function or a class that makes the context."""
+    if isinstance(context, functools.partial):
         return True
-    return inspect.isroutine(given) or inspect.isclass(given)
+    return inspect.isroutine(context) or inspect.isclass(context)
 
 
-def made(given: Any) -> Manager:
-    """Return the context manager that a factory gives.
+def made(factory: Any) -> Manager:
+    """Return the context manager that a factory makes.
 
     Raises:
-        TypeError: It gives something else.
+        TypeError: The factory returned something else.
     """
-    manager = given()
+    manager = factory()
     if isinstance(
         manager, (contextlib.AbstractAsyncContextManager, contextlib.AbstractContextManager)
     ):
@@ -65,6 +65,6 @@ def made(given: Any) -> Manager:
     if inspect.iscoroutine(manager):
         manager.close()
     raise TypeError(
-        f"context={shown(given)}: the function returned {type(manager).__name__}. Return a "
+        f"context={shown(factory)}: the function returned {type(manager).__name__}. Return a "
         "context manager (@contextlib.asynccontextmanager), or give the object itself"
     )

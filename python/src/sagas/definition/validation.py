@@ -178,7 +178,7 @@ def check_needs(step: Part) -> None:
         if isinstance(need, Decorator):
             raise of_step(
                 step,
-                f"needs {need.what}(...) of {need.where}, which is a decorator. Apply it to a "
+                f"needs {need.call}(...) of {need.where}, which is a decorator. Apply it to a "
                 "function, and need the step that this makes",
             )
         if isinstance(need, (Step, Each, Inclusion, Collection)) and need.saga is not step.saga:
@@ -310,7 +310,7 @@ def check_saga(saga: Saga) -> None:
     for left in saga.decorators:
         named = f", step {left.name!r}" if left.name else ""
         raise DefinitionError(
-            f"{left.where}: saga {saga.name!r}{named}: {left.what}(...) declares nothing, "
+            f"{left.where}: saga {saga.name!r}{named}: {left.call}(...) declares nothing, "
             "because it is a decorator. Apply it to a function"
         )
     if not saga.steps:

@@ -50,7 +50,7 @@ class Family:
         else:
             definition = saga.toml()
         kind = CompiledDefinition(definition, saga, self._context, self._payloads)
-        if wrong := kind.misfit(text):
+        if wrong := kind.input_error(text):
             raise wrong
         if kind.layout is not None:
             scripts.check_there(saga, kind.layout, _named(scenario))
