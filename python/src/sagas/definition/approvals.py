@@ -87,7 +87,7 @@ class Answer:
 
 
 def answering(function: Callable[[Any], Any]) -> Callable[[Any], Any]:
-    """Wrap the function of an approval so that it can return a decision as an `Answer`."""
+    """Wrap the function of an approval: a returned decision becomes an `Answer`."""
     if inspect.iscoroutinefunction(function):
 
         async def act(task: Any) -> Any:

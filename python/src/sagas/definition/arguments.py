@@ -152,7 +152,7 @@ def keeping(retention: Any, archive_dir: Any) -> None:
 
     Raises:
         TypeError: One of them has a wrong type.
-        ValueError: The folder cannot be used, or there is no retention for it.
+        ValueError: The folder cannot be used, or `retention` is missing.
     """
     if retention is not None and not (
         isinstance(retention, datetime.timedelta) and retention >= datetime.timedelta(0)

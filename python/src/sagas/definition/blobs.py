@@ -22,10 +22,10 @@ LEAST = 256
 class BlobStore(Protocol):
     """Keep large inputs and results outside the database.
 
-    Write your own class, or use `FolderBlobStore` or `PostgresBlobStore`. Plain functions are
-    called in several threads at once. Coroutine functions are awaited in the event loop of the
-    store. A key has up to 200 of the characters `0-9`, `a-f` and `/`, and no key is put with two
-    different values. All nodes and clients of a store must reach the same blobs.
+    Made by you, as a class with these functions; or use `FolderBlobStore` or `PostgresBlobStore`.
+    Plain functions are called in several threads at once. Coroutine functions are awaited in the
+    event loop of the store. A key has up to 200 of the characters `0-9`, `a-f` and `/`, and no key
+    is put with two different values. All nodes and clients of a store must reach the same blobs.
     """
 
     def put(self, key: str, data: bytes, /) -> Awaitable[None] | None:
@@ -43,7 +43,7 @@ class BlobStore(Protocol):
             key: Its name.
 
         Raises:
-            KeyError: There is no value with this name. Raise another exception if that is unknown.
+            KeyError: No value has this name. Raise another exception if that is unknown.
         """
 
     def delete(self, key: str, /) -> Awaitable[None] | None:

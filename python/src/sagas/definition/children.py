@@ -234,7 +234,7 @@ def _check(step: Step[Any], child: Saga) -> None:
 
 
 def children_of(saga: Saga) -> Iterator[tuple[Step[Any], Saga]]:
-    """Return the steps of a saga that start children, each with the child's definition."""
+    """Return the steps of a saga that start children, with the child of each."""
     return ((step, step.child) for step in saga.all_steps if step.child is not None)
 
 
@@ -325,7 +325,7 @@ def room_of(saga: Saga) -> int:
 
 
 def check_key(key: str, saga: Saga) -> None:
-    """Raise `InvalidKey` if a key leaves too few characters for the keys of the children."""
+    """Raise `InvalidKey` if a key is too long for the keys of the saga's children."""
     room = room_of(saga)
     if len(key) + room > arguments.MOST_KEY:
         raise InvalidKey(

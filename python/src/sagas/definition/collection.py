@@ -1,4 +1,4 @@
-"""`collect`: a need for items that continues with those that succeeded if others fail."""
+"""`collect`: a need for the items of a fan-out, some of which may fail."""
 
 from __future__ import annotations
 
@@ -86,7 +86,7 @@ def collect(step: FanOut[Any, R]) -> Collection[R]:
 
 
 def mark(needs: Iterable[object]) -> None:
-    """Mark the steps that are needed by `collect`: failures of their items are results."""
+    """Mark the steps that `collect` needs: failures of their items are results."""
     for need in needs:
         if isinstance(need, Collection):
             need.step.is_collected = True

@@ -61,7 +61,7 @@ def of(
 def hints(
     function: Callable[[Any], Any], step: Step[Any]
 ) -> tuple[Decoder | None, dict[str, Decoder]]:
-    """Return the decoders of the input of a compensation, and of the results of its saga's steps.
+    """Return the decoders of a compensation's input and of its saga's results.
 
     A value without a type hint has no decoder, and is read as JSON.
     """

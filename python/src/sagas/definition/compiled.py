@@ -39,7 +39,7 @@ NAME = re.compile(r'^name = "(.*)"$', re.M)
 
 
 def digest_of(text: str) -> str:
-    """The digest of one definition, by its text."""
+    """Return the digest of one definition, given its text."""
     return hashlib.sha256(text.encode()).hexdigest()[:16]
 
 
@@ -57,7 +57,7 @@ def name_of(text: str) -> str:
 
 
 def _simple(step: Step[Any] | None, kind: str, is_fair: bool) -> Function | None:
-    """Return the function of a step that can start at once and is awaited in the event loop.
+    """Return the async function of a step that can start at once, or None.
 
     Args:
         step: The step, or None if the program does not have it.
@@ -88,7 +88,7 @@ def _fault(text: str, decoder: Decoder) -> mismatches.Mismatch | None:
 
 
 class CompiledAction:
-    """A step's action or its compensation, as far as all sagas of a definition share it.
+    """A step's action or its compensation, the same for all sagas of a definition.
 
     Attributes:
         name: The step's name.
@@ -235,7 +235,7 @@ class CompiledDefinition:
         return [plain.get(name) for name in self.names]
 
     def location(self, step: str, values: ShapeValues, input: str) -> StepLocation | None:
-        """Return the location of a step of a saga; None if the steps do not come from the input.
+        """Return the location of a step; None if the steps do not come from the input.
 
         Args:
             step: The step's name.
@@ -301,7 +301,7 @@ class CompiledDefinition:
         return [sorted(below[step]) for step in range(len(needs))]
 
     def _firsts(self, numbers: list[int]) -> dict[int, type_checks.Check | None]:
-        """Return one of the first steps for each type of the input, with the check of the type."""
+        """Return one first step for each type of the input, with the type's check."""
         checks: dict[int, type_checks.Check | None] = {}
         hints: list[Any] = []
         for number in numbers:

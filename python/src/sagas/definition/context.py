@@ -1,4 +1,4 @@
-"""`Context`: the value of `task.context`, an object or what a factory makes of one."""
+"""`Context`: the value of `task.context`, which the functions of a store share."""
 
 from __future__ import annotations
 
@@ -18,7 +18,7 @@ class Context:
     """Hold the value of `task.context`, which the functions of a store share.
 
     Attributes:
-        lacks: Why there is no value; None while there is one.
+        lacks: Why the value is missing; None while there is one.
     """
 
     def __init__(self, lacks: str = NOT_GIVEN) -> None:
@@ -37,7 +37,7 @@ class Context:
         """Return the value.
 
         Raises:
-            RuntimeError: There is no value.
+            RuntimeError: The value is missing.
         """
         if self.lacks is not None:
             raise RuntimeError(f"task.context: {self.lacks}")
@@ -45,7 +45,7 @@ class Context:
 
 
 def is_factory(context: object) -> bool:
-    """Return whether the argument `context` is a function or a class that makes the context."""
+    """Return whether the argument `context` is a function or class that makes it."""
     if isinstance(context, functools.partial):
         return True
     return inspect.isroutine(context) or inspect.isclass(context)

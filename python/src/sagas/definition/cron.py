@@ -113,7 +113,7 @@ class Cron:
         return of_month or of_week if self.is_either else of_month and of_week
 
     def next_after(self, at: datetime.datetime, zone: ZoneInfo) -> datetime.datetime | None:
-        """Return the first time after an instant, in UTC; None if it would take eight years."""
+        """Return the first time after an instant, in UTC; None if it is years away."""
         times = self._instants(at, zone) if self.is_hourly else self._wall_times(at, zone)
         return next(times, None)
 

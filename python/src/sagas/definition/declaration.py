@@ -1,4 +1,4 @@
-"""`Declaration`: the declared steps of a definition, and the decoders of their values."""
+"""`Declaration`: the declared steps of a saga, and the decoders of their values."""
 
 from __future__ import annotations
 

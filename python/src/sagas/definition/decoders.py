@@ -35,7 +35,7 @@ _MADE: dict[Any, type] = {
 
 
 def _decimal(value: Any) -> decimal.Decimal:
-    """Return the decimal number as JSON writes it: 19.99, not the nearest binary fraction."""
+    """Return a decimal number as JSON writes it: 19.99, not a binary fraction."""
     if isinstance(value, bool) or not isinstance(value, (str, int, float)):
         raise TypeError
     return decimal.Decimal(repr(value) if isinstance(value, float) else value)
@@ -69,13 +69,13 @@ def hints(function: Callable[..., Any]) -> tuple[Decoder | None, Decoder | None]
 
 
 def input_hint(function: Callable[..., Any]) -> Any:
-    """Return the type of a function's input, by the hint `Task[Order]`; None without a hint."""
+    """Return the type of a function's input, `Order` of the hint `Task[Order]`."""
     arguments = task_hints(function)
     return arguments[0] if arguments else None
 
 
 def task_hints(function: Callable[..., Any]) -> tuple[Any, ...]:
-    """Return the type arguments of a function's task: two for `ItemTask[Order, Parcel]`."""
+    """Return the type arguments of a function's task, `Order` of `Task[Order]`."""
     try:
         type_hints = typing.get_type_hints(_hinted_function(function))
         names = [name for name in type_hints if name != "return"]
@@ -153,7 +153,7 @@ def _of_class(hint: type) -> Decoder | None:
 
 
 def _leaf(make: Decoder) -> Decoder:
-    """Wrap a class that users or other packages wrote: its errors must not show the value."""
+    """Wrap a class of a user or of another package: its errors may show the value."""
 
     def read(value: Any) -> Any:
         try:
@@ -165,7 +165,7 @@ def _leaf(make: Decoder) -> Decoder:
 
 
 def _named_leaf(make: Decoder, why: str) -> Decoder:
-    """Wrap a class with a fixed error message, since its own errors may show the value."""
+    """Wrap a class with a fixed error message: its own errors may show the value."""
 
     def read(value: Any) -> Any:
         try:

@@ -1,4 +1,4 @@
-"""`Fan`: the steps of a saga that a declared step became, for readers of its results."""
+"""`Fan`: the steps of a saga that come from a declared step."""
 
 from __future__ import annotations
 

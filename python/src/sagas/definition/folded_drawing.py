@@ -59,14 +59,14 @@ def _line(name: str, style: str, label: str) -> str:
 
 
 def _style(nodes: Sequence[tuple[str, str]]) -> str:
-    """Return the style of a group: that of a failed step, or the one that all steps have."""
+    """Return the style of a group: of a failed step, or the one of all steps."""
     styles = [style for style, _ in nodes]
     failed = [style for style in styles if FAILED in style]
     return failed[0] if failed else styles[0] if len({*styles}) == 1 else "shape=box"
 
 
 def _label(title: str, nodes: Sequence[tuple[str, str]]) -> str:
-    """Return a group's title, the number of steps in each state, and the costs of all steps."""
+    """Return a group's title, its numbers of steps by state, and common costs."""
     lines = Counter(line for _, label in nodes for line in label.split(r"\n")[1:])
     shown = [f"{count:,} {line}" for line, count in lines.items() if not line.startswith(COSTS)]
     shown += [

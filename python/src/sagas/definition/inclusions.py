@@ -1,4 +1,4 @@
-"""`Inclusions`: the part of `Saga` for included sagas and for steps from the input."""
+"""`Inclusions`: the part of `Saga` for included sagas and computed steps."""
 
 from __future__ import annotations
 

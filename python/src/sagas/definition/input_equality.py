@@ -76,7 +76,7 @@ def _normalized(text: str, decoder: Decoder) -> str | None:
 
 
 def _merged(value: Any, normalized: Any) -> Any:
-    """Return a normalized value, with the fields of the original that its type does not have."""
+    """Return a normalized value with those fields that its type does not have."""
     if isinstance(value, dict) and isinstance(normalized, dict):
         return value | {
             name: _merged(value[name], part) if name in value else part

@@ -1,4 +1,4 @@
-"""The types of a saga's input and of its items, from the type hints of its functions."""
+"""The types of a saga's input and items, from the type hints of its functions."""
 
 from __future__ import annotations
 
@@ -19,7 +19,7 @@ DICTS = (dict, collections.abc.Mapping)
 
 
 def input_hint(saga: Saga) -> Any:
-    """Return the type of a saga's input: the declared one, else that of the first type hint."""
+    """Return the type of a saga's input: declared, or of the first type hint."""
     if saga.input_type is not None:
         return saga.input_type
     functions = (step.run.function for step in saga.steps if step.run.function)
@@ -38,7 +38,7 @@ def item_decoder(part: Part) -> Decoder | None:
 
 
 def _item_hint(part: Part) -> Any:
-    """Return the item's type by the hint `ItemTask[..., T]`, else by the type of `for_each`."""
+    """Return the item's type: of the hint `ItemTask[..., T]`, else of `for_each`."""
     from sagas.definition.step import Step
 
     if isinstance(part, Step) and part.run.function:

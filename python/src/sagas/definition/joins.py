@@ -1,4 +1,4 @@
-"""Joining steps between a fan-out and another one whose items each need all of its items."""
+"""Joining steps between two fan-outs: each item of one needs all of the other."""
 
 from __future__ import annotations
 

@@ -48,7 +48,7 @@ def selecting(labels: Any) -> Labels:
 
 
 def checked(labels: Any) -> Labels:
-    """Return the checked labels of a start or of a filter, sorted; None means no labels.
+    """Return the labels of a start or of a filter, checked and sorted.
 
     Raises:
         InvalidLabel: They break `RULE`.

@@ -1,4 +1,4 @@
-"""`Layout`: the steps of a definition from an input, by the declared steps they come from."""
+"""`Layout`: the steps of a definition from an input, by their declared steps."""
 
 from __future__ import annotations
 
@@ -15,7 +15,7 @@ ORIGIN_PART = re.compile(r"([a-z][a-z0-9_-]*)(?:\[(\d+)\])?\Z")
 
 
 class StepOrigin(NamedTuple):
-    """The origin of a step: the inclusions around it, its declared name, and its item's number."""
+    """The origin of a step: its inclusions, declared name and item's number."""
 
     scope: Scope
     name: str
@@ -48,9 +48,7 @@ def parse_origin(path: str) -> StepOrigin:
         ValueError: It is not the path of an origin.
     """
     matches = [ORIGIN_PART.match(part) for part in path.split("/")]
-    parts = [
-        (match[1], None if match[2] is None else int(match[2])) for match in matches if match
-    ]
+    parts = [(match[1], None if match[2] is None else int(match[2])) for match in matches if match]
     if len(parts) < len(matches):
         raise ValueError(f"{path!r} is not the place of a step")
     return StepOrigin(tuple(parts[:-1]), *parts[-1])
@@ -72,7 +70,7 @@ class Layout:
             self._groups.setdefault((origin.scope, origin.name), {})[origin.number] = name
 
     def gives(self, scope: Scope) -> bool:
-        """Return whether the inclusion of a scope, or one around it, has a function `given=`."""
+        """Return whether an inclusion of a scope has a function `given=`."""
         names = [name for name, _ in scope]
         return any("/".join(names[: depth + 1]) in self._giving for depth in range(len(names)))
 

@@ -64,7 +64,7 @@ def _of_model(error: Exception) -> Iterator[Mismatch]:
 
 
 def lacking(value: dict[str, Any], hint: Any) -> Mismatch | None:
-    """Return the mismatch of an object without required fields of a dataclass, if there are any."""
+    """Return the mismatch for missing fields of a dataclass, or None."""
     fields = [field for field in dataclasses.fields(hint) if field.init]
     none = dataclasses.MISSING
     required = [

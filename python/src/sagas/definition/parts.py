@@ -139,7 +139,7 @@ class FanOutInclusion(Inclusion):
         return Each(self)
 
     def __getitem__(self, step: Selection[R]) -> Selection[Any]:
-        """Return a step of all these included sagas: its result is a list, or a dict by the keys.
+        """Return a step of all these sagas, whose result is a list or a dict.
 
         Args:
             step: The step, as the included saga knows it.
@@ -148,7 +148,7 @@ class FanOutInclusion(Inclusion):
 
 
 class DeclareEach(Protocol[T]):
-    """The type of `saga.step(for_each=...)` over a list: a decorator that makes a fan-out."""
+    """The type of `saga.step(for_each=...)` over a list: a decorator."""
 
     @overload
     def __call__(
@@ -162,7 +162,7 @@ class DeclareEach(Protocol[T]):
 
 
 class DeclareKeyed(Protocol[T]):
-    """The type of `saga.step(for_each=...)` over a dict: a decorator that makes a fan-out."""
+    """The type of `saga.step(for_each=...)` over a dict: a decorator."""
 
     @overload
     def __call__(

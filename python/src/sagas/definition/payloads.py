@@ -23,7 +23,7 @@ RESERVED = ('{"$codec":', '{"$blob":', '{"$absent":', ESCAPED)
 class Codec(Protocol):
     """Encode inputs and results before they are stored, for example to encrypt them.
 
-    Write your own class with these two functions. Both are called in the event loop and in
+    Made by you, as a class with these two functions. Both are called in the event loop and in
     threads, so they must be fast.
     """
 
@@ -54,7 +54,7 @@ class Payloads:
 
     @property
     def reads(self) -> bool:
-        """Whether a stored text may differ from the value: there is a codec or a blob store."""
+        """Whether there is a codec or a blob store, so that texts may differ."""
         return self.codec is not None or self.has_blobs
 
     def is_encoded(self, text: str) -> bool:
@@ -151,7 +151,7 @@ def shown(value: Any) -> Any:
 
 
 def unescaped(text: str) -> str:
-    """Return a stored text without its escape, for display. An encoded value stays encoded."""
+    """Return a stored text without its escape, for display, still encoded."""
     return text[len(ESCAPED) : -1] if text.startswith(ESCAPED) else text
 
 

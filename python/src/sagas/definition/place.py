@@ -1,4 +1,4 @@
-"""`StepLocation`: the location of a task's step in a saga whose steps come from its input."""
+"""`StepLocation`: the location of a task in a saga with steps from its input."""
 
 from __future__ import annotations
 
@@ -23,7 +23,7 @@ NO_ITEM = {"index": None, "item_key": None, "item": None}
 
 
 class ScopeReader(Protocol):
-    """The declaration of a saga, as far as reading the values of its scopes requires it.
+    """The declared names, decoders and functions of a saga's scopes.
 
     Attributes:
         root: The saga, or None if the program does not have it.
@@ -99,7 +99,7 @@ class StepLocation:
 
     @property
     def shape(self) -> dict[str, Any]:
-        """The saga's name with numbers and keys of items, for a worker outside of the store."""
+        """The saga's name, and numbers and keys of items, for a remote worker."""
         return {"saga": self.saga, **self.values.numbering(self.origin.scope)}
 
     def visible(self, texts: Mapping[str, str]) -> Iterator[tuple[str, str]]:
@@ -230,14 +230,12 @@ class RemoteStepLocation(StepLocation):
         return iter(())
 
     def gather(self, step: Selection[Any] | str, value_of: Callable[[str], Any]) -> Any:
-        """As of `StepLocation`, with the names that steps have in their own saga.
+        """Return the values of the selected steps, by names in their own saga.
 
         Only the task's own step is called by its full name.
         """
         own_name, full_name = self._name, self._full_name
-        return super().gather(
-            step, lambda name: value_of(full_name if name == own_name else name)
-        )
+        return super().gather(step, lambda name: value_of(full_name if name == own_name else name))
 
     @property
     def lacks_given(self) -> bool:

@@ -85,7 +85,7 @@ def path_of(saga: Saga, step: Step[Any], prefix: str = "") -> str | None:
 
 
 def undo_data(undo_input: Mapping[str, Any], declared: Step[Any], attempt: int) -> TaskSnapshot:
-    """Return the data of a compensation's task, from the input of the saga that calls it.
+    """Return the data of a compensation's task, given the calling saga's input.
 
     The input of a saga that undoes a child names no step: then it is the declared one.
     """
@@ -106,7 +106,7 @@ def undo_data(undo_input: Mapping[str, Any], declared: Step[Any], attempt: int) 
 
 
 def compensation(task: Task[Any], saga: Saga | None) -> Task[Any]:
-    """Return the task for a worker: for a saga that undoes a report, that of the compensation."""
+    """Return the task for a worker: in a saga that undoes a report, of the undo."""
     if saga is None or saga.undoes_step is None:
         return task
     data = undo_data(task.input, saga.undoes_step, task.attempt)

@@ -457,7 +457,7 @@ class Saga(WaitSteps, Inclusions):
         validation.check_saga(self)
 
     def warnings(self) -> list[str]:
-        """Return warnings about valid options that are probably not meant; `open` logs them.
+        """Return warnings about valid but unlikely options; `open` logs them.
 
         For example, a compensation that can never be called, or a type hint that cannot be read.
         """
@@ -490,7 +490,7 @@ class Saga(WaitSteps, Inclusions):
                 included sagas whose parts are drawn as single nodes; `"*"`: all (default: none).
 
         Raises:
-            DefinitionError: As `check`. See `toml` for other exceptions.
+            DefinitionError: As `check`. For other exceptions see `toml`.
             EngineError: The program `sagas` cannot be run.
         """
         text = self.toml(input)

@@ -1,4 +1,4 @@
-"""`Selection`: a step, a fan-out or a step of an included saga, whose results can be read."""
+"""`Selection`: a step, a fan-out, or a step of an included saga."""
 
 from __future__ import annotations
 

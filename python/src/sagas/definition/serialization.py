@@ -77,7 +77,7 @@ _scan: Callable[[str, int], tuple[Any, int]] = getattr(_decoder, "scan_once")
 
 
 def _chunked() -> Callable[[Any, int], Iterable[str]]:
-    """Return the function of the encoder, with its C part created once, not for each value."""
+    """Return the encoder's function, with its C part created only once."""
     make: Callable[..., Callable[[Any, int], Iterable[str]]] | None = getattr(
         json.encoder, "c_make_encoder", None
     )
@@ -100,7 +100,7 @@ _chunks = _chunked()
 
 
 def _decode(text: str) -> Any:
-    """Parse a JSON text. A text without blanks around its value takes the fast path in C.
+    """Parse a JSON text, by the fast path in C if it has no blanks around it.
 
     Raises:
         CannotDecode: The text has too many levels.
@@ -136,7 +136,7 @@ def is_deeper(text: str, levels: int = MOST_LEVELS) -> bool:
 
 
 def clean(text: str) -> str:
-    """Return a text that a database can store, without NUL characters and lone surrogates."""
+    """Return a text without NUL characters and lone surrogates, for a database."""
     if text.isprintable():
         return text
     return text.replace("\0", "\\0").encode("utf-8", "backslashreplace").decode()
@@ -224,7 +224,7 @@ def _path(value: Any, depth: int) -> str:
 
 
 def read(text: str, decoder: Decoder | None = None) -> Any:
-    """Return the value of a JSON text, decoded if there is a decoder: a new object each time."""
+    """Return the decoded value of a JSON text: a new object at each call."""
     value = _decode(text)
     return value if decoder is None else decoder(value)
 
@@ -236,13 +236,13 @@ def unstorable(value: Any) -> str | None:
 
 
 def failed(value: Any) -> str | None:
-    """Return the error of an item whose failure was collected, if the stored value has one."""
+    """Return the collected error in a stored value, or None if it has none."""
     detail = value.get(FAILED) if type(value) is dict and len(value) == 1 else None
     return detail if isinstance(detail, str) else None
 
 
 def is_plain(value: Any) -> bool:
-    """Return whether a stored value is an error in place of a result, which has no type."""
+    """Return whether a stored value is an error instead of a result."""
     return unstorable(value) is not None or failed(value) is not None
 
 
@@ -279,7 +279,7 @@ def kept(text: str, decoder: Decoder | None) -> Any:
 
 
 def fitting(text: str, decoder: Decoder | None) -> Any:
-    """Return the decoded value of a JSON text, or the JSON value if it does not fit its type.
+    """Return the decoded value of a JSON text, or the JSON value if it cannot be.
 
     An operator may have reported such a value, or the result could not be stored.
     """

@@ -187,7 +187,7 @@ class Shape:
         return range(count)
 
     def _keep(self, part: Part, group: str, value: Any) -> set[str]:
-        """Keep the items of a fan-out, and return the names of their types that are not JSON."""
+        """Keep the items of a fan-out, and return their types that are not JSON."""
         assert part.for_each is not None
         reader = _reader(part.for_each)
         items, keys = _called(part, "for_each", lambda input: _listed(part, reader(input)), value)
@@ -280,7 +280,7 @@ class Shape:
                     yield ShapedStep(entry.name, part, origin, needs)
 
     def _all_of(self, level: Level, part: Part) -> list[str]:
-        """Return the names of all steps of a part; if it has no steps, those that it needs."""
+        """Return the steps of a part by name; if it has none, those that it needs."""
         entries = level.entries[part.name]
         if not entries:
             return self._needed(level, part, None)
@@ -307,7 +307,7 @@ class Shape:
         return self._needs[at]
 
     def _join(self, level: Level, part: Part, names: list[str]) -> str:
-        """Return the name of the joining step after a part. It needs all steps of the part."""
+        """Return the name of the joining step that needs all steps of a part."""
         name = level.prefix + part.name + joins.ENDING
         if name not in self._joins:
             origin = StepOrigin(level.scope, part.name + joins.ENDING)
@@ -358,12 +358,12 @@ def _reader(part: ForEach | str | Callable[[Any], Any]) -> Callable[[Any], Any]:
 
 
 def _truth(function: Callable[[Any], Any]) -> Callable[[Any], bool]:
-    """Wrap a function to return a bool: the conversion may call code of the user as well."""
+    """Wrap a function to return a bool: the conversion may call user code, too."""
     return lambda value: bool(function(value))
 
 
 def _listed(part: Part, items: Any) -> tuple[list[Any], list[str] | None]:
-    """Return the items and their keys. Listing them may run code of the user: a generator."""
+    """Return the items and their keys. Listing them may run user code."""
     if isinstance(items, Mapping):
         if not all(isinstance(key, str) for key in items):
             raise _invalid(part, "for_each: the keys of the dict must be texts")

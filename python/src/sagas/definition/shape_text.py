@@ -135,7 +135,7 @@ def giving(text: str) -> frozenset[str]:
 
 
 def without_costs(text: str) -> str:
-    """Return a definition without its costs, to compare definitions apart from their costs."""
+    """Return a definition without its costs."""
     return COST_LINES.sub("", text)
 
 

@@ -90,7 +90,7 @@ def check_inclusion(inclusion: Inclusion) -> None:
 
 
 def check_costs(step: Step[Any]) -> None:
-    """Raise `DefinitionError` if a cost is neither a valid number nor a plain function."""
+    """Raise `DefinitionError` if a cost is not a valid number or plain function."""
     for word, cost in step._costs.items():
         if cost is None or is_cost(cost) or (callable(cost) and not _is_async(cost)):
             continue
@@ -109,7 +109,7 @@ def _is_async(function: object) -> bool:
 
 
 def check_shaped(saga: Saga, depth: int = 0) -> None:
-    """Raise `DefinitionError` for the first error that only the whole declaration shows."""
+    """Raise `DefinitionError` for errors that only the whole declaration shows."""
     if depth > MOST_DEPTH:
         error = f"it includes itself, or sagas in one another more than {MOST_DEPTH} deep"
         raise validation.of_saga(saga, f"{error}. Start a child saga instead")
@@ -199,12 +199,12 @@ def _joined(saga: Saga, prefix: str = "", where: str = "") -> Iterator[tuple[str
 
 
 def step_named(saga: Saga, name: str) -> Step[Any] | None:
-    """Return the declared step of a name: `ship`, `ship-2`, `hotel/room`, `hotel-room-1`."""
+    """Return the declared step of a name: `ship`, `ship-2` or `hotel/room`."""
     return next((pattern.step for pattern in patterns(saga) if pattern.is_of(name)), None)
 
 
 def _check_names(saga: Saga) -> None:
-    """Raise `DefinitionError` if two steps may get one name, or a name may be too long."""
+    """Raise `DefinitionError` if names of steps may be equal or too long."""
     names = [(pattern.name, pattern.where) for pattern in patterns(saga)] + [*_joined(saga)]
     for name, where in names:
         longest = name.replace("-#", MANY)

@@ -1,4 +1,4 @@
-"""`ShapeValues`: the items, keys and inputs of included sagas that a saga's shape has."""
+"""`ShapeValues`: the items, keys and inputs of a saga's shape."""
 
 from __future__ import annotations
 
@@ -10,7 +10,7 @@ from sagas.definition.layout import Scope, StepOrigin
 
 
 class ShapeValues:
-    """The JSON values of one saga's shape. The store keeps them: they are computed only once.
+    """The JSON values of one saga's shape, computed once and stored.
 
     Attributes:
         inputs: The inputs of included sagas, by the paths of their scopes (`hotel`, `car[1]`).
@@ -71,7 +71,7 @@ class ShapeValues:
         return None if items is None else (group, items)  # type: ignore[return-value]
 
     def count(self, scope: Scope, name: str) -> int | None:
-        """Return the number of items of a fan-out; None if there is no such fan-out."""
+        """Return the number of items of a fan-out; None if the saga has no such fan-out."""
         entry = self._items(scope, name)
         return None if entry is None else len(entry[1])
 

@@ -38,7 +38,7 @@ class Registry(Protocol):
 
 
 class Structure:
-    """The common part of all definitions with one structure. They differ only in their costs.
+    """The common part of all definitions that differ only in their costs.
 
     Attributes:
         template: The template of their texts.
@@ -124,7 +124,7 @@ class ShapedKinds:
         return kind, self._registry.payloads.encode(shape.values.text())
 
     def _written(self, key: tuple[Any, ...], shape: Shape) -> CompiledDefinition:
-        """Return the definition of a shape, as a copy of one with the same structure if any."""
+        """Return the definition of a shape, by the cached structure if there is one."""
         structure = self._structures.get(key)
         if structure is None:
             structure = _put(self._structures, key, Structure(shape_text.Template(shape)))

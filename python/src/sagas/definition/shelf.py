@@ -160,7 +160,7 @@ class DefinitionRegistry:
         return sorted(fixed, key=lambda saga: (saga.name, saga.version))
 
     def _check_queues(self) -> None:
-        """Check that no workers of a queue would read encoded values or references to blobs.
+        """Check that workers of queues do not get encoded values or blobs.
 
         Raises:
             DefinitionError: They would.

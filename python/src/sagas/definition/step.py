@@ -118,7 +118,7 @@ class Bounds:
 
 
 class RemoteQueue(Protocol):
-    """A queue whose workers call a step's function, for example a `sagas.celery.Queue`."""
+    """A queue whose workers call a step's function: a `sagas.celery.Queue`."""
 
     timeout: float
     """Seconds without a report after which the outcome is unknown, if the step has no timeout."""

@@ -114,7 +114,7 @@ class Task(Generic[I]):
         self._take = take
 
     def leave(self) -> Any:
-        """End the use of connections, and return the one that the function has read, or None."""
+        """End the use of the connection, and return it if it was read, else None."""
         self._take = None
         return self._connection
 
@@ -142,7 +142,7 @@ class Task(Generic[I]):
         """Return the value of `context=` of the open store, or what its factory made.
 
         Raises:
-            RuntimeError: There is no context.
+            RuntimeError: The context is missing.
         """
         return self._data.context.get()
 
@@ -176,7 +176,7 @@ class Task(Generic[I]):
         self._data.control.set_progress(fraction, detail)
 
     def take_progress(self) -> Progress | None:
-        """Return the progress if it is new since the last call, for a heartbeat; else None."""
+        """Return the progress if it is new since the last call, else None."""
         return self._data.control.take_progress()
 
     @property

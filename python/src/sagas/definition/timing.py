@@ -98,7 +98,7 @@ class Timing:
             ) from error
 
     def due(self, next_at: float, now: float, most: int) -> tuple[list[float], float]:
-        """Return the times whose sagas are to be started now, and the first time after them.
+        """Return the times whose sagas are due now, and the first time after them.
 
         Args:
             next_at: The first time whose saga was not started.
@@ -116,7 +116,7 @@ class Timing:
         return times, at
 
     def first_of(self, next_at: float, now: float) -> float:
-        """Return the first of the last `self.most` times until now, or `next_at` if it is later.
+        """Return the first of the last `self.most` times, or `next_at` if it is later.
 
         It does not list all times since `next_at`, which may be millions.
         """
@@ -179,7 +179,7 @@ def timing(
     most: Any = MOST_MISSED,
     overlap: Any = Overlap.ALLOW,
 ) -> Timing:
-    """Return the timing of a schedule, after checking the arguments of `Store.schedule`.
+    """Return the timing for the arguments of `Store.schedule`, which it checks.
 
     Raises:
         InvalidSchedule: An argument is not valid, or no time ever comes.

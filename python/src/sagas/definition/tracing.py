@@ -25,7 +25,7 @@ MOST_LINKS = 10_000
 
 
 def read(text: str) -> str | None:
-    """Return a `traceparent` header in the form of version 00, or None if it is not valid."""
+    """Return a `traceparent` header in version 00, or None if it is not valid."""
     match = TRACEPARENT.match(text.strip(" \t"))
     if match is None:
         return None
@@ -60,7 +60,7 @@ def checked(traceparent: str | None) -> str | None:
 
 
 def of_start(tracer: Tracer | None, traceparent: str | None) -> str | None:
-    """Return the trace context of a start: the argument, else that of the current span.
+    """Return the trace context of a start: the argument, else of the current span.
 
     Raises:
         TypeError: The argument is not a text.

@@ -65,7 +65,7 @@ def bare(hint: Any) -> Any:
 
 
 def _is_alias(hint: Any) -> bool:
-    """Return whether a hint is a bare name of `typing` for a class: `List`, not `List[int]`."""
+    """Return whether a hint is a bare name of `typing`: `List`, not `List[int]`."""
     is_complete = typing.get_args(hint) or isinstance(hint, (type, types.GenericAlias))
     return typing.get_origin(hint) is not None and not is_complete and hint != typing.Tuple[()]
 
@@ -161,7 +161,7 @@ def _fields(hint: Any, whole: Any) -> Check:
 
 
 def _field(hint: Any, default: Any) -> Check | None:
-    """Return the check of a field. It accepts null if the default is None: `note: str = None`."""
+    """Return the check of a field, which accepts null if the default is None."""
     part = check(hint)
     if default is not None or part is None:
         return part
@@ -170,7 +170,7 @@ def _field(hint: Any, default: Any) -> Check | None:
 
 
 def field_hints(whole: Any) -> dict[str, Any]:
-    """Return the type hints of a dataclass's fields, with the variables of generic classes filled.
+    """Return the type hints of a dataclass's fields, with type variables filled.
 
     Args:
         whole: The class, or a generic class with arguments, for example `Box[Order]`.

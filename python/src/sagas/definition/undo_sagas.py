@@ -1,4 +1,4 @@
-"""Sagas that undo completed children. Their steps are the compensations of the children."""
+"""Sagas that undo completed children: their steps are compensations."""
 
 from __future__ import annotations
 
@@ -16,14 +16,14 @@ from sagas.definition.undo_text import Compensation
 
 
 def undo_saga(child: Saga) -> Saga | None:
-    """Return the saga that undoes a completed child, for the present definition of the child.
+    """Return the saga that undoes a completed child, by its present definition.
 
     Its steps are the compensations of the steps that can be undone. The compensation of a step
     comes after those of the steps that need it. If one fails, its effect remains, at the step's
     cost `keep`.
 
     Returns:
-        None if there is no compensation to call.
+        None if it has no compensation to call.
 
     Raises:
         DefinitionError: Workers of a queue call a compensation: they do not know this saga.
@@ -64,7 +64,7 @@ def of_child(child: Saga, text: str) -> str | None:
         text: The definition that the child ran with.
 
     Returns:
-        None if there is no compensation to call.
+        None if it has no compensation to call.
     """
     steps = undo_text.planned(listed_steps.of(text), declared_steps(child))
     return text_of(child, steps) if steps else None
@@ -185,7 +185,7 @@ def _cost(listed: listed_steps.Cost) -> Cost:
 
 
 def _key_of(name: str) -> Callable[[Task[Any]], Any]:
-    """Return the function that returns the key of a child's child, which is to be undone."""
+    """Return the function that returns the key of a child's child to undo."""
     return lambda task: task.input["results"][name]["key"]
 
 
@@ -215,7 +215,7 @@ def check_started(saga: Saga) -> None:
 
 
 def with_undo_sagas(sagas: Mapping[tuple[str, int], Saga]) -> dict[tuple[str, int], Saga]:
-    """Return the sagas of a store: those that it is opened with, and those that undo children.
+    """Return the sagas of a store, with those that undo children.
 
     Raises:
         DefinitionError: A child is missing, or a saga has the name of one that undoes a child.
@@ -236,7 +236,7 @@ def with_undo_sagas(sagas: Mapping[tuple[str, int], Saga]) -> dict[tuple[str, in
 
 
 def _add(sagas: dict[tuple[str, int], Saga], child: Saga) -> None:
-    """Add the saga that undoes a child. The child's own children are added by its steps."""
+    """Add the saga that undoes a child. Its steps add the child's own children."""
     saga = undo_saga(child)
     if saga is None:
         return

@@ -52,7 +52,7 @@ def name_of(child: str) -> str:
 
 
 def child_of(text: str) -> str | None:
-    """Return the name of the child that the sagas of a definition undo; None if they undo none."""
+    """Return the name of the child that a definition's sagas undo, or None."""
     match = UNDOES.search(text)
     return match[1] if match else None
 
@@ -66,7 +66,7 @@ def sees_of(text: str) -> dict[str, tuple[str, ...]]:
 
 
 def planned(child: Sequence[ListedStep], declared: Mapping[str, Step[Any]]) -> list[Compensation]:
-    """Return the compensations that undo a completed child, that of its last step first.
+    """Return the compensations that undo a completed child, last step first.
 
     A step that cannot be undone keeps its effect, and so do the steps that it needs.
 

@@ -63,7 +63,7 @@ def is_count(value: object) -> bool:
 
 
 def check_name(saga: Saga) -> None:
-    """Raise `DefinitionError` if the name, the version or the deadline of a saga is not valid."""
+    """Raise `DefinitionError` if the name, version or deadline is not valid."""
     if not isinstance(saga.name, str) or not NAME.match(saga.name):
         raise of_saga(saga, NAMES)
     if not is_count(saga.version) or saga.version < 1:
@@ -176,7 +176,7 @@ def check_bounds(step: Step[Any], bounds: Bounds) -> None:
 
 
 def check_needs(step: Part) -> None:
-    """Raise `DefinitionError` if an entry of `needs` of a step or an inclusion is not valid."""
+    """Raise `DefinitionError` if an entry of `needs` is not valid."""
     from sagas.definition.collection import Collection
     from sagas.definition.decorators import Decorator
     from sagas.definition.parts import Each, Inclusion
@@ -354,7 +354,7 @@ def check_saga(saga: Saga) -> None:
 
 
 def check_compensation(step: Step[Any]) -> None:
-    """Raise `DefinitionError` if a step does not have the compensation that its options need."""
+    """Raise `DefinitionError` if a compensation that options need is missing."""
     from sagas.definition.step import NEVER
 
     undo = step._costs["undo"]
@@ -401,6 +401,6 @@ def _cycle(steps: list[Part]) -> list[Part]:
 
 
 def meant(name: str, names: Iterable[str]) -> str:
-    """Return the question for the nearest name, to append to a message; else the empty text."""
+    """Return a question for the nearest name, for a message, or an empty text."""
     near = difflib.get_close_matches(name, names, 1)
     return f"; did you mean {near[0]!r}?" if near else ""

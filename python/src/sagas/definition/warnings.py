@@ -29,7 +29,7 @@ def warnings(saga: Saga) -> list[str]:
 
 
 def _left_out(saga: Saga) -> Iterator[str]:
-    """Yield a warning for each fan-out whose remaining items a plan may skip after a failure."""
+    """Yield a warning for each fan-out that a failure may end early."""
     for step in saga.steps:
         run, skip = step.declared_cost("run"), step.declared_cost("skip")
         is_known = isinstance(run, int) and isinstance(skip, int)
@@ -136,11 +136,11 @@ def _never_called(saga: Saga, stays: dict[str, bool]) -> Iterator[str]:
 
 
 def _holding(saga: Saga, stays: dict[str, bool]) -> Iterator[str]:
-    """Yield a warning for each step without a compensation that fixes the steps that it needs.
+    """Yield a warning for each step that keeps needed steps from being undone.
 
-    After it commits, the steps that it needs can never be undone. There is no warning if the
-    declaration says so, for a step that needs all others, since nothing can fail after it, and for
-    steps that another needed step fixes already.
+    It has no compensation: after it commits, the steps that it needs can never be undone. The
+    warning is left out if the declaration has `undo=`, for a step that needs all others (nothing
+    can fail after it), and for steps that another needed step fixes already.
     """
     by_name = {step.name: step for step in saga.steps}
     below: dict[str, set[str]] = {}
