@@ -157,7 +157,7 @@ def test_what_cannot_be_cancelled_is_refused() -> None:
         with pytest.raises(sagas.DefinitionError, match=text):
             saga.step(**words)(later)  # type: ignore[call-overload]
     with pytest.raises(
-        sagas.DefinitionError, match="Declare it with async def, or let it look at task.cancelled"
+        sagas.DefinitionError, match="Declare it with async def, or check task.cancelled in it"
     ):
         saga.step(cancel_on_abort=True, name="b")(lambda task: None)
 

@@ -70,8 +70,8 @@ class Work:
             self._perform(order)
         except SoftTimeLimitExceeded as error:
             logger.warning(
-                "%s: the soft time limit came while the worker asked the store, so the message "
-                "goes back",
+                "%s: the soft time limit came before the function was called. The message returns "
+                "to the queue",
                 order.token,
             )
             raise Reject(str(error), requeue=True) from error
@@ -174,7 +174,9 @@ def _surely(request: Callable[[], T], deadline: float) -> T:
             return request()
         except StoreUnavailable as error:
             if time.monotonic() > deadline:
-                logger.error("the store cannot be reached, so the message goes back: %s", error)
+                logger.error(
+                    "the store cannot be reached: %s. The message returns to the queue", error
+                )
                 raise Reject(str(error), requeue=True) from error
             time.sleep(pause)
             pause = min(MOST_PAUSE, 2 * pause)

@@ -125,8 +125,8 @@ def path(value: Any) -> str:
         name = None
     if not isinstance(name, str):
         raise InvalidStore(
-            f"{shown(value)}: must be the path of a file, as a text or a pathlib.Path. In "
-            "memory, for a test: sagas.testing.run"
+            f"{shown(value)}: must be the path of a file, as a text or a pathlib.Path. For a "
+            "test in memory, call sagas.testing.run"
         )
     return name
 
@@ -143,7 +143,7 @@ def record(value: Any) -> str | None:
     if not isinstance(value, (str, os.PathLike)) or not isinstance(os.fspath(value), str):
         raise TypeError(f"record={shown(value)}: must be the path of a file")
     if not os.fspath(value):
-        raise ValueError(f"record={shown(value)}: must not be empty. Give the path of a file")
+        raise ValueError(f"record={shown(value)}: must not be empty. Pass the path of a file")
     return os.fspath(value)
 
 
@@ -175,12 +175,12 @@ def keeping(retention: Any, archive_dir: Any) -> None:
     folder = pathlib.Path(os.path.abspath(archive_dir))
     if folder.exists() and not folder.is_dir():
         raise ValueError(
-            f"archive_dir={shown(archive_dir)}: this is not a folder. Give another path"
+            f"archive_dir={shown(archive_dir)}: this is not a folder. Choose another path"
         )
     if not folder.parent.is_dir():
         raise ValueError(
             f"archive_dir={shown(archive_dir)}: folder {folder.parent} does not exist. "
-            "Create it, or give another path"
+            "Create it, or choose another path"
         )
 
 

@@ -221,8 +221,8 @@ def _check(step: Step[Any], child: Saga) -> None:
     if inspect.iscoroutinefunction(function):
         raise validation.of_step(
             step,
-            "its function is async, but what returns a child's input must be a plain function. "
-            "Gather it in a step that this one needs",
+            "its function is async, but a function that returns a child's input must be plain. "
+            "Compute the input in a step that this one needs",
         )
     if step.run.on_exhausted == "retry":
         rule = "must be fail or ask, because a child is not repeated without end"
@@ -304,8 +304,8 @@ def check_abortable(key: str) -> None:
     """Raise `NotAbortable` if the key is that of a saga that undoes a child."""
     if undoes_child(key):
         raise NotAbortable(
-            f"saga {key!r} undoes a child, so it is not aborted: the rest of the child would stay. "
-            "Nothing was changed. If a step of it waits for a person, retry, complete or fail it"
+            f"saga {key!r} undoes a child, so it is not aborted: effects of the child would remain. "
+            "Nothing was changed. If one of its steps waits for a person, retry, complete or fail it"
         )
 
 

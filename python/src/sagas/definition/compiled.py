@@ -377,9 +377,10 @@ class CompiledDefinition:
         for path, (name, version) in shape_text.included(self.text).items():
             inner = self.declared.included(path)
             if inner is None or (inner.name, inner.version) != (name, version):
-                has = f"version {inner.version}" if inner else "none"
+                has = f"version {inner.version} of {inner.name!r}" if inner else "no saga"
                 return (
-                    f"it includes saga {name!r} (version {version}) as {path!r}, and here is {has}"
+                    f"it includes saga {name!r} (version {version}) as {path!r}, and this program "
+                    f"includes {has} there"
                 )
         function = "function" if self.undoes is None else "compensation"
         for listed, step in zip(listed_steps.of(self.text), self.steps):

@@ -10,8 +10,8 @@ from typing import Any, Union
 from sagas.definition.arguments import shown
 
 Manager = Union[contextlib.AbstractAsyncContextManager[Any], contextlib.AbstractContextManager[Any]]
-NOT_GIVEN = "the store was opened without one: give it by sagas.open(.., context=..)"
-ELSEWHERE = "this task is a copy in another process, or is called by a worker, and has none"
+NOT_GIVEN = "the store was opened without a context. Open it with sagas.open(..., context=...)"
+ELSEWHERE = "a copy of a task in another process, or in a worker, has no context"
 
 
 class Context:
@@ -66,5 +66,5 @@ def made(factory: Any) -> Manager:
         manager.close()
     raise TypeError(
         f"context={shown(factory)}: the function returned {type(manager).__name__}. Return a "
-        "context manager (@contextlib.asynccontextmanager), or give the object itself"
+        "context manager (@contextlib.asynccontextmanager), or pass the object itself"
     )

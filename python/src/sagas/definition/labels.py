@@ -41,8 +41,8 @@ def selecting(labels: Any) -> Labels:
     """
     if labels is not None and not checked(labels):
         raise InvalidLabel(
-            "labels={} selects every saga, and nothing was changed. Leave labels= out to mean "
-            "every saga, or name a label"
+            "labels={} selects every saga, and nothing was changed. Omit labels= to select every "
+            "saga, or name a label"
         )
     return checked(labels)
 

@@ -50,7 +50,7 @@ def parse_origin(path: str) -> StepOrigin:
     matches = [ORIGIN_PART.match(part) for part in path.split("/")]
     parts = [(match[1], None if match[2] is None else int(match[2])) for match in matches if match]
     if len(parts) < len(matches):
-        raise ValueError(f"{path!r} is not the place of a step")
+        raise ValueError(f"{path!r} is not the path of a step")
     return StepOrigin(tuple(parts[:-1]), *parts[-1])
 
 
@@ -101,7 +101,7 @@ class Layout:
         step = self._groups.get((scope, name), {}).get(index)
         if step is None:
             raise KeyError(
-                f"step {StepOrigin(scope, name, index).path!r} is not there for this input"
+                f"step {StepOrigin(scope, name, index).path!r} does not exist for this input"
             )
         return step
 
@@ -157,6 +157,6 @@ class RemoteLayout(Layout):
         """
         if (index is None) != (self._values.count(scope, name) is None):
             raise KeyError(
-                f"step {StepOrigin(scope, name, index).path!r} is not there for this input"
+                f"step {StepOrigin(scope, name, index).path!r} does not exist for this input"
             )
         return self.name(scope, name, index)

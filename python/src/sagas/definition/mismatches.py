@@ -82,7 +82,7 @@ def lacking(value: dict[str, Any], hint: Any) -> Mismatch | None:
 
 def joined_paths(paths: list[str]) -> str:
     """Return the first paths as a list for a message, and how many others there are."""
-    named = [path or "its whole" for path in paths]
+    named = [path or "the top level" for path in paths]
     more = f" and {len(named) - MAX_LISTED} more" if len(named) > MAX_LISTED else ""
     return f"{', '.join(named[:MAX_LISTED])}{more}"
 

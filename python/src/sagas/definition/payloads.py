@@ -99,7 +99,7 @@ class Payloads:
         if envelope is None:
             return text
         if self.codec is None:
-            raise CannotDecode("it is encoded, and this program has no codec. Give it codec=")
+            raise CannotDecode("it is encoded, and this program has no codec. Set codec=")
         try:
             return self.codec.decode(base64.b64decode(envelope[1])).decode()
         except Exception as error:

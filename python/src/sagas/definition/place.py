@@ -138,9 +138,9 @@ class StepLocation:
             path: tuple[str, ...] = (step,)
         elif step.saga.name != name:
             raise KeyError(
-                f"{step!r} is a step of saga {step.saga.name!r}, and this one is of {name!r}. "
-                "Write inclusion[step] for a step of an included saga, and give an included saga "
-                "what it needs by given="
+                f"{step!r} is a step of saga {step.saga.name!r}, and this task is of {name!r}. "
+                "Write inclusion[step] for a step of an included saga, and pass values to an "
+                "included saga by given="
             )
         else:
             path = step.path

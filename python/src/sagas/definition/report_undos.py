@@ -20,7 +20,7 @@ from sagas.definition.task import Task
 from sagas.definition.task_data import TaskSnapshot
 from sagas.definition.undo_text import MOST_NAME, name_of
 
-QUEUED = "workers of a queue call its compensation, which only its own saga can have called"
+QUEUED = "workers of a queue call its compensation, and only its own saga can send it to them"
 NONE = "it has no compensation"
 
 

@@ -138,7 +138,8 @@ class Shape:
         self.root = self._fill(Level(saga, (), ""), value)
         if not self.count:
             raise InvalidInput(
-                f"saga {saga.name!r} has no step for this input. Declare one that is always there"
+                f"saga {saga.name!r} has no steps for this input. Declare one without when= and "
+                "for_each="
             )
 
     # -- items and costs
@@ -202,9 +203,9 @@ class Shape:
             name = min(types)
             raise _invalid(
                 part,
-                f"the items are of type {name}, and no hint says that. Write "
-                f"task: sagas.ItemTask[..., {name}], or let the function for_each say what it "
-                "returns",
+                f"the items are of type {name}, which no type hint names. Write "
+                f"task: sagas.ItemTask[..., {name}], or annotate the result of the function "
+                "for_each",
             )
 
     def _cost(
@@ -371,7 +372,7 @@ def _listed(part: Part, items: Any) -> tuple[list[Any], list[str] | None]:
         return [items[key] for key in keys], keys
     if isinstance(items, (str, bytes)) or not hasattr(items, "__iter__"):
         kind = type(items).__name__
-        raise _invalid(part, f"for_each gives a {kind}: it must be a list or a dict of items")
+        raise _invalid(part, f"for_each returned a {kind}: it must be a list or a dict of items")
     return [*items], None
 
 

@@ -60,8 +60,8 @@ class Template:
             lines = self._step(step, lines)
         if needs > validation.MOST_NEEDS:
             raise TooLarge(
-                f"saga {saga.name!r} has {needs:,} needs for this input, and may have "
-                f"{validation.MOST_NEEDS:,}. Nothing was started. Put a step in between"
+                f"saga {saga.name!r} has {needs:,} needs for this input, and may have at most "
+                f"{validation.MOST_NEEDS:,}. Nothing was started. Declare a step in between"
             )
         self._pieces.append(_joined(lines))
 

@@ -65,7 +65,7 @@ def check_part(part: Part) -> None:
         raise validation.of_step(
             part,
             f"its name has {len(part.name)} characters, and with for_each it may have at most "
-            f"{maximum}, because each item has its number behind it. Set another name=",
+            f"{maximum}, because the number of the item follows it. Set another name=",
         )
 
 
@@ -111,7 +111,7 @@ def _is_async(function: object) -> bool:
 def check_shaped(saga: Saga, depth: int = 0) -> None:
     """Raise `DefinitionError` for errors that only the whole declaration shows."""
     if depth > MOST_DEPTH:
-        error = f"it includes itself, or sagas in one another more than {MOST_DEPTH} deep"
+        error = f"it includes itself, or nests included sagas more than {MOST_DEPTH} deep"
         raise validation.of_saga(saga, f"{error}. Start a child saga instead")
     for left in saga.decorators:
         raise DefinitionError(
@@ -141,7 +141,7 @@ def _check_needs(saga: Saga, part: Part) -> None:
         if is_each(need) and (part.for_each is None or part.for_each != other.for_each):
             raise validation.of_step(
                 part,
-                f"needs {name}.each, but it is not there for the same items. Set the same "
+                f"needs {name}.each, but it does not have the same items. Set the same "
                 f"for_each= for both, or need {name} itself, which means all of it",
             )
 

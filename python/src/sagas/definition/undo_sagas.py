@@ -227,7 +227,7 @@ def with_undo_sagas(sagas: Mapping[tuple[str, int], Saga]) -> dict[tuple[str, in
                 raise validation.of_step(
                     step,
                     f"its child saga {child.name!r} (version {child.version}, {child.where}) is "
-                    "missing. Give it to the store, too: "
+                    "missing. Open the store with it, too: "
                     f"open(..., [{saga.name}, {child.name}])",
                 )
             if step.undo.implied and step.cost("undo") is not NEVER:

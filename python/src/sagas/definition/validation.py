@@ -95,7 +95,7 @@ def check_early_unused(step: Step[Any]) -> None:
     if step.early_unused not in ("ask", "compensate"):
         raise of_step(step, f"early_unused={step.early_unused!r}: must be ask or compensate")
     if step.early_unused == "compensate" and not step.run.external:
-        rule = "has no effect, because only external steps are reported before they begin"
+        rule = "has no effect, because only external steps are reported before they start"
         raise of_step(step, f"early_unused='compensate' {rule}. Remove it")
 
 
@@ -275,7 +275,7 @@ def _cancel_faults(manner: Manner, role: str) -> Iterator[str]:
     elif not manner.cancel_on_abort:
         return
     elif not inspect.iscoroutinefunction(manner.function) or manner.queue:
-        remedy = "Declare it with async def, or let it look at task.cancelled"
+        remedy = "Declare it with async def, or check task.cancelled in it"
         yield f"{option}: only an async function of this program can be cancelled. {remedy}"
     elif manner.transaction:
         yield f"{option}: a transaction cannot be cancelled. Remove one of the options"
@@ -307,7 +307,7 @@ def _function_faults(manner: Manner, role: str) -> Iterator[str]:
             yield f"its {role} is external, {rule}"
         return
     if not callable(function):
-        yield f"its {role} is {function!r}, which cannot be called. Give a function"
+        yield f"its {role} is {function!r}, which cannot be called. Pass a function"
         return
     try:
         inspect.signature(function).bind(None)

@@ -165,7 +165,7 @@ def check_until(step: Step[Any], until: object) -> None:
         if until.tzinfo is None:
             raise of_step(
                 step,
-                f"until={until!r}: it has no time zone. Give one, for example "
+                f"until={until!r}: it has no time zone. Set one, for example "
                 "datetime.timezone.utc",
             )
     elif not isinstance(until, datetime.timedelta) and (

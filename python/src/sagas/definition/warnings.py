@@ -36,10 +36,10 @@ def _left_out(saga: Saga) -> Iterator[str]:
         is_fan_out = step.for_each is not None and not step.is_collected
         if is_fan_out and is_known and skip <= run:  # type: ignore[operator]
             yield (
-                f"{step.where}: saga {saga.name!r}, step {step.name!r}: if something fails, items "
-                f"that have not begun are left out, because skip={skip} is not more than "
-                f"run={run}. How many that are depends on timing. Set skip= to more to have all "
-                "items done, or need sagas.collect(...) to go on with those that succeed"
+                f"{step.where}: saga {saga.name!r}, step {step.name!r}: if a step fails, items "
+                f"that have not started are skipped, because skip={skip} is not more than "
+                f"run={run}. Their number depends on timing. Set a higher skip= to run all items, "
+                "or need sagas.collect(...) to continue with those that succeed"
             )
 
 
@@ -88,7 +88,7 @@ def _undoing_nothing(saga: Saga) -> Iterator[str]:
                 f"{step.where}: saga {saga.name!r}, step {step.name!r}: undo={undo}, but nothing "
                 f"of its child saga {child.name!r} can be undone, because "
                 f"{' and '.join(stays[:MAX_LISTED])} cannot be. A plan may choose that cost, and "
-                "then leaves all in place. Set undo=sagas.NEVER"
+                "still leave all effects in place. Set undo=sagas.NEVER"
             )
 
 

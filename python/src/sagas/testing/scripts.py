@@ -114,10 +114,10 @@ def check_items(saga: Saga, layout: Layout, names: Iterable[str]) -> None:
         if name == declared or name in layout.origins:
             continue
         steps = [step for step, origin in layout.origins.items() if origin.declared == declared]
-        items = f"it has {', '.join(steps[:3])}{' and others' * (len(steps) > 3)}"
+        items = f"{', '.join(steps[:3])}{' and others' * (len(steps) > 3)}" if steps else "none"
         raise KeyError(
-            f"saga {saga.name!r} has no step {name!r} for this input: of step {declared!r} "
-            f"{items if steps else 'there is none'}. Name one of these, or {declared!r} for each"
+            f"saga {saga.name!r} has no step {name!r} for this input: the items of step "
+            f"{declared!r} are {items}. Name one of these, or {declared!r} for all of them"
         )
 
 
@@ -154,7 +154,7 @@ def early_of(saga: Saga, early: Answers | None) -> dict[str, Outcome]:
         step = _step(saga, name)
         if step.kind != "approval" and not step.run.external:
             raise ValueError(
-                f"early: step {name!r} is neither an approval nor external, so nobody reports it. "
+                f"early: step {name!r} is neither an approval nor external, so no report completes it. "
                 "Remove this"
             )
         if isinstance(answer, Exception):

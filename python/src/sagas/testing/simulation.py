@@ -360,7 +360,7 @@ class Simulation:
     @staticmethod
     def _waits(attempt: Attempt) -> str:
         if attempt.reason is Suspension.EXHAUSTED:
-            return "failed, its attempts are used up, and a person is asked (on_exhausted='ask')"
+            return "has used up its attempts, and waits for an answer (on_exhausted='ask')"
         return "waits for an answer"
 
     # -- the result
@@ -370,7 +370,7 @@ class Simulation:
             return
         self._noted = outcome
         if len(self._calls) >= MOST_CALLS:
-            remedy = "Is an outcome never known? Set max_unknown"
+            remedy = "If an outcome stays unknown, set max_unknown"
             raise RuntimeError(f"the saga makes more than {MOST_CALLS:,} calls. {remedy}")
         value: Any = outcome.value
         if outcome.kind is not OutcomeKind.UNKNOWN:
