@@ -221,7 +221,7 @@ def _check(step: Step[Any], child: Saga) -> None:
     if inspect.iscoroutinefunction(function):
         raise validation.of_step(
             step,
-            "its function is async, but a function that returns a child's input must be plain. "
+            "its function is async, but the function of a child's input must be a plain function. "
             "Compute the input in a step that this one needs",
         )
     if step.run.on_exhausted == "retry":
@@ -304,8 +304,9 @@ def check_abortable(key: str) -> None:
     """Raise `NotAbortable` if the key is that of a saga that undoes a child."""
     if undoes_child(key):
         raise NotAbortable(
-            f"saga {key!r} undoes a child, so it is not aborted: effects of the child would remain. "
-            "Nothing was changed. If one of its steps waits for a person, retry, complete or fail it"
+            f"saga {key!r} undoes a child, so it is not aborted: effects of the child would "
+            "remain. Nothing was changed. If one of its steps waits for a person, retry, complete "
+            "or fail the step"
         )
 
 

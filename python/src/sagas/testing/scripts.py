@@ -154,8 +154,8 @@ def early_of(saga: Saga, early: Answers | None) -> dict[str, Outcome]:
         step = _step(saga, name)
         if step.kind != "approval" and not step.run.external:
             raise ValueError(
-                f"early: step {name!r} is neither an approval nor external, so no report completes it. "
-                "Remove this"
+                f"early: step {name!r} is neither an approval nor external, so no report "
+                "completes it. Remove this"
             )
         if isinstance(answer, Exception):
             text = f"{type(answer).__name__}: {answer}"

@@ -1,7 +1,8 @@
 """`Simulation`: one saga in memory, with a clock and a heap of due events.
 
-It uses the `ShardDriver` and the `AttemptMachine` of a store. A store uses an event loop, a database and timers. A simulation uses a heap of due events instead,
-and a clock that advances to the next one. It makes no decisions itself.
+It uses the `ShardDriver` and the `AttemptMachine` of a store. A store has an event loop, a database
+and timers. A simulation has a heap of due events instead, and a clock that advances to the next
+one. It makes no decisions itself.
 """
 
 from __future__ import annotations
