@@ -33,7 +33,7 @@ from sagas.core.shard_definitions import ShardDefinitions
 from sagas.core.states import ShardState
 from sagas.core.suspensions import SuspensionRow
 from sagas.definition.capacity import SHARD_CAPACITY
-from sagas.definition.compiled import Kind
+from sagas.definition.compiled import CompiledDefinition
 from sagas.definition.start_options import StartOptions
 
 Call = tuple[int, int, str, int]
@@ -170,7 +170,7 @@ class World:
         self.paths = [folder / f"{number}.toml" for number in range(len(texts))]
         for path, text in zip(self.paths, texts):
             path.write_text(text)
-        self.kinds = [Kind(text, kind) for text, kind in zip(texts, kinds)]
+        self.kinds = [CompiledDefinition(text, kind) for text, kind in zip(texts, kinds)]
         self.identity = ShardIdentity(0, "shard", ShardDefinitions(self.kinds))
         self.machine, self.store = AttemptMachine(), Store(texts)
         self.moves: Counter[str] = Counter()
@@ -503,7 +503,7 @@ class World:
         line = f'"event":"{word}","saga":{saga.number},"step":{attempt.step}}}'
         if self.store.text.count(line) < 1:
             raise Wrong(f"{attempt.row} is called before it is durable")
-        for name, value in attempt.given.items():
+        for name, value in attempt.needed_results.items():
             step = saga.kind.names.index(name)
             if attempt.kind == "run" and self.effects.get((saga.number, step, "run")) != value:
                 raise Wrong(f"{attempt.row} is given {value} of {name}")

@@ -18,7 +18,7 @@ from sagas.api.commands import Commands
 from sagas.core.outcomes import SUCCEEDED, Outcome
 from sagas.definition.context import Context
 from sagas.definition.payloads import Payloads
-from sagas.definition.shelf import Shelf
+from sagas.definition.shelf import DefinitionRegistry
 from sagas.definition.start_options import StartOptions
 from sagas.definition.task import Task
 from sagas.core.limits import Slots
@@ -189,29 +189,29 @@ def labels_lost() -> None:
 @variant("wrong-compensation", count=24)
 def wrong_compensation() -> None:
     """A step is undone by the compensation of another one."""
-    right = Shelf.__init__
+    right = DefinitionRegistry.__init__
 
-    def init(self: Shelf, sagas: Any, *words: Any) -> None:
+    def init(self: DefinitionRegistry, sagas: Any, *words: Any) -> None:
         for saga in sagas:
             steps = {step.name: step for step in saga.steps}
             if "ship" in steps:
                 steps["hold"].undo = steps["ship"].undo
         right(self, sagas, *words)
 
-    setattr(Shelf, "__init__", init)
+    setattr(DefinitionRegistry, "__init__", init)
 
 
 @variant("no-effect", count=24)
 def compensation_not_called() -> None:
     """A step counts as undone, and nothing was called."""
-    right = Shelf.__init__
+    right = DefinitionRegistry.__init__
 
-    def init(self: Shelf, sagas: Any, *words: Any) -> None:
+    def init(self: DefinitionRegistry, sagas: Any, *words: Any) -> None:
         for step in (step for saga in sagas for step in saga.steps if step.undo.function):
             step.undo.function = lambda task: None
         right(self, sagas, *words)
 
-    setattr(Shelf, "__init__", init)
+    setattr(DefinitionRegistry, "__init__", init)
 
 
 @variant("context", "context", count=4)

@@ -20,7 +20,7 @@ from sagas.core.model import Attempt, SagaInstance
 from sagas.core.shard import ShardDriver, ShardIdentity
 from sagas.core.shard_definitions import ShardDefinitions
 from sagas.core.states import ShardState
-from sagas.definition.shelf import Shelf
+from sagas.definition.shelf import DefinitionRegistry
 from sagas.runtime.acknowledgements import Acknowledgements
 from sagas.storage.record_file import BEYOND, RecordFile, number
 
@@ -247,10 +247,10 @@ def _is_behind(found: Sequence[str], place: int) -> bool:
 # -- what acknowledgements rest on
 
 
-def shelf() -> Shelf:
+def shelf() -> DefinitionRegistry:
     saga = sagas.Saga("one")
     saga.step(name="a")(lambda task: None)
-    return Shelf([saga])
+    return DefinitionRegistry([saga])
 
 
 def begun(acknowledgements: Acknowledgements) -> tuple[ShardDriver, Attempt]:

@@ -157,7 +157,7 @@ def test_what_cannot_be_cancelled_is_refused() -> None:
         with pytest.raises(sagas.DefinitionError, match=text):
             saga.step(**words)(later)  # type: ignore[call-overload]
     with pytest.raises(
-        sagas.DefinitionError, match="Declare it with async def, or let it look at task.cancelled"
+        sagas.DefinitionError, match="Declare it with async def, or check task.cancelled in it"
     ):
         saga.step(cancel_on_abort=True, name="b")(lambda task: None)
 
@@ -172,8 +172,8 @@ def test_what_is_wrong_with_progress_is_told_to_the_function() -> None:
         ((0.5, 7), TypeError),
     ]:
         with pytest.raises(error):
-            control.tell(*words)  # type: ignore[arg-type]
-    control.tell(0.25, "x" * 300)
+            control.set_progress(*words)  # type: ignore[arg-type]
+    control.set_progress(0.25, "x" * 300)
     assert control.progress == (0.25, "x" * 200) and str(control.progress).startswith("25% xx")
     assert pickle.loads(pickle.dumps(control)).progress is None
 

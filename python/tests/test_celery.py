@@ -375,7 +375,7 @@ def test_a_worker_that_cannot_report_lets_the_message_go_back(
                 await until(lambda: store.log("k"), 60)
                 db.execute("BEGIN EXCLUSIVE")
                 try:
-                    await asyncio.to_thread(worker.wait_for, "message goes back")
+                    await asyncio.to_thread(worker.wait_for, "message returns to the queue")
                 finally:
                     db.execute("ROLLBACK")
             assert (await asyncio.wait_for(going.wait(), 60)).results == {"once": "late"}

@@ -113,7 +113,7 @@ def test_when_the_store_cannot_be_written(
                 db.execute("BEGIN EXCLUSIVE")
                 try:
                     shop.release()
-                    await asyncio.to_thread(started.wait_for, "message goes back")
+                    await asyncio.to_thread(started.wait_for, "message returns to the queue")
                     await asyncio.to_thread(started.wait_for, "succeeded")
                     await until(lambda: not messages(broker, shop), 30)
                 finally:

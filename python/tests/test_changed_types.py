@@ -18,7 +18,7 @@ from cases import QUICK, Task, run, until
 import sagas
 from sagas.definition import decoders
 from sagas.definition.step import Manner
-from sagas.definition.task import Told
+from sagas.definition.task import TaskSnapshot
 
 
 @dataclasses.dataclass
@@ -302,7 +302,9 @@ def test_a_worker_of_celery_that_cannot_read_its_order() -> None:
         assert task.input
 
     hint = decoders.hints(reads)[0]
-    about = Told("shop", "k", "ship", False, 1, "log-0", '{"amount":314159}', {}, None, hint)
+    about = TaskSnapshot(
+        "shop", "k", "ship", False, 1, "log-0", '{"amount":314159}', {}, None, hint
+    )
     outcome = worker._call(reads, Manner(reads), sagas.Task(about))
     said = "saga 'shop', step 'ship': input: missing 'address', which Wants requires"
     assert (outcome.kind, outcome.value) == ("unknown", said)

@@ -18,7 +18,7 @@ from sagas.api import worker_task
 from sagas.cli import backlog
 from sagas.definition import definition_text, listed_steps, undo_sagas, undo_text
 from sagas.definition.context import Context
-from sagas.definition.shelf import Shelf
+from sagas.definition.shelf import DefinitionRegistry
 from sagas.definition.start_options import StartOptions
 from sagas.server import json_views
 
@@ -242,7 +242,7 @@ def test_the_definitions_of_an_open_store_are_those_of_another(place: str) -> No
     """Without what undoes their children, which the other store makes itself."""
     known = family(World(), "x")
     store = sagas.open(place, known)
-    assert store.sagas == known and len(Shelf(store.sagas).sagas) == 5
+    assert store.sagas == known and len(DefinitionRegistry(store.sagas).sagas) == 5
 
 
 def test_a_node_that_cannot_undo_a_child_leaves_it(url: str) -> None:
@@ -358,7 +358,7 @@ def test_definitions_that_undo_children() -> None:
         for line in saga.toml().splitlines(keepends=True)
         if not line.startswith(("# undoes", "# sees"))
     )
-    kind = Shelf(world.parent(child)).kind(older)
+    kind = DefinitionRegistry(world.parent(child)).kind(older)
     assert (
         kind.undoes == "child"
         and kind.lacks() is None
@@ -368,10 +368,10 @@ def test_definitions_that_undo_children() -> None:
     other = sagas.Saga("child-undo", version=3)
     other.step(lambda task: None, name="x")
     assert (
-        Shelf([other]).kind(saga.toml()).lacks()
+        DefinitionRegistry([other]).kind(saga.toml()).lacks()
         == "this program did not open the store with that saga"
     )
-    less = Shelf(world.parent(world.child("x", version=3))).kind(saga.toml())
+    less = DefinitionRegistry(world.parent(world.child("x", version=3))).kind(saga.toml())
     assert less.lacks() == "step 'y' has no compensation in this program"
     assert [(step.name, step.sees, step.tries) for step in undo_text.read(older)] == [
         ("y", (), 1),

@@ -17,7 +17,7 @@ from test_service_workers import working
 
 import sagas
 import sagas.testing
-from sagas.definition.task import Told
+from sagas.definition.task import TaskSnapshot
 
 
 class Clients:
@@ -222,13 +222,13 @@ def test_a_store_without_one_says_so(tmp_path: pathlib.Path) -> None:
 
     end = sagas.testing.run(saga)
     assert (
-        "the store was opened without one: give it by sagas.open(.., context=..)"
+        "the store was opened without a context. Open it with sagas.open(..., context=...)"
         in end.errors["asks"]
     )
     copied = pickle.loads(
-        pickle.dumps(sagas.Task(Told("s", "k", "a", False, 1, "t-0", "1", {}, None)))
+        pickle.dumps(sagas.Task(TaskSnapshot("s", "k", "a", False, 1, "t-0", "1", {}, None)))
     )
-    with pytest.raises(RuntimeError, match="this task is a copy in another process"):
+    with pytest.raises(RuntimeError, match="a copy of a task in another process"):
         copied.context
 
 

@@ -258,7 +258,7 @@ def test_conflicts_show_no_values(place: str) -> None:
     saga = simple(lambda task: None)
     for_many = {f"f{number}": number for number in range(9)}
     conflicts: list[tuple[Any, Any, str]] = [
-        (SECRET, {"a": SECRET}, "its whole"),
+        (SECRET, {"a": SECRET}, "the top level"),
         ({"a b": SECRET, "c": [SECRET]}, {"a b": 1, "c": []}, '["a b"], .c[0]'),
         (for_many, {name: SECRET for name in for_many}, ".f0, .f1, .f2, .f3, .f4 and 4 more"),
         ({"a": 1}, {"a": True}, ".a"),

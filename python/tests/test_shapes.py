@@ -36,7 +36,7 @@ from shaped import (
 
 import sagas
 from sagas.definition import serialization
-from sagas.definition.shelf import Fitted, Shelf
+from sagas.definition.shelf import Fitted, DefinitionRegistry
 
 
 def names(saga: sagas.Saga, input: Any) -> dict[str, list[str]]:
@@ -98,13 +98,13 @@ def test_scripts_name_all_items_or_one() -> None:
     assert sagas.testing.run(order, parcels(3), fail={"ship-1": 2}).states["ship-1"] == "failed"
     with pytest.raises(KeyError, match="did you mean 'ship'"):
         sagas.testing.run(order, parcels(3), fail={"shop": 1})
-    said = "no step 'ship-7' for this input: of step 'ship' it has ship-0, ship-1, ship-2. Name"
+    said = "no step 'ship-7' for this input: the items of step 'ship' are ship-0, ship-1, ship-2. "
     for words in ({"fail": {"ship-7": 1}}, {"abort": "ship-7"}, {"unknown_undo": {"ship-7": 1}}):
         with pytest.raises(KeyError, match=said):
             sagas.testing.run(order, parcels(3), **words)
-    with pytest.raises(KeyError, match="of step 'ship' there is none"):
+    with pytest.raises(KeyError, match="the items of step 'ship' are none"):
         sagas.testing.run(order, parcels(0), fail={"ship-0": 1})
-    with pytest.raises(KeyError, match="it has ship-0, ship-1, ship-2 and others"):
+    with pytest.raises(KeyError, match="are ship-0, ship-1, ship-2 and others"):
         sagas.testing.run(order, parcels(4), fail={"ship-04": 1})
     assert sagas.testing.run(order, parcels(0), fail={ship: 1, "wrap": 1}).ok
 
@@ -182,9 +182,9 @@ class Odd(str):
     "words, input, told",
     [
         ({"for_each": "many"}, {}, "for_each= raised KeyError"),
-        ({"for_each": "many"}, {"many": 3}, "for_each gives a int: it must be a list"),
-        ({"for_each": "many"}, {"many": SECRET}, "for_each gives a str"),
-        ({"for_each": "many"}, {"many": []}, "has no step for this input"),
+        ({"for_each": "many"}, {"many": 3}, "for_each returned a int: it must be a list"),
+        ({"for_each": "many"}, {"many": SECRET}, "for_each returned a str"),
+        ({"for_each": "many"}, {"many": []}, "has no steps for this input"),
         ({"for_each": lambda i: {1: 2}}, {}, "the keys of the dict must be texts"),
         ({"for_each": lambda i: {1: 2, "a": 3}}, {}, "the keys of the dict must be texts"),
         ({"for_each": lambda i: map(int, i)}, [SECRET], "for_each= raised ValueError"),
@@ -217,7 +217,7 @@ def test_declarations_that_are_wrong() -> None:
     def a(task: sagas.Task[Any]) -> None:
         ...
 
-    with pytest.raises(sagas.DefinitionError, match="not there for the same items"):
+    with pytest.raises(sagas.DefinitionError, match="does not have the same items"):
 
         @other.step(for_each="b", needs=[a.each])
         def b(task: sagas.Task[Any]) -> None:
@@ -272,7 +272,7 @@ def test_a_shaped_child_is_refused_where_its_costs_are_asked() -> None:
 def test_a_step_that_is_not_there() -> None:
     assert "wrap" in names(order, Order(gift=True)) and "wrap" not in names(order, Order())
     assert sagas.testing.run(order, Order([Parcel("a")], gift=True)).result_of(wrap) == "wrapped"
-    with pytest.raises(KeyError, match="'wrap' is not there for this input"):
+    with pytest.raises(KeyError, match="'wrap' does not exist for this input"):
         sagas.testing.run(order, Order()).result_of(wrap)
 
 
@@ -459,7 +459,7 @@ def test_only_a_fan_out_is_collected() -> None:
 def test_a_fan_out_without_a_cost_of_skipping_is_warned_of() -> None:
     saga, _, _ = batch()
     (warning,) = saga.warnings()
-    assert "items that have not begun are left out, because skip=0" in warning
+    assert "items that have not started are skipped, because skip=0" in warning
 
 
 # -- all to all
@@ -555,7 +555,7 @@ def test_a_wrong_type_of_items_is_found(tmp_path: pathlib.Path) -> None:
     assert "ItemTask[Order, Letter]" in error and "ItemTask[Any, Parcel]" in error
 
 
-def fitted(shelf: Shelf, saga: sagas.Saga, text: str) -> Fitted:
+def fitted(shelf: DefinitionRegistry, saga: sagas.Saga, text: str) -> Fitted:
     """The definition of a saga with an input, whose functions are called here."""
     return shelf.fit(saga, text) or shelf.shaped(text, shelf.shaping(saga, text)())
 
@@ -583,7 +583,7 @@ def test_definitions_that_differ_in_costs_share_the_rest() -> None:
         for count in range(3)
         for last in (0, 1)
     ]
-    shelf, again = Shelf([saga]), Shelf([saga])
+    shelf, again = DefinitionRegistry([saga]), DefinitionRegistry([saga])
     kinds = [fitted(shelf, saga, serialization.write(given)).kind for given in inputs]
     shared: dict[int, list[str]] = {}
     for given, kind in zip(inputs, kinds):

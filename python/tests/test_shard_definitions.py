@@ -17,10 +17,10 @@ from sagas.core.saga_instance import SagaInstance
 from sagas.core.shard import ShardDriver, ShardIdentity
 from sagas.core.shard_definitions import ShardDefinitions
 from sagas.core.states import ShardState
-from sagas.definition.compiled import Kind
+from sagas.definition.compiled import CompiledDefinition
 
 
-def kind(name: str) -> Kind:
+def kind(name: str) -> CompiledDefinition:
     """A definition of one step."""
     saga = sagas.Saga(name)
 
@@ -28,11 +28,11 @@ def kind(name: str) -> Kind:
     async def step(task: sagas.Task[Any]) -> None:
         ...
 
-    return Kind(saga.toml(), saga)
+    return CompiledDefinition(saga.toml(), saga)
 
 
 @contextmanager
-def engine(folder: pathlib.Path, kinds: Sequence[Kind]) -> Iterator[Engine]:
+def engine(folder: pathlib.Path, kinds: Sequence[CompiledDefinition]) -> Iterator[Engine]:
     """`sagas drive --lines` with these definitions."""
     paths = [folder / f"{number}.toml" for number in range(len(kinds))]
     for path, one in zip(paths, kinds):
@@ -56,7 +56,7 @@ def turn(driver: ShardDriver, engine: Engine, *opened: SagaInstance) -> list[str
     return lines
 
 
-def driver_of(kinds: Sequence[Kind]) -> tuple[ShardDriver, ShardDefinitions]:
+def driver_of(kinds: Sequence[CompiledDefinition]) -> tuple[ShardDriver, ShardDefinitions]:
     definitions = ShardDefinitions(kinds)
     driver = ShardDriver.created(ShardIdentity(0, "shard", definitions))
     driver.to(ShardState.STARTING)
@@ -64,7 +64,7 @@ def driver_of(kinds: Sequence[Kind]) -> tuple[ShardDriver, ShardDefinitions]:
     return driver, definitions
 
 
-def instance(definitions: ShardDefinitions, of: Kind) -> SagaInstance:
+def instance(definitions: ShardDefinitions, of: CompiledDefinition) -> SagaInstance:
     return SagaInstance(of.name, "null", of, definitions.place(of))
 
 
@@ -104,7 +104,7 @@ def test_no_saga_is_opened_with_another_definition(tmp_path: pathlib.Path) -> No
         assert driver.state is ShardState.STALE
 
 
-def kind_line(of: Kind) -> str:
+def kind_line(of: CompiledDefinition) -> str:
     """The request that adds a definition, which the driver does not know of."""
     definitions = ShardDefinitions([])
     definitions.place(of)

@@ -51,7 +51,7 @@ def steps_of(text: str) -> list[tuple[str, list[str]]]:
 def test_the_groups_of_a_definition() -> None:
     """Inclusions two deep, an inclusion for each item, and items; one alone is no group."""
     groups = Groups.read(shaped.trip.toml(GIVEN))
-    titles = {name: group.title for name, group in groups.found.items()}
+    titles = {name: group.title for name, group in groups.by_name.items()}
     assert titles == {
         "p": "p: 7 steps",
         "p/hotel": "p/hotel: 5 steps",
@@ -60,7 +60,7 @@ def test_the_groups_of_a_definition() -> None:
     }
 
     def shown(*unfold: str) -> list[Any]:
-        blocks = groups.blocks(len(groups.spots), unfold)
+        blocks = groups.blocks(len(groups.origins), unfold)
         return [one.group.name if one.group else one.steps[0] for one in blocks]
 
     assert shown() == [0, "p", 8]
@@ -68,8 +68,8 @@ def test_the_groups_of_a_definition() -> None:
     assert shown("p", "p/hotel", "p/car") == [0, 1, "p/hotel/room", 4, 5, 6, 7, 8]
     assert shown(ALL) == [*range(9)]
     one = Groups.read(shaped.order.toml(parcels(1)))
-    assert one.found == {} and len(one.spots) == 4
-    assert Groups.read(shaped.plain.toml()).spots == []
+    assert one.by_name == {} and len(one.origins) == 4
+    assert Groups.read(shaped.plain.toml()).origins == []
 
 
 def test_what_is_put_between_is_no_item() -> None:
@@ -79,8 +79,8 @@ def test_what_is_put_between_is_no_item() -> None:
     saga.step(name="second", for_each="n", needs=[first], undo=0)(lambda task: 1)
     groups = Groups.read(saga.toml({"n": [1] * 40}))
     assert "first--all" in saga.toml({"n": [1] * 40})
-    assert groups.found["first"].title == "first ×40"
-    blocks = groups.blocks(len(groups.spots), ())
+    assert groups.by_name["first"].title == "first ×40"
+    blocks = groups.blocks(len(groups.origins), ())
     assert [len(block.steps) for block in blocks] == [41, 40]
 
 

@@ -21,7 +21,7 @@ from hypothesis import strategies as st
 
 import sagas
 from sagas.definition import decoders, serialization, type_checks
-from sagas.definition.mismatches import Misfit
+from sagas.definition.mismatches import Mismatch
 
 JSON = st.recursive(
     st.none()
@@ -266,7 +266,7 @@ def test_a_decimal_is_the_number_that_is_written() -> None:
         decimal.Decimal(text) for text in ("19.90", "19.99", "7")
     ]
     for wrong in (True, [0, [1], 0], "x", None):
-        with pytest.raises(Misfit, match=": cannot be read as Decimal"):
+        with pytest.raises(Mismatch, match=": cannot be read as Decimal"):
             decoder(wrong)
     either = decoders.decoder(decimal.Decimal | float)
     assert either and repr([either(1.5), either("1.5")]) == "[1.5, Decimal('1.5')]"

@@ -348,7 +348,7 @@ def test_nodes_are_shown(
                 "first",
                 1,
                 1,
-                store._registry.shelf,
+                store._registry.digest,
             )
             assert 0 < shown["lease"] <= 10 and told["shards_without_node"] == []
         async with sagas.open(url, [new], node="second"):

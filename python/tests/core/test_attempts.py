@@ -31,7 +31,7 @@ from sagas.core.model import Attempt, SagaInstance
 from sagas.core.outcomes import Outcome
 from sagas.core.states import AttemptState, EarlyReason, OutcomeKind, Suspension
 from sagas.core.suspensions import SuspensionRow
-from sagas.definition.shelf import Shelf
+from sagas.definition.shelf import DefinitionRegistry
 
 NOW = 1000.0
 WAIT = sagas.Backoff(initial=10, maximum=100)
@@ -91,7 +91,7 @@ def trip() -> sagas.Saga:
     return saga
 
 
-KIND = Shelf([trip()]).kinds[0]
+KIND = DefinitionRegistry([trip()]).kinds[0]
 
 
 @pytest.fixture(autouse=True)

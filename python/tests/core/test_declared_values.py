@@ -15,7 +15,7 @@ from sagas.core.attempts import AttemptMachine
 from sagas.core.decisions import CALL, REPORT, Decision, Do
 from sagas.core.model import Attempt, SagaInstance
 from sagas.core.states import AttemptState, OutcomeKind, Suspension
-from sagas.definition.shelf import Shelf
+from sagas.definition.shelf import DefinitionRegistry
 
 
 @dataclasses.dataclass
@@ -49,7 +49,7 @@ def shop() -> sagas.Saga:
     return saga
 
 
-KIND = Shelf([shop()]).kinds[0]
+KIND = DefinitionRegistry([shop()]).kinds[0]
 
 
 def attempt_of(given: Any, kind: str = "run") -> Attempt:

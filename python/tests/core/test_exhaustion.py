@@ -12,7 +12,7 @@ from sagas.core.attempts import AttemptMachine, is_asked
 from sagas.core.decisions import CALL, NOTHING, REPORT, SLEEP, Do
 from sagas.core.model import Attempt, SagaInstance
 from sagas.core.states import OutcomeKind, Suspension
-from sagas.definition.shelf import Shelf
+from sagas.definition.shelf import DefinitionRegistry
 
 NOW = 1000.0
 WAIT = sagas.Backoff(initial=10, maximum=60)
@@ -28,7 +28,7 @@ def attempt_of(kind: str = "run", number: int = 1, **words: Any) -> Attempt:
     step = saga.step(name="a", tries=2, backoff=WAIT, **forward)(lambda task: None)
     backward = {} if kind == "run" else words
     step.compensation(tries=2, **backward)(lambda task: None)
-    instance = SagaInstance("k", "null", Shelf([saga]).kinds[0], 0)
+    instance = SagaInstance("k", "null", DefinitionRegistry([saga]).kinds[0], 0)
     instance.token = "test-0"
     attempt = Attempt(instance, 0, kind, number, True)
     instance.busy[attempt.word] = attempt

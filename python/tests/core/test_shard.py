@@ -18,14 +18,14 @@ from sagas.core.shard import MOST_REPORTS, ShardDriver, ShardIdentity
 from sagas.core.shard_definitions import ShardDefinitions
 from sagas.core.states import AttemptState, Check, IllegalTransition, ShardState, Suspension
 from sagas.core.suspensions import SuspensionRow
-from sagas.definition.shelf import Shelf
+from sagas.definition.shelf import DefinitionRegistry
 from sagas.definition.start_options import StartOptions
 
 NUMBER, NOW = 7, 50.0
 TRACE = "00-0af7651916cd43dd8448eb211c80319c-b7ad6b7169203331-01"
 
 
-def two() -> Shelf:
+def two() -> DefinitionRegistry:
     """A saga of two steps in a row; the first can be undone."""
     saga = sagas.Saga("two")
 
@@ -38,7 +38,7 @@ def two() -> Shelf:
         ...
 
     saga.step(name="b", needs=[a], tries=2)(lambda task: None)
-    return Shelf([saga])
+    return DefinitionRegistry([saga])
 
 
 SHELF = two()

@@ -14,7 +14,7 @@ from sagas.core.limits import Slots
 from sagas.core.model import Attempt, SagaInstance
 from sagas.core.outcomes import Outcome
 from sagas.core.states import AttemptState, OutcomeKind, Suspension
-from sagas.definition.shelf import Shelf
+from sagas.definition.shelf import DefinitionRegistry
 
 SAGA = sagas.Saga("one")
 
@@ -29,7 +29,7 @@ async def wide(task: sagas.Task[None]) -> None:
     ...
 
 
-KIND = Shelf([SAGA]).kinds[0]
+KIND = DefinitionRegistry([SAGA]).kinds[0]
 
 
 class Shard:
@@ -141,7 +141,7 @@ def test_slots_are_shared_among_tenants() -> None:
     draw = random.Random(62)
     saga = sagas.Saga("fair", fair_by=lambda given: given)
     saga.step(name="a", undo=0)(wide.run.function)
-    kind, store = Shelf([saga]).kinds[0], Store(3)
+    kind, store = DefinitionRegistry([saga]).kinds[0], Store(3)
     store.slots.is_fair = True
     waiting: dict[str | None, list[Attempt]] = {}
     for number in range(600):

@@ -14,7 +14,7 @@ from sagas.core import states
 from sagas.core.model import Attempt, SagaInstance, finish_all, start_all
 from sagas.core.outcomes import succeeded
 from sagas.core.states import AttemptState, IllegalTransition, StepState, Suspension
-from sagas.definition.shelf import Shelf
+from sagas.definition.shelf import DefinitionRegistry
 
 TABLES: dict[type[enum.Enum], Any] = {
     AttemptState: states.ATTEMPT_TRANSITIONS,
@@ -55,7 +55,9 @@ def attempt_in(state: AttemptState) -> Attempt:
     async def a(task: sagas.Task[Any]) -> None:
         ...
 
-    attempt = Attempt(SagaInstance("k", "{}", Shelf([saga]).kinds[0], 0), 0, "run", 1, fresh=True)
+    attempt = Attempt(
+        SagaInstance("k", "{}", DefinitionRegistry([saga]).kinds[0], 0), 0, "run", 1, fresh=True
+    )
     attempt.state = state
     return attempt
 

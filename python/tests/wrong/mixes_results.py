@@ -10,10 +10,10 @@ STRIKES = "child"
 
 def apply() -> None:
     """Keeps results by the step's name alone."""
-    right = Attempt.given.fget
+    right = Attempt.needed_results.fget
     seen: dict[str, str] = {}
 
-    def given(self: Attempt) -> dict[str, str]:
+    def needed_results(self: Attempt) -> dict[str, str]:
         return {name: seen.setdefault(name, text) for name, text in right(self).items()}
 
-    setattr(Attempt, "given", property(given))
+    setattr(Attempt, "needed_results", property(needed_results))

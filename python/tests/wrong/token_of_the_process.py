@@ -15,6 +15,6 @@ def apply() -> None:
     """Puts the number of the process into the token."""
 
     def idempotency_key(self: Task[Any]) -> str:
-        return f"{self._about.saga_token}-{self.step}-{'undo' if self.is_compensation else 'run'}{os.getpid()}"
+        return f"{self._data.saga_token}-{self.step}-{'undo' if self.is_compensation else 'run'}{os.getpid()}"
 
     setattr(Task, "idempotency_key", property(idempotency_key))

@@ -14,6 +14,6 @@ def apply() -> None:
     """Leaves the step out."""
 
     def idempotency_key(self: Task[Any]) -> str:
-        return f"{self._about.saga_token}-step-{'undo' if self.is_compensation else 'run'}"
+        return f"{self._data.saga_token}-step-{'undo' if self.is_compensation else 'run'}"
 
     setattr(Task, "idempotency_key", property(idempotency_key))

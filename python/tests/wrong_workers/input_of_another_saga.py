@@ -6,7 +6,7 @@ import dataclasses
 from typing import Any
 
 from sagas.celery.worker import Work
-from sagas.definition.task import Task, whole
+from sagas.definition.task import Task, snapshot
 from sagas.core.dispatch import Order
 from sagas.core.dispatch import Begun
 
@@ -20,7 +20,7 @@ def apply() -> None:
     seen: dict[str, str] = {}
 
     def task(self: Work, order: Order, begun: Begun) -> Task[Any]:
-        told = whole(right(self, order, begun)._about)
+        told = snapshot(right(self, order, begun)._data)
         return Task(dataclasses.replace(told, input=seen.setdefault(order.saga, told.input)))
 
     setattr(Work, "_task", task)

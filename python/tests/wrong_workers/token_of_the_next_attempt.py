@@ -6,7 +6,7 @@ import dataclasses
 from typing import Any
 
 from sagas.celery.worker import Work
-from sagas.definition.task import Task, whole
+from sagas.definition.task import Task, snapshot
 from sagas.core.dispatch import Order
 from sagas.core.dispatch import Begun
 
@@ -19,7 +19,7 @@ def apply() -> None:
     right = Work._task
 
     def task(self: Work, order: Order, begun: Begun) -> Task[Any]:
-        told = whole(right(self, order, begun)._about)
+        told = snapshot(right(self, order, begun)._data)
         return Task(dataclasses.replace(told, attempt=told.attempt + 1))
 
     setattr(Work, "_task", task)

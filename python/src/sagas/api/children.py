@@ -12,7 +12,7 @@ from sagas.api.starter import Starter
 from sagas.api.store_access import StoreAccess
 from sagas.core import history
 from sagas.core.model import SagaInstance
-from sagas.definition.compiled import Kind
+from sagas.definition.compiled import CompiledDefinition
 from sagas.definition.saga import Saga
 from sagas.definition.start_options import StartOptions
 from sagas.inspection import saga as saga_questions
@@ -31,7 +31,7 @@ class ChildOperations:
         self._access, self._lookup = access, lookup
         self._starter, self._commands = starter, commands
 
-    async def start(self, saga: Saga | Kind, key: str, input: Any, options: StartOptions) -> bool:
+    async def start(self, saga: Saga | CompiledDefinition, key: str, input: Any, options: StartOptions) -> bool:
         """Start a child; return False if the key is used."""
         return await self._starter.start_child(saga, key, input, options)
 

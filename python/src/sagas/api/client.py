@@ -25,7 +25,7 @@ from sagas.core.results import HistoryEvent, SagaResult
 from sagas.definition import arguments, children, payloads, serialization
 from sagas.definition.blobs import LEAST, BlobStore
 from sagas.definition.blobs import check as check_blobs
-from sagas.definition.compiled import Kind, version_of
+from sagas.definition.compiled import CompiledDefinition, version_of
 from sagas.definition.labels import Labels
 from sagas.definition.payloads import Codec, Payloads
 from sagas.definition.saga import Saga
@@ -108,7 +108,7 @@ class Client(Schedules):
         self._opened = Opened("the client")
         self._notifier: notifications.Notifications | None = None
         self._record = RecordFile.of(record_path(arguments.record(record)), secrets.token_hex(4))
-        self._kinds: dict[str, Kind] = {}
+        self._kinds: dict[str, CompiledDefinition] = {}
         check_blobs(blobs, LEAST)
         self._payloads = payloads.checked(codec)
         self._blobs = Blobs(blobs, LEAST, self._payloads, self.path) if blobs is not None else None
@@ -442,11 +442,11 @@ class Client(Schedules):
         query = queries.known_query(row.id, history=False)
         return queries.known(await self._read(*query), row.key)
 
-    def _kind(self, row: SagaRow, text: str) -> Kind:
+    def _kind(self, row: SagaRow, text: str) -> CompiledDefinition:
         """Return the definition of a text; that of this client's start, if there is one."""
         if text not in self._kinds:
             saga = self._sagas.get((row.saga, version_of(text)))
-            self._kinds[text] = Kind(text, saga, payloads=self._payloads)
+            self._kinds[text] = CompiledDefinition(text, saga, payloads=self._payloads)
         return self._kinds[text]
 
     async def _end(self, row: SagaRow) -> SagaResult:

@@ -26,7 +26,7 @@ from sagas.core.model import Attempt, SagaInstance
 from sagas.core.outcomes import Outcome
 from sagas.core.states import Action
 from sagas.definition import children, serialization
-from sagas.definition.compiled import Word
+from sagas.definition.compiled import ActionKey
 from sagas.definition.validation import meant
 from sagas.runtime import current_step, operator_commands
 from sagas.storage import operator_requests
@@ -220,7 +220,7 @@ class Commands:
 
     async def _reported_attempt(
         self, live: SagaInstance, step: str, kind: str, outcome: Outcome
-    ) -> Attempt | Word | None:
+    ) -> Attempt | ActionKey | None:
         """Return the attempt to report; the key of the action if none has started.
 
         Returns None if the same outcome was reported before. Raises `Moved` if its end is being
@@ -248,7 +248,7 @@ class Commands:
         await self._check_not_begun(live, word)
         return word
 
-    async def _check_not_begun(self, live: SagaInstance, word: Word) -> None:
+    async def _check_not_begun(self, live: SagaInstance, word: ActionKey) -> None:
         """Raise `Moved` if an attempt has started since the store was read.
 
         That includes an attempt whose report is being stored.
@@ -266,7 +266,7 @@ class Commands:
             raise Moved(f"saga {live.key!r}")
 
     async def _report_early(
-        self, live: SagaInstance, word: Word, outcome: Outcome, request: Wanted, early: bool
+        self, live: SagaInstance, word: ActionKey, outcome: Outcome, request: Wanted, early: bool
     ) -> None:
         """Store a report of a step that has not started.
 
@@ -315,7 +315,7 @@ class Commands:
         await check_again(coordinator.store.read, row, names, (step, kind), outcome, payloads)
 
 
-def _over(live: SagaInstance, rows: Iterable[tuple[Any, ...]], word: Word) -> str | None:
+def _over(live: SagaInstance, rows: Iterable[tuple[Any, ...]], word: ActionKey) -> str | None:
     """Return how a step without a running attempt ended; None if it has not ended."""
     over = step_reports.over_by(rows, *word)
     undo = live.busy.get((word[0], "undo")) if over and word[1] == "run" else None

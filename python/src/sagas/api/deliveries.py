@@ -8,7 +8,7 @@ from collections.abc import Callable
 from sagas.api.store_access import StoreAccess
 from sagas.core.announcements import ENDS
 from sagas.definition.compiled import Hooks
-from sagas.definition.shelf import Shelf
+from sagas.definition.shelf import DefinitionRegistry
 from sagas.storage import deliveries as table
 from sagas.storage.deliveries import Claimed, Posted
 
@@ -20,7 +20,7 @@ class Deliveries:
     store was opened. Each call can raise `StoreUnavailable` and `Closed`.
     """
 
-    def __init__(self, access: StoreAccess, registry: Shelf) -> None:
+    def __init__(self, access: StoreAccess, registry: DefinitionRegistry) -> None:
         self._access, self._registry = access, registry
 
     @property

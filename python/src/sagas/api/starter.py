@@ -11,11 +11,11 @@ from sagas.api.store_access import StoreAccess
 from sagas.base.errors import Closed, KeyConflict, StoreUnavailable
 from sagas.core.model import SagaInstance
 from sagas.definition import arguments, children, serialization, start_options, undo_sagas
-from sagas.definition.compiled import Kind
+from sagas.definition.compiled import CompiledDefinition
 from sagas.definition.labels import Labels, checked, with_token
 from sagas.definition.payloads import ABSENT
 from sagas.definition.saga import Saga
-from sagas.definition.shelf import Fitted, Shelf
+from sagas.definition.shelf import Fitted, DefinitionRegistry
 from sagas.definition.start_options import Deadline, StartOptions, deadline_at
 from sagas.runtime import relocation
 from sagas.runtime.coordinator import Coordinator
@@ -28,7 +28,7 @@ class Starter:
     """Starts sagas. Without `accepts_new`, it only finds existing ones."""
 
     def __init__(
-        self, access: StoreAccess, lookup: SagaLookup, registry: Shelf, accepts_new: bool
+        self, access: StoreAccess, lookup: SagaLookup, registry: DefinitionRegistry, accepts_new: bool
     ) -> None:
         self._access, self._lookup, self._registry = access, lookup, registry
         self.accepts_new = accepts_new
@@ -69,7 +69,7 @@ class Starter:
         return self._start(coordinator, saga, fitted, key, text, options, self.accepts_new)
 
     def start_child(
-        self, saga: Saga | Kind, key: str, input: Any, options: StartOptions
+        self, saga: Saga | CompiledDefinition, key: str, input: Any, options: StartOptions
     ) -> StartWork:
         """Start a child, also if the store accepts no new sagas: its parent is not new.
 
@@ -78,7 +78,7 @@ class Starter:
         coordinator = self._access.coordinator_here()
         arguments.key(key, or_child=True)
         # the input of a saga that undoes a child contains the child's results
-        if isinstance(saga, Kind):
+        if isinstance(saga, CompiledDefinition):
             text = serialization.write(input, "input")
             return self._start(
                 coordinator, saga, Fitted(saga, None, None), key, text, options, accepts=True
@@ -109,7 +109,7 @@ class Starter:
     def _start(
         self,
         coordinator: Coordinator,
-        saga: Saga | Kind,
+        saga: Saga | CompiledDefinition,
         fitted: Fitted,
         key: str,
         text: str,
@@ -130,7 +130,7 @@ class Starter:
     async def _start_looked_up(
         self,
         coordinator: Coordinator,
-        saga: Saga | Kind,
+        saga: Saga | CompiledDefinition,
         fitted: Fitted,
         key: str,
         text: str,

@@ -29,7 +29,7 @@ from sagas.core.results import SagaResult
 from sagas.definition import arguments, payloads, tracing
 from sagas.definition.blobs import BlobStore
 from sagas.definition.blobs import check as check_blobs
-from sagas.definition.shelf import Shelf
+from sagas.definition.shelf import DefinitionRegistry
 from sagas.definition.labels import Labels
 from sagas.definition.payloads import Codec
 from sagas.definition.saga import Saga
@@ -102,7 +102,7 @@ class Store(RetryCalls):
         check_blobs(blobs, blob_threshold)
         self._blobs = blobs, blob_threshold
         self._record = arguments.record(record)
-        self._registry = Shelf(sagas, payloads.checked(codec, blobs is not None))
+        self._registry = DefinitionRegistry(sagas, payloads.checked(codec, blobs is not None))
         self._options = {**counts, "idle": arguments.time("idle", idle), "clock": clock}
         self._tracer = tracing.tracer()
         self._options |= {"context": context, "tracer": self._tracer}

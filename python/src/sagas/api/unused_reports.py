@@ -16,12 +16,12 @@ from sagas.core.batch import Batch, Known, SagaRow, Wanted
 from sagas.core.states import Action, EarlyReason
 from sagas.definition import children, report_undos, serialization, tokens
 from sagas.definition.capacity import SHARD_CAPACITY
-from sagas.definition.compiled import Kind
+from sagas.definition.compiled import CompiledDefinition
 from sagas.definition.labels import TOKEN
 from sagas.definition.shape_values import ShapeValues
 from sagas.definition.start_options import StartOptions
 from sagas.definition.task import Task
-from sagas.definition.task_data import Told
+from sagas.definition.task_data import TaskSnapshot
 from sagas.definition.validation import meant
 from sagas.runtime import given_values, stored_values
 from sagas.storage import operator_requests
@@ -123,7 +123,7 @@ class UnusedReports:
         return row
 
     async def _input(
-        self, row: SagaRow, known: Known, kind: Kind, step: int, text: str
+        self, row: SagaRow, known: Known, kind: CompiledDefinition, step: int, text: str
     ) -> dict[str, Any]:
         """Return the input of the saga that undoes a report. All nodes compute the same."""
         decode, name = kind.payloads.decode, kind.names[step]
@@ -132,14 +132,14 @@ class UnusedReports:
         token = tokens.saga_token(shard, row.id % SHARD_CAPACITY)
         saga_input = decode(await stored_values.input_of(store, row.id, row.input))
         values = ShapeValues() if known.shape is None else ShapeValues.read(decode(known.shape))
-        location = kind.place(name, values, saga_input)
+        location = kind.location(name, values, saga_input)
         committed = {
             index: value for index, _, _, event, value, _ in known.results if event == "commit"
         }
         needed = [index for index in kind.below[step] if index in committed]
         results = {kind.names[index]: decode(committed[index] or "null") for index in needed}
         task: Task[Any] = Task(
-            Told(
+            TaskSnapshot(
                 kind.name,
                 row.key,
                 name,
@@ -149,7 +149,7 @@ class UnusedReports:
                 location.input if location else saga_input,
                 results,
                 decode(text),
-                place=location,
+                location=location,
             )
         )
         fields_of_task = task.plain

@@ -166,8 +166,8 @@ class Worker:
             existing = self._steps.get(step)
             if existing is not None:
                 locations = (
-                    f"{validation.place(function) or '?'} and "
-                    f"{validation.place(existing.function) or '?'}"
+                    f"{validation.location_of(function) or '?'} and "
+                    f"{validation.location_of(existing.function) or '?'}"
                 )
                 raise DefinitionError(
                     f"{step} is declared twice, at {locations}. Remove one of them"
@@ -398,7 +398,7 @@ class Worker:
                 self._condition.notify_all()
 
     def _renew(self, held: HeldTask, seconds: float) -> None:
-        url, progress = self.url, held.task.news()
+        url, progress = self.url, held.task.take_progress()
         more = {"progress": progress.fraction, "detail": progress.detail} if progress else {}
         path = f"/v1/tasks/{held.attempt_id}/heartbeat"
         body = {"lease": held.lease, "seconds": seconds, **more}

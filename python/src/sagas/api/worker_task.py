@@ -15,10 +15,10 @@ from sagas.base.errors import NotSerializable
 from sagas.core import outcomes
 from sagas.core.states import OutcomeKind
 from sagas.definition import awaitables, context, serialization
-from sagas.definition.task_data import Told
+from sagas.definition.task_data import TaskSnapshot
 from sagas.definition.arguments import shown
 from sagas.definition.context import Context
-from sagas.definition.place import ToldPlace
+from sagas.definition.place import RemoteStepLocation
 from sagas.definition.step import Unknowns
 from sagas.definition.task import Task
 from sagas.definition.tracing import Tracer
@@ -107,7 +107,7 @@ def task_of(reply: dict[str, Any], shared: Context) -> Task[Any]:
     results = {name: serialization.write(value) for name, value in reply["results"].items()}
     result = serialization.write(reply["result"]) if undo else None
     task: Task[Any] = Task(
-        Told(
+        TaskSnapshot(
             reply["definition"],
             reply["key"],
             step,
@@ -120,7 +120,7 @@ def task_of(reply: dict[str, Any], shared: Context) -> Task[Any]:
             deadline=reply.get("deadline"),
             traceparent=reply.get("traceparent"),
             context=shared,
-            place=None if reply.get("shape") is None else ToldPlace(reply),
+            location=None if reply.get("shape") is None else RemoteStepLocation(reply),
         )
     )
     if reason := reply.get("cancelled"):
@@ -160,7 +160,7 @@ def _outcome(
     try:
         result = manner.function(task)
         if inspect.isawaitable(result):
-            result = asyncio.run(_awaited(manner, task, awaitables.whole(result)))
+            result = asyncio.run(_awaited(manner, task, awaitables.awaited(result)))
     except asyncio.CancelledError:
         return "unknown", {"error": "cancelled, since the saga was aborted"}, None
     except BaseException as error:  # also sys.exit(): the thread of the function continues

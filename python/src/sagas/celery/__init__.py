@@ -1,6 +1,6 @@
 """Steps on Celery workers: `@trip.step(queue=sagas.celery.Queue(app, "flights"))`.
 
-The function becomes a task of the app, and you start workers as always. The program with the store
+The function becomes a task of the app, and you start workers as usual. The program with the store
 sends a message for each attempt. The worker calls the function, and writes the outcome into the
 store itself. Celery needs no result backend.
 """
@@ -33,18 +33,21 @@ LATE = {
     "typing": False,
     "shared": False,
 }
-"""A message is acknowledged once its report is in the store, and goes back where its worker is
-lost.
+"""The options of the tasks.
+
+A message is acknowledged after its report is in the store. If its worker is lost, it returns to the
+queue.
 """
 
 
 def task_name(step: Step[Any], kind: str) -> str:
-    """The name of the task: `sagas.trip.flight.run`, and `.undo` for the compensation; `trip@2`
-    where the saga's version is 2.
+    """Return the name of the task of a step: `sagas.trip.flight.run`.
+
+    It ends with `.undo` for the compensation, and has `trip@2` if the saga's version is 2.
     """
     saga = step.saga
-    named = saga.name if saga.version == 1 else f"{saga.name}@{saga.version}"
-    return f"sagas.{named}.{step.name}.{kind}"
+    saga_name = saga.name if saga.version == 1 else f"{saga.name}@{saga.version}"
+    return f"sagas.{saga_name}.{step.name}.{kind}"
 
 
 class Queue:
@@ -55,12 +58,12 @@ class Queue:
     Args:
         app: The Celery app.
         name: The queue's name; None: where the app's routes send the task (default: None).
-        store: What the workers report to, as they reach it: the URL or the file of the very store
+        store: The URL or the file with which the workers reach the store. It must be the store
             that is opened (default: `app.conf.sagas_store`).
         timeout: Seconds after which a message without a report is sent again, with the same
             idempotency key, if the step has no `timeout` (default: 300).
         patience: Seconds that a worker tries to report while the store cannot be written. Then the
-            message goes back (default: 60).
+            message returns to the queue (default: 60).
         options: Celery's options of the task, for example `priority` or `soft_time_limit`.
 
     Attributes:
@@ -83,13 +86,13 @@ class Queue:
         self.app, self.name, self.timeout, self.patience = app, name, timeout, patience
         self._store = None if store is None else os.fspath(store)
         self._options = LATE | ({"queue": name} if name else {}) | options
-        self._desks = threading.local()
+        self._sessions = threading.local()
         self._sender = Sender(app)
         store_check.declare(app, self)
 
     @property
     def store(self) -> str:
-        """What the workers report to.
+        """The URL or the file of the store to which the workers report.
 
         Raises:
             DefinitionError: Neither `store` nor `app.conf.sagas_store` is given.
@@ -126,11 +129,11 @@ class Queue:
             DefinitionError: As `store`.
             StoreUnavailable: The store does not answer.
         """
-        told = getattr(self._desks, "told", None)
-        if told is None or told[0] != os.getpid():
-            told = self._desks.told = os.getpid(), open_worker_session(self.store)
-        desk: WorkerSession = told[1]
-        return desk
+        cached = getattr(self._sessions, "of_process", None)
+        if cached is None or cached[0] != os.getpid():
+            cached = self._sessions.of_process = os.getpid(), open_worker_session(self.store)
+        session: WorkerSession = cached[1]
+        return session
 
     async def check(self, database: Database, steps: Iterable[tuple[Step[Any], str]]) -> None:
         """Check that the workers report into this store.
@@ -172,7 +175,7 @@ def step(
     *,
     queue: str | None = None,
     store: str | os.PathLike[str] | None = None,
-    **words: Any,
+    **options: Any,
 ) -> Declare:
     """Declare a step that runs on an app's workers: `@step(app, saga, "name")`.
 
@@ -182,7 +185,7 @@ def step(
         name: The step's name.
         queue: The Celery queue; None: where the app's routes send the task (default: None).
         store: As of `Queue`.
-        words: The other options of `Saga.step`.
+        options: The other options of `Saga.step`.
 
     Returns:
         A decorator that returns the `Step`.
@@ -190,5 +193,5 @@ def step(
     Raises:
         DefinitionError: An argument is not valid.
     """
-    declare: Declare = saga.step(name=name, queue=Queue(app, queue, store=store), **words)
+    declare: Declare = saga.step(name=name, queue=Queue(app, queue, store=store), **options)
     return declare

@@ -14,7 +14,7 @@ from sagas.celery.store_check import unreached
 from sagas.runtime.remote_steps import Unsent
 
 POLICY = {"max_retries": 1, "interval_start": 0, "interval_step": 0, "interval_max": 0}
-"""A connection that broke is made again once; further tries are the caller's."""
+"""A broken connection is opened again once. Further retries are up to the caller."""
 
 
 class _Message(NamedTuple):
@@ -27,7 +27,7 @@ class _Message(NamedTuple):
 
 
 class Sender:
-    """Sends in the order in which it was asked."""
+    """Send messages in the order of the calls."""
 
     def __init__(self, app: Any) -> None:
         self._app = app
@@ -36,8 +36,10 @@ class Sender:
         self._pid = 0
 
     async def send(self, task: str, order: dict[str, Any], token: str, shown: str) -> None:
-        """Sends a message whose id is the token. Raises `Unsent`, and then nobody knows whether
-        it came.
+        """Send a message whose id is the token.
+
+        Raises:
+            Unsent: The broker did not confirm the message, which it may still have received.
         """
         if self._thread is None or self._pid != os.getpid():
             self._pid, self._messages = os.getpid(), queue.SimpleQueue()
@@ -65,7 +67,7 @@ class Sender:
                     )
                     fault = Unsent(f"{type(error).__name__}: {error}")
             with contextlib.suppress(RuntimeError):  # the loop is closed
-                message.loop.call_soon_threadsafe(_tell, message.sent, fault)
+                message.loop.call_soon_threadsafe(_resolve, message.sent, fault)
 
     def _send(self, message: _Message) -> None:
         task = self._app.tasks[message.task]
@@ -79,6 +81,6 @@ class Sender:
         )
 
 
-def _tell(sent: asyncio.Future[None], fault: Unsent | None) -> None:
+def _resolve(sent: asyncio.Future[None], fault: Unsent | None) -> None:
     if not sent.done():
         sent.set_exception(fault) if fault else sent.set_result(None)

@@ -1,7 +1,6 @@
-"""The check that the workers of a queue report into the same store.
+"""The check that the workers of a queue report into the open store.
 
-Whether the workers of a queue report into the store that was opened: over SQLite they have to
-have the very file.
+Over SQLite, the workers must use the same file.
 """
 
 from __future__ import annotations
@@ -23,49 +22,53 @@ if TYPE_CHECKING:
     from sagas.celery import Queue
     from sagas.storage.interface import Database
 
-ASKED = "sagas_store"
-PATIENCE = 1.0  # seconds that workers have to answer
-FRESH = (
-    1.0  # seconds that their answer, which is of all queues of the app, will do for the next queue
-)
+COMMAND = "sagas_store"
+REPLY_TIMEOUT = 1.0
+"""Seconds in which the workers must reply."""
+REPLY_AGE = 1.0
+"""Seconds for which the replies of all workers of an app are used again, for other queues."""
 
 
 def file_of(path: str) -> list[Any] | None:
-    """What names a file on this machine, until it starts anew; None where there is none."""
+    """Return the identity of a file until the machine reboots, or None."""
     try:
-        told = os.stat(path)
+        status = os.stat(path)
     except OSError:
         return None
     boot = pathlib.Path("/proc/sys/kernel/random/boot_id")
     return [
         boot.read_text().strip() if boot.exists() else platform.node(),
-        told.st_dev,
-        told.st_ino,
+        status.st_dev,
+        status.st_ino,
     ]
 
 
 def declare(app: Any, queue: Queue) -> None:
-    """The app's workers can be asked which file the queue reports to."""
+    """Register a queue, so that the app's workers can reply to which file it reports."""
     queues = app.__dict__.setdefault("sagas_queues", [])
     queues.append(queue)
 
 
-def _answer(state: Any) -> list[Any]:
-    """Which files this worker's queues report to."""
-    found = []
+def _reply(state: Any) -> list[Any]:
+    """Return the files to which the queues of this worker report."""
+    files = []
     for queue in state.app.__dict__.get("sagas_queues", ()):
         store = queue.store
         if not is_url(store):
-            found.append([queue.name, os.path.abspath(store), file_of(store)])
-    return found
+            files.append([queue.name, os.path.abspath(store), file_of(store)])
+    return files
 
 
-inspect_command(name=ASKED)(_answer)
+inspect_command(name=COMMAND)(_reply)
 
 
 async def check(queue: Queue, database: Database) -> None:
-    """Raises `WrongStore` where the queue's workers would report elsewhere: by what the queue
-    says, and by what workers answer that run now.
+    """Check that the workers of a queue report into a store.
+
+    It checks the queue's own store, and over SQLite the replies of the workers that are running.
+
+    Raises:
+        WrongStore: The workers report into another store.
     """
     store, shared = queue.store, database.shared
     if is_url(store) != shared:
@@ -75,24 +78,24 @@ async def check(queue: Queue, database: Database) -> None:
         )
     if shared:
         return
-    own = file_of(database.path)
-    if own != file_of(store):
+    file = file_of(database.path)
+    if file != file_of(store):
         raise WrongStore(
             f"{queue!r}: its workers report to {os.path.abspath(store)}, but the open "
             f"store is {os.path.abspath(database.path)}. Give both the same file"
         )
-    for name, answer in await asyncio.to_thread(_ask, queue):
-        for place, path, file in answer:
-            if place == queue.name and file != own:
+    for worker, reply in await asyncio.to_thread(_ask, queue):
+        for queue_name, path, worker_file in reply:
+            if queue_name == queue.name and worker_file != file:
                 raise WrongStore(
-                    f"{queue!r}: worker {name} has another file at {path}. Over SQLite, workers "
+                    f"{queue!r}: worker {worker} has another file at {path}. Over SQLite, workers "
                     f"and store must share the file {os.path.abspath(database.path)} on one "
                     "machine. Otherwise use PostgreSQL"
                 )
 
 
 def unreached(app: Any, error: Exception) -> str:
-    """What a broker's client raised, and at which broker, without its password."""
+    """Return a broker's error with its URL, without the password, for a log line."""
     try:
         return f"{app.connection_for_write().as_uri()}: {error}"
     except Exception:  # a URL that it does not understand
@@ -100,22 +103,21 @@ def unreached(app: Any, error: Exception) -> str:
 
 
 def _ask(queue: Queue) -> list[tuple[str, list[Any]]]:
-    """What the workers answer that run now."""
-    found: list[tuple[str, list[Any]]]
-    at, found = queue.app.__dict__.get("sagas_answers", (0.0, []))
-    if time.monotonic() < at + FRESH:
-        return found
-    found = []
+    """Return the replies of the running workers, by the name of the worker."""
+    replies: list[tuple[str, list[Any]]]
+    at, replies = queue.app.__dict__.get("sagas_answers", (0.0, []))
+    if time.monotonic() < at + REPLY_AGE:
+        return replies
+    replies = []
     try:
-        for reply in queue.app.control.broadcast(ASKED, reply=True, timeout=PATIENCE) or ():
-            found += [(name, told) for name, told in reply.items() if isinstance(told, list)]
-    except (
-        Exception
-    ) as error:  # its workers cannot be asked now, and say it with their first message
+        control = queue.app.control
+        for reply in control.broadcast(COMMAND, reply=True, timeout=REPLY_TIMEOUT) or ():
+            replies += [(name, files) for name, files in reply.items() if isinstance(files, list)]
+    except Exception as error:  # then the first message to a worker shows a wrong store
         logger.warning(
             "%r: the broker cannot be reached: %s. Messages are sent when it can",
             queue,
             unreached(queue.app, error),
         )
-    queue.app.__dict__["sagas_answers"] = time.monotonic(), found
-    return found
+    queue.app.__dict__["sagas_answers"] = time.monotonic(), replies
+    return replies

@@ -1,4 +1,4 @@
-"""What a Celery worker does with a message: call the function and report the outcome."""
+"""`Work`: the call of a step's function by a Celery worker, and its report."""
 
 from __future__ import annotations
 
@@ -17,12 +17,12 @@ from sagas.core.dispatch import Begun, Order, Settled
 from sagas.core.outcomes import Outcome
 from sagas.core.states import OutcomeKind
 from sagas.definition import awaitables, children, decoders, tokens, tracing
-from sagas.definition.task_data import Told
-from sagas.definition.compiled import Kind
-from sagas.definition.place import Place
+from sagas.definition.compiled import CompiledDefinition
+from sagas.definition.place import StepLocation
 from sagas.definition.shape_values import ShapeValues
 from sagas.definition.step import Function, Manner, Step
 from sagas.definition.task import Task
+from sagas.definition.task_data import TaskSnapshot
 
 if TYPE_CHECKING:
     from sagas.celery import Queue
@@ -34,49 +34,52 @@ UNKNOWN = "this worker does not know the saga {!r}. Import the module that decla
 
 
 class Work:
-    """A step's function, or its compensation, as a worker calls it."""
+    """A step's function, or its compensation, in a worker."""
 
     def __init__(self, queue: Queue, step: Step[Any], kind: str, manner: Manner) -> None:
         self.queue, self.step, self.kind, self.manner = queue, step, kind, manner
-        self._kind: Kind | None = None
-        """The last definition whose steps come from an input."""
+        self._kind: CompiledDefinition | None = None
+        """The definition of the last message of a saga whose steps come from its input."""
 
     @functools.cached_property
     def hint(self) -> decoders.Decoder | None:
-        """How to read the input."""
+        """The decoder of the input."""
         assert self.manner.function
         return decoders.hints(self.manner.function)[0]
 
     @functools.cached_property
     def tracer(self) -> tracing.Tracer | None:
-        """What makes spans, in each process of the worker its own."""
+        """The tracer, which each process of the worker has for itself."""
         return tracing.tracer()
 
     @functools.cached_property
     def decoders(self) -> dict[str, decoders.Decoder]:
-        """How to read the results, by step."""
-        told = {step.name: children.hints(step)[1] for step in self.step.saga.steps}
-        return {name: decoder for name, decoder in told.items() if decoder}
+        """The decoders of results, by step."""
+        by_step = {step.name: children.hints(step)[1] for step in self.step.saga.steps}
+        return {name: decoder for name, decoder in by_step.items() if decoder}
 
-    def perform(self, told: dict[str, Any]) -> None:
-        """Does one message. Raises `Reject` where the store could not be reached for too long, or
-        the soft time limit came before the function: the message goes back.
+    def perform(self, message: dict[str, Any]) -> None:
+        """Process one message.
+
+        Raises:
+            Reject: The store cannot be reached, or the soft time limit came before the call of the
+                function. The message returns to the queue.
         """
-        order = Order.read(told)
+        order = Order.read(message)
         try:
             self._perform(order)
         except SoftTimeLimitExceeded as error:
             logger.warning(
-                "%s: the soft time limit came while the worker asked the store, so the message "
-                "goes back",
+                "%s: the soft time limit came before the function was called. The message returns "
+                "to the queue",
                 order.token,
             )
             raise Reject(str(error), requeue=True) from error
 
     def _perform(self, order: Order) -> None:
         queue = self.queue
-        begun = _surely(lambda: queue.desk().begin(order), time.monotonic() + queue.patience)
-        if begun is None:
+        started = _surely(lambda: queue.desk().begin(order), time.monotonic() + queue.patience)
+        if started is None:
             logger.info(
                 "%s: ignored a late or repeated message: the attempt has ended", order.token
             )
@@ -89,30 +92,31 @@ class Work:
         if self.manner.transaction:
             function = queue.desk().within(order, function)
         try:
-            outcome = self._outcome(function, self._task(order, begun))
+            outcome = self._outcome(function, self._task(order, started))
         except Settled:
             logger.info("%s: rolled back a repeated message", order.token)
             return
-        if (
-            outcome.kind is not OutcomeKind.SUCCEEDED or not self.manner.transaction
-        ):  # else the report is in the store already
+        is_reported = outcome.kind is OutcomeKind.SUCCEEDED and self.manner.transaction
+        if not is_reported:
             self._report(order, outcome)
 
     def _report(self, order: Order, outcome: Outcome) -> None:
-        """Goes on where the soft time limit comes, which Celery raises once: the function has
-        ended, and how is known."""
+        """Report the outcome of a call.
+
+        It continues after the soft time limit, which Celery raises once: the outcome is known.
+        """
 
         def report() -> None:
             self.queue.desk().report(order, outcome)
 
-        until = time.monotonic() + self.queue.patience
+        deadline = time.monotonic() + self.queue.patience
         try:
-            _surely(report, until)
+            _surely(report, deadline)
         except SoftTimeLimitExceeded:
-            _surely(report, until)
+            _surely(report, deadline)
 
     def _outcome(self, function: Function, task: Task[Any]) -> Outcome:
-        """Calls the function, within a span where there is a tracer. Raises `Settled`."""
+        """Call the function, within a span if there is a tracer. Raises `Settled`."""
         assert self.manner.function
         tracer = self.tracer
         if tracer is None:
@@ -122,62 +126,68 @@ class Work:
             span.ended(outcome.kind.value, outcomes.fault(outcome), outcome.error)
             return outcome
 
-    def _place(self, order: Order, begun: Begun) -> tuple[Place | None, Decoders]:
-        """Where the step is, if the saga's steps come from its input, and how results are read."""
-        if begun.shape is None:
+    def _location(self, order: Order, started: Begun) -> tuple[StepLocation | None, Decoders]:
+        """Return the location of the step, if any, and the decoders of results."""
+        if started.shape is None:
             return None, self.decoders
-        text, shape = begun.shape
+        text, shape = started.shape
         kind = self._kind
         if kind is None or kind.text != text:
             root = self.step.saga.outer(order.saga, order.version)
-            kind = self._kind = Kind(text, root)
+            kind = self._kind = CompiledDefinition(text, root)
         values = ShapeValues() if shape == "null" else ShapeValues.read(shape)
-        return kind.place(order.step, values, begun.input), kind.decoders
+        return kind.location(order.step, values, started.input), kind.decoders
 
-    def _task(self, order: Order, begun: Begun) -> Task[Any]:
-        """What the function is handed."""
+    def _task(self, order: Order, started: Begun) -> Task[Any]:
+        """Return the task for the function."""
         undo, token = self.kind == "undo", tokens.saga_token(order.log, order.number)
-        place, decoders = self._place(order, begun)
+        location, decoders = self._location(order, started)
         return Task(
-            Told(
+            TaskSnapshot(
                 order.saga,
                 order.key,
                 order.step,
                 undo,
                 order.attempt,
                 token,
-                place.input if place else begun.input,
-                begun.results,
-                begun.result,
+                location.input if location else started.input,
+                started.results,
+                started.result,
                 self.hint,
                 decoders,
                 order.deadline,
                 traceparent=order.traceparent,
-                place=place,
+                location=location,
             )
         )
 
 
-def _surely(ask: Callable[[], T], until: float) -> T:
-    """Asks until the store answers, for so long as the queue has patience."""
+def _surely(request: Callable[[], T], deadline: float) -> T:
+    """Repeat a request to the store until it replies.
+
+    Raises:
+        Reject: The deadline has passed. The message returns to the queue.
+    """
     pause = FIRST_PAUSE
     while True:
         try:
-            return ask()
+            return request()
         except StoreUnavailable as error:
-            if time.monotonic() > until:
-                logger.error("the store cannot be reached, so the message goes back: %s", error)
+            if time.monotonic() > deadline:
+                logger.error(
+                    "the store cannot be reached: %s. The message returns to the queue", error
+                )
                 raise Reject(str(error), requeue=True) from error
             time.sleep(pause)
             pause = min(MOST_PAUSE, 2 * pause)
 
 
 def _call(function: Function, manner: Manner, task: Task[Any]) -> Outcome:
-    """Calls the function, also an async one, and says what that was. Raises `Settled`."""
+    """Call the function, plain or async, and return its outcome. Raises `Settled`."""
     try:
         value = function(task)
         return outcomes.succeeded(
-            asyncio.run(awaitables.whole(value)) if inspect.isawaitable(value) else value, task
+            asyncio.run(awaitables.awaited(value)) if inspect.isawaitable(value) else value, task
         )
     except Settled:
         raise
@@ -190,4 +200,4 @@ def _call(function: Function, manner: Manner, task: Task[Any]) -> Outcome:
         logger.warning(
             "%s: %s. Another worker may be able to decode it", task.attempt_id, outcome.value
         )
-        return outcomes.unknown(outcome.value)  # so that it is ordered again
+        return outcomes.unknown(outcome.value)  # so that the attempt is sent again

@@ -12,7 +12,7 @@ from sagas.core.outcomes import SUCCEEDED, Outcome, failure
 from sagas.core.results import Ended
 from sagas.core.states import SagaPhase, StepState
 from sagas.definition import children, serialization
-from sagas.definition.compiled import Kind
+from sagas.definition.compiled import CompiledDefinition
 
 
 def key_of(attempt: Attempt) -> str:
@@ -60,7 +60,7 @@ def _written(value: Any) -> str:
 def undo_input(
     key: str,
     token: str,
-    kind: Kind,
+    kind: CompiledDefinition,
     text: str,
     results: Mapping[int, str],
     undone: Iterable[str] = (),
@@ -103,7 +103,7 @@ def left_by(child: Mapping[str, str], earlier: Iterable[Mapping[str, str]]) -> s
     return undone
 
 
-def outcome(end: Ended, kind: Kind, results: Mapping[int, str]) -> Outcome | None:
+def outcome(end: Ended, kind: CompiledDefinition, results: Mapping[int, str]) -> Outcome | None:
     """Return what a child's end comes to.
 
     Args:

@@ -38,7 +38,7 @@ def has_nothing_to_undo(attempt: Attempt) -> bool:
     if not step.is_collected and step.child is None:
         return False
     try:
-        own = attempt.own
+        own = attempt.own_result
     except CannotDecode:  # the attempt is suspended for that when its values are read
         return False
     if own is None:

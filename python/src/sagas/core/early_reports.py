@@ -15,7 +15,7 @@ from sagas.core.batch import HeldRow, Wanted
 from sagas.core.model import Attempt, SagaInstance
 from sagas.core.outcomes import MOST_TEXT, SUCCEEDED, Outcome
 from sagas.core.states import Action, EarlyReason, OutcomeKind
-from sagas.definition.compiled import Word
+from sagas.definition.compiled import ActionKey
 
 if TYPE_CHECKING:
     from sagas.core.effects import Effects
@@ -44,7 +44,7 @@ class EarlyReport:
     """
 
     saga: SagaInstance
-    word: Word
+    word: ActionKey
     outcome: Outcome
     request: Wanted = None
 
@@ -71,7 +71,7 @@ class DueReport(NamedTuple):
     """A success that was reported of a step, whose needs are committed, and that has not begun."""
 
     saga: SagaInstance
-    word: Word
+    word: ActionKey
     outcome: Outcome
 
 
@@ -101,7 +101,7 @@ def refusal(saga: SagaInstance, step: int, kind: str) -> str | None:
     return None
 
 
-def stored(saga: SagaInstance, word: Word) -> Outcome | None:
+def stored(saga: SagaInstance, word: ActionKey) -> Outcome | None:
     """Return the report that is stored for a step; its value is as the store has it."""
     if not saga.has_early or word not in saga.rare.early:
         return None
@@ -141,7 +141,7 @@ def is_success(attempt: Attempt) -> bool:
     return attempt.outcome is not None and attempt.outcome.kind is SUCCEEDED
 
 
-def _may_begin(saga: SagaInstance, word: Word) -> bool:
+def _may_begin(saga: SagaInstance, word: ActionKey) -> bool:
     return word not in saga.busy and word not in saga.rare.final and word[0] not in saga.results
 
 

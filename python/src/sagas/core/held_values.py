@@ -66,7 +66,7 @@ class HeldValues:
         if self.options.shape is not None and len(self.options.shape) > LARGE:
             self.options = dataclasses.replace(self.options, shape=ABSENT)
             if self._extras is not None and (shape := self._extras.shape) is not None:
-                self._extras.numbering = ShapeValues.of_told(shape.told(()))
+                self._extras.numbering = ShapeValues.of_numbering(shape.numbering(()))
                 self._extras.shape = None
         for some in (self.results, *results):
             for step, value in some.items():

@@ -14,13 +14,13 @@ from sagas.core.saga_instance import SagaInstance as SagaInstance
 from sagas.core.states import ATTEMPT_TRANSITIONS, Action, AttemptState, Check, Suspension, check
 from sagas.core.suspensions import AttemptExtras, Lease, Returned, Subject, SuspensionRow
 from sagas.definition import tokens
-from sagas.definition.task_data import whole
-from sagas.definition.compiled import Word
+from sagas.definition.task_data import snapshot
+from sagas.definition.compiled import ActionKey
 from sagas.definition.context import Context
 from sagas.definition.control import Control
 from sagas.definition.decoders import Decoder
 from sagas.definition.payloads import ABSENT
-from sagas.definition.place import Place
+from sagas.definition.place import StepLocation
 from sagas.definition.step import Manner, Step
 from sagas.definition.task import Task
 
@@ -210,7 +210,7 @@ class Attempt(AcknowledgedAttempt):
     # -- what it is
 
     @property
-    def word(self) -> Word:
+    def word(self) -> ActionKey:
         """The index of its step, and `run` or `undo`."""
         return self.action.word
 
@@ -236,7 +236,7 @@ class Attempt(AcknowledgedAttempt):
         layout = self.instance.kind.layout
         if layout is None:
             return None
-        spot = layout.spots[self.name]
+        spot = layout.origins[self.name]
         try:
             return self.instance.numbering.key(spot)
         except CannotDecode:
@@ -302,7 +302,7 @@ class Attempt(AcknowledgedAttempt):
         """Name this attempt."""
         return tokens.attempt_id(self.idempotency_key(), self.attempt)
 
-    # -- what its function's task is asked for (`task.About`)
+    # -- what its function's task is asked for (`TaskData`)
 
     @property
     def saga(self) -> str:
@@ -331,24 +331,24 @@ class Attempt(AcknowledgedAttempt):
         return token
 
     @property
-    def place(self) -> Place | None:
+    def location(self) -> StepLocation | None:
         kind = self.instance.kind
         if kind.layout is None:
             return None
         text = kind.payloads.decode(self.instance.text)
-        return kind.place(self.action.name, self.instance.shape, text)
+        return kind.location(self.action.name, self.instance.shape, text)
 
     @property
     def input(self) -> str:
-        place = self.place
-        if place is not None:
-            return place.input
+        location = self.location
+        if location is not None:
+            return location.input
         return self.instance.kind.payloads.decode(self.instance.text)
 
     @property
-    def given(self) -> dict[str, str]:
+    def needed_results(self) -> dict[str, str]:
         decode = self.instance.kind.payloads.decode
-        given = self.action.given
+        given = self.action.needed_results
         return {name: decode(self.results.get(number, "null")) for number, name in given}
 
     @property
@@ -360,7 +360,7 @@ class Attempt(AcknowledgedAttempt):
         return self.instance.options.traceparent
 
     @property
-    def own(self) -> str | None:
+    def own_result(self) -> str | None:
         own = self.results.get(self.step) if self.action.undo else None
         return None if own is None else self.instance.kind.payloads.decode(own)
 
@@ -393,14 +393,14 @@ class Attempt(AcknowledgedAttempt):
         instance = self.instance
         if not instance.is_partial:
             return False
-        needed = [self.results.get(number) for number, _ in self.action.given]
+        needed = [self.results.get(number) for number, _ in self.action.needed_results]
         if self.action.undo:
             needed.append(self.results.get(self.step))
         return ABSENT in (instance.text, instance.options.shape, *needed)
 
     def task(self) -> Task[Any]:
         """What its function is handed, where that goes on elsewhere: as it is now."""
-        return Task(whole(self))
+        return Task(snapshot(self))
 
 
 def start_all(attempts: Sequence[Attempt]) -> None:

@@ -9,7 +9,7 @@ from sagas.core.states import AttemptState
 from sagas.core.suspensions import SagaExtras
 from sagas.definition import start_options
 from sagas.definition.capacity import SHARD_CAPACITY
-from sagas.definition.compiled import Kind, Word
+from sagas.definition.compiled import CompiledDefinition, ActionKey
 from sagas.definition.shape_values import ShapeValues
 from sagas.definition.start_options import StartOptions
 
@@ -78,7 +78,7 @@ class SagaInstance(AcknowledgedSaga):
         self,
         key: str,
         text: str,
-        kind: Kind,
+        kind: CompiledDefinition,
         place: int,
         options: StartOptions = start_options.NONE,
     ) -> None:
@@ -98,7 +98,7 @@ class SagaInstance(AcknowledgedSaga):
         """Make it what it was when it was opened; recovery puts in what the store has."""
         self.token: str | None = None
         self.results: dict[int, str] = {}
-        self.busy: dict[Word, Attempt] = {}
+        self.busy: dict[ActionKey, Attempt] = {}
         self.odd = self.aborted = self.draining = False
         self.answer: dict[str, Any] | None = None
         self.phase = ""
@@ -190,7 +190,7 @@ class SagaInstance(AcknowledgedSaga):
         """Whether its key may be another saga's."""
         return self.guessed and not self.committed
 
-    def missed(self, word: Word, at: float, told: dict[str, Any]) -> None:
+    def missed(self, word: ActionKey, at: float, told: dict[str, Any]) -> None:
         """Keep when an action failed, and the pause that it wants."""
         self.rare.missed_at[word] = at
         self.rare.pauses[word] = told.get("retry_after")

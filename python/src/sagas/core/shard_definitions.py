@@ -7,7 +7,7 @@ from collections.abc import Sequence
 from sagas.core import protocol
 from sagas.core.batch import Defined
 from sagas.definition.capacity import MOST_ADDED
-from sagas.definition.compiled import Kind, digest_of
+from sagas.definition.compiled import CompiledDefinition, digest_of
 
 
 class ShardDefinitions:
@@ -27,7 +27,7 @@ class ShardDefinitions:
 
     __slots__ = ("digest", "texts", "kinds", "stored", "known", "has_grown", "is_fixed", "_places")
 
-    def __init__(self, kinds: Sequence[Kind], digest: str = "") -> None:
+    def __init__(self, kinds: Sequence[CompiledDefinition], digest: str = "") -> None:
         self.digest = digest
         self.kinds = [*kinds]
         self.texts = [kind.text for kind in kinds]
@@ -40,11 +40,11 @@ class ShardDefinitions:
         self.known = len(self.texts)
         self.has_grown = self.is_fixed = False
 
-    def has_room(self, kind: Kind) -> bool:
+    def has_room(self, kind: CompiledDefinition) -> bool:
         """Whether it has this one, or may get it."""
         return kind.text in self._places or len(self.texts) < MOST_ADDED
 
-    def place(self, kind: Kind) -> int:
+    def place(self, kind: CompiledDefinition) -> int:
         """Return the place of one, which it has from now on."""
         place = self._places.get(kind.text)
         if place is None:

@@ -11,7 +11,7 @@ from sagas.base.logger import logger
 from sagas.core.batch import Wanted
 from sagas.core.states import EarlyReason, Suspension
 from sagas.definition import serialization
-from sagas.definition.compiled import Word
+from sagas.definition.compiled import ActionKey
 from sagas.definition.control import Control
 from sagas.definition.shape_values import ShapeValues
 
@@ -97,11 +97,11 @@ class AttemptExtras:
 class SagaExtras:
     """What only a saga has in which something failed, or waits."""
 
-    missed_at: dict[Word, float] = dataclasses.field(default_factory=dict)
+    missed_at: dict[ActionKey, float] = dataclasses.field(default_factory=dict)
     """When the last attempt of each action failed that is retried."""
-    pauses: dict[Word, float | None] = dataclasses.field(default_factory=dict)
+    pauses: dict[ActionKey, float | None] = dataclasses.field(default_factory=dict)
     """Seconds that it wants behind that (`RetryAfter`)."""
-    final: set[Word] = dataclasses.field(default_factory=set)
+    final: set[ActionKey] = dataclasses.field(default_factory=set)
     """The actions that failed permanently."""
     errors: dict[int, str] = dataclasses.field(default_factory=dict)
     """What each step raised last."""
@@ -109,9 +109,9 @@ class SagaExtras:
     """What is kept of its shape, once it was read."""
     numbering: ShapeValues | None = None
     """The numbers and keys of its items, once its shape is not held any more."""
-    due: dict[Word, float] = dataclasses.field(default_factory=dict)
+    due: dict[ActionKey, float] = dataclasses.field(default_factory=dict)
     """Of waits: until when; 0 once that is over."""
-    early: dict[Word, tuple[EarlyReason, str]] = dataclasses.field(default_factory=dict)
+    early: dict[ActionKey, tuple[EarlyReason, str]] = dataclasses.field(default_factory=dict)
     """What is reported of steps that have not begun: which kind, and its text as it is stored."""
     drains: bool = False
     """See `SagaInstance.drains`."""

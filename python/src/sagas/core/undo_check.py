@@ -6,7 +6,7 @@ from collections.abc import Callable, Iterable, Iterator
 from typing import Any, NamedTuple
 
 from sagas.definition import listed_steps, undo_sagas, undo_text
-from sagas.definition.compiled import Kind
+from sagas.definition.compiled import CompiledDefinition
 
 
 class CompletedChild(NamedTuple):
@@ -45,7 +45,9 @@ def by_shard(
     return found
 
 
-def lacking(kind_of: Callable[[str], Kind], completed: Iterable[CompletedChild]) -> str | None:
+def lacking(
+    kind_of: Callable[[str], CompiledDefinition], completed: Iterable[CompletedChild]
+) -> str | None:
     """Return what a program lacks to undo completed children; None if it lacks nothing.
 
     A child is looked at if its parent may undo it: the parent is open, or may be undone itself.
@@ -77,7 +79,7 @@ def lacking(kind_of: Callable[[str], Kind], completed: Iterable[CompletedChild])
     return None
 
 
-def _undone_by_sagas(kind: Kind, is_open: bool) -> Iterator[str]:
+def _undone_by_sagas(kind: CompiledDefinition, is_open: bool) -> Iterator[str]:
     """The steps whose children are undone by sagas of their own, if the parent is undone."""
     listed = listed_steps.of(kind.text)
     declared = {name: step for name, step in zip(kind.names, kind.steps) if step is not None}

@@ -1,4 +1,4 @@
-"""`Approved` and `Rejected`: answers that an approval function returns itself."""
+"""`Approved` and `Rejected`: decisions that the function of an approval returns."""
 
 from __future__ import annotations
 
@@ -68,23 +68,26 @@ class Rejected:
 
 
 class Answer:
-    """One of both, on its way from the function of an approval. It is no JSON."""
+    """An `Approved` or `Rejected` that the function of an approval returned."""
 
-    def __init__(self, said: Approved[Any] | Rejected) -> None:
-        self.said = said
+    def __init__(self, decision: Approved[Any] | Rejected) -> None:
+        self.decision = decision
 
     def written(self) -> str:
-        """As JSON. A result that is no JSON is kept as what could not be stored."""
-        if isinstance(self.said, Rejected):
-            return json.dumps({"rejected": self.said.why})
+        """Return the decision as JSON.
+
+        If the result cannot be written as JSON, the text has the error instead.
+        """
+        if isinstance(self.decision, Rejected):
+            return json.dumps({"rejected": self.decision.why})
         try:
-            return f'{{"approved":{serialization.write_value(self.said.result)}}}'
+            return f'{{"approved":{serialization.write_value(self.decision.result)}}}'
         except NotSerializable as error:
             return json.dumps({"approved": {serialization.UNSTORABLE: str(error)}})
 
 
 def answering(function: Callable[[Any], Any]) -> Callable[[Any], Any]:
-    """An approval's function, which may say how it ends."""
+    """Wrap the function of an approval: a returned decision becomes an `Answer`."""
     if inspect.iscoroutinefunction(function):
 
         async def act(task: Any) -> Any:
@@ -100,7 +103,7 @@ def answering(function: Callable[[Any], Any]) -> Callable[[Any], Any]:
 
 
 async def _awaited(value: Awaitable[Any]) -> Any:
-    return _answer(await awaitables.whole(value))
+    return _answer(await awaitables.awaited(value))
 
 
 def _answer(value: Any) -> Any:

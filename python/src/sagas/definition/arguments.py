@@ -1,7 +1,6 @@
 """Checks of the arguments of `open`, `start` and `Client`.
 
-What a store or a client is opened with, and what a saga is started with: each fault is told at
-once, with the word and what it has to be.
+Each check raises an error that names the argument, its value and the rule.
 """
 
 from __future__ import annotations
@@ -18,12 +17,12 @@ from sagas.definition.mismatches import MOST_SHOWN
 
 MOST_KEY = 512
 BELOW = "/:"
-"""What a child's key has between its parent's key and the name of its step."""
+"""The separator in a child's key, between the parent's key and the name of the step."""
 TIME = "must be seconds or a timedelta"
 
 
 def shown(value: object) -> str:
-    """A value for a message, not too long."""
+    """Return a value for a message, shortened to `MOST_SHOWN` characters."""
     text = repr(value)
     if len(text) <= MOST_SHOWN:
         return text
@@ -32,44 +31,81 @@ def shown(value: object) -> str:
     return f"{text[:MOST_SHOWN]}..."
 
 
-def count(word: str, value: Any) -> int:
-    """How many of something."""
+def count(name: str, value: Any) -> int:
+    """Return the argument `name` as an integer of at least 1.
+
+    Raises:
+        ValueError: It is not such an integer.
+    """
     if not validation.is_count(value) or value < 1:
-        raise ValueError(f"{word}={shown(value)}: must be an integer >= 1")
+        raise ValueError(f"{name}={shown(value)}: must be an integer >= 1")
     return int(value)
 
 
-def time(word: str, value: Any, *, none: bool = True) -> float:
-    """A time in seconds; `none`: which may be 0."""
-    told = value.total_seconds() if isinstance(value, datetime.timedelta) else value
-    if not isinstance(told, (int, float)) or isinstance(told, bool):
-        raise TypeError(f"{word}={shown(value)}: {TIME}, for example {word}=30")
-    if not 0 <= told < float("inf") or not (told or none):
-        raise ValueError(f"{word}={shown(value)}: {TIME}, {'>= 0' if none else '> 0'}")
-    return float(told)
+def time(name: str, value: Any, *, none: bool = True) -> float:
+    """Return the argument `name` in seconds.
+
+    Args:
+        name: The argument's name.
+        value: Seconds, or a timedelta.
+        none: Whether 0 is allowed.
+
+    Raises:
+        TypeError: It is not a duration.
+        ValueError: It is negative or infinite, or 0 although that is not allowed.
+    """
+    seconds = value.total_seconds() if isinstance(value, datetime.timedelta) else value
+    if not isinstance(seconds, (int, float)) or isinstance(seconds, bool):
+        raise TypeError(f"{name}={shown(value)}: {TIME}, for example {name}=30")
+    if not 0 <= seconds < float("inf") or not (seconds or none):
+        raise ValueError(f"{name}={shown(value)}: {TIME}, {'>= 0' if none else '> 0'}")
+    return float(seconds)
 
 
-def calls(word: str, value: Any, what: str) -> None:
-    """A plain function."""
+def calls(name: str, value: Any, purpose: str) -> None:
+    """Check that the argument `name` is a plain function.
+
+    Args:
+        name: The argument's name.
+        value: Its value.
+        purpose: What the function takes or returns, for the message.
+
+    Raises:
+        TypeError: It is not a plain function.
+    """
     if not callable(value):
-        raise TypeError(f"{word}={shown(value)}: must be a function {what}")
+        raise TypeError(f"{name}={shown(value)}: must be a function {purpose}")
     if inspect.iscoroutinefunction(value):
         raise TypeError(
-            f"{word}={shown(value)}: must be a plain function {what}, because an async "
+            f"{name}={shown(value)}: must be a plain function {purpose}, because an async "
             "one would never be awaited"
         )
 
 
-def text(word: str, value: Any, what: str) -> None:
-    """A text that says something."""
+def text(name: str, value: Any, purpose: str) -> None:
+    """Check that the argument `name` is a text that is not empty.
+
+    Args:
+        name: The argument's name.
+        value: Its value.
+        purpose: What the text is to describe, for the message.
+
+    Raises:
+        TypeError: It is not a text.
+        ValueError: It is empty.
+    """
     if not isinstance(value, str):
-        raise TypeError(f"{word}={shown(value)}: must be a text that says {what}")
+        raise TypeError(f"{name}={shown(value)}: must be a text that says {purpose}")
     if not value.strip():
-        raise ValueError(f"{word}={shown(value)}: must not be empty. Say {what}")
+        raise ValueError(f"{name}={shown(value)}: must not be empty. Say {purpose}")
 
 
 def node(value: Any) -> None:
-    """A node's name."""
+    """Check the argument `node`, the name of a node.
+
+    Raises:
+        TypeError: It is not a text.
+    """
     if value is not None and not isinstance(value, str):
         raise TypeError(
             f"node={shown(value)}: must be a text, the name of this node, for example "
@@ -78,32 +114,46 @@ def node(value: Any) -> None:
 
 
 def path(value: Any) -> str:
-    """A store's name: a file's path, or a URL."""
+    """Return a store's name: the path of a file, or a URL.
+
+    Raises:
+        InvalidStore: It is neither a text nor a path.
+    """
     try:
-        told = os.fspath(value)
+        name = os.fspath(value)
     except TypeError:
-        told = None
-    if not isinstance(told, str):
+        name = None
+    if not isinstance(name, str):
         raise InvalidStore(
-            f"{shown(value)}: must be the path of a file, as a text or a pathlib.Path. In "
-            "memory, for a test: sagas.testing.run"
+            f"{shown(value)}: must be the path of a file, as a text or a pathlib.Path. For a "
+            "test in memory, call sagas.testing.run"
         )
-    return told
+    return name
 
 
 def record(value: Any) -> str | None:
-    """The file of a record."""
+    """Return the argument `record`, the path of a file, as a text.
+
+    Raises:
+        TypeError: It is not a path.
+        ValueError: It is empty.
+    """
     if value is None:
         return None
     if not isinstance(value, (str, os.PathLike)) or not isinstance(os.fspath(value), str):
         raise TypeError(f"record={shown(value)}: must be the path of a file")
     if not os.fspath(value):
-        raise ValueError(f"record={shown(value)}: must not be empty. Give the path of a file")
+        raise ValueError(f"record={shown(value)}: must not be empty. Pass the path of a file")
     return os.fspath(value)
 
 
 def keeping(retention: Any, archive_dir: Any) -> None:
-    """How long what is over is kept, and where it goes then."""
+    """Check the arguments `retention` and `archive_dir`.
+
+    Raises:
+        TypeError: One of them has a wrong type.
+        ValueError: The folder cannot be used, or `retention` is missing.
+    """
     if retention is not None and not (
         isinstance(retention, datetime.timedelta) and retention >= datetime.timedelta(0)
     ):
@@ -125,17 +175,25 @@ def keeping(retention: Any, archive_dir: Any) -> None:
     folder = pathlib.Path(os.path.abspath(archive_dir))
     if folder.exists() and not folder.is_dir():
         raise ValueError(
-            f"archive_dir={shown(archive_dir)}: this is not a folder. Give another path"
+            f"archive_dir={shown(archive_dir)}: this is not a folder. Choose another path"
         )
     if not folder.parent.is_dir():
         raise ValueError(
             f"archive_dir={shown(archive_dir)}: folder {folder.parent} does not exist. "
-            "Create it, or give another path"
+            "Create it, or choose another path"
         )
 
 
 def key(value: Any, or_child: bool = False) -> None:
-    """A saga's key; `or_child`: also one that a parent gives. Raises `InvalidKey`."""
+    """Check the key of a saga.
+
+    Args:
+        value: The key.
+        or_child: Whether the key of a child saga is allowed.
+
+    Raises:
+        InvalidKey: The key is not valid.
+    """
     if not isinstance(value, str) or not 0 < len(value) <= MOST_KEY or not value.isprintable():
         raise InvalidKey(
             f"key={shown(value)}: must be a text of 1 to {MOST_KEY} printable characters"
@@ -148,5 +206,5 @@ def key(value: Any, or_child: bool = False) -> None:
 
 
 def root_of(key: str) -> str:
-    """Return the key of the saga that was started by a caller, for a descendant or for itself."""
+    """Return the key of the root saga: of the ancestor that no other saga started."""
     return key.partition(BELOW)[0]

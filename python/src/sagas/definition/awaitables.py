@@ -1,4 +1,4 @@
-"""Results of functions that are to be awaited."""
+"""Awaitable results of functions."""
 
 from __future__ import annotations
 
@@ -9,18 +9,20 @@ from typing import Any
 is_async = functools.lru_cache(maxsize=4096)(inspect.iscoroutinefunction)
 
 
-async def whole(value: Any) -> Any:
-    """Return what a function's result comes to: whatever can be awaited (a coroutine, a task, a
-    future) is awaited, as if the function had done it.
+async def awaited(value: Any) -> Any:
+    """Return a function's result after awaiting it, as often as it is awaitable.
+
+    A plain function may return a coroutine, a task or a future, for example.
     """
     while inspect.isawaitable(value):
         value = await value
     return value
 
 
-def whole_now(value: Any) -> Any:
-    """Return the result of a plain function in a transaction, which is over before anything could
-    be awaited.
+def plain_result(value: Any) -> Any:
+    """Return the result of a plain function that runs in a transaction.
+
+    The transaction ends when the function returns, so its result cannot be awaited.
 
     Raises:
         TypeError: The result is awaitable.

@@ -1,4 +1,4 @@
-"""Large values outside the database: what a store of them does, and how a row refers to one."""
+"""Large values outside the database: the blob store, and references to its values."""
 
 from __future__ import annotations
 
@@ -11,21 +11,21 @@ from sagas.base.errors import StoreUnavailable
 from sagas.definition.arguments import shown
 
 HEAD = '{"$blob":"'
-"""A value that begins so is never stored as it is, whatever its size."""
+"""The beginning of a reference. A value that begins with it is stored escaped."""
 REFERENCE = re.compile(
     r'\{"\$blob":"([0-9a-f/]{1,200})","bytes":(\d{1,15}),"digest":"([0-9a-f]{64})"\}\Z'
 )
 LEAST = 256
-"""Bytes: a smaller threshold would let references take more room than their values."""
+"""The least threshold in bytes. References would be larger than values below it."""
 
 
 class BlobStore(Protocol):
     """Keep large inputs and results outside the database.
 
-    Made by you; or take `FolderBlobStore` or `PostgresBlobStore`. Each function is either plain,
-    and is called in threads, several at once; or it is a coroutine function, and is awaited in the
+    Made by you, as a class with these functions; or use `FolderBlobStore` or `PostgresBlobStore`.
+    Plain functions are called in several threads at once. Coroutine functions are awaited in the
     event loop of the store. A key has up to 200 of the characters `0-9`, `a-f` and `/`, and no key
-    is put with two different values. All nodes and clients of a store have to reach the same blobs.
+    is put with two different values. All nodes and clients of a store must reach the same blobs.
     """
 
     def put(self, key: str, data: bytes, /) -> Awaitable[None] | None:
@@ -43,7 +43,7 @@ class BlobStore(Protocol):
             key: Its name.
 
         Raises:
-            KeyError: There is none of this name. Raise anything else if that is not known.
+            KeyError: No value has this name. Raise another exception if that is unknown.
         """
 
     def delete(self, key: str, /) -> Awaitable[None] | None:
@@ -54,7 +54,7 @@ class BlobStore(Protocol):
         """
 
     def keys(self, prefix: str, before: float, /) -> Awaitable[Iterable[str]] | Iterable[str]:
-        """Return the keys that begin so and were put before a time.
+        """Return the keys that begin with `prefix` and were put before a time.
 
         Args:
             prefix: The beginning of the keys.
@@ -63,11 +63,11 @@ class BlobStore(Protocol):
 
 
 class BlobUnavailable(StoreUnavailable):
-    """A blob store does not answer, as far as one value is concerned."""
+    """The blob store cannot read or write one value."""
 
 
 class Reference(NamedTuple):
-    """What a row has in place of a large value."""
+    """The reference to a blob that a row has in place of a large value."""
 
     key: str
     size: int
@@ -75,25 +75,28 @@ class Reference(NamedTuple):
 
     @classmethod
     def to(cls, key: str, text: str, size: int) -> Reference:
-        """Refer to a value, which is there under this key."""
+        """Return a reference to a value that the blob store has under this key."""
         return cls(key, size, _digest(key, text))
 
     @classmethod
     def of(cls, text: str) -> Reference | None:
-        """Return the reference that a row has; None where it has a value."""
-        found = REFERENCE.match(text) if text.startswith(HEAD) else None
-        return None if found is None else cls(found[1], int(found[2]), found[3])
+        """Return the reference in a stored text, or None if the text is a value."""
+        match = REFERENCE.match(text) if text.startswith(HEAD) else None
+        return None if match is None else cls(match[1], int(match[2]), match[3])
 
     def __str__(self) -> str:
         return f'{HEAD}{self.key}","bytes":{self.size},"digest":"{self.digest}"}}'
 
     def is_of(self, text: str) -> bool:
-        """Whether it refers to this value, as JSON before a codec encodes it."""
+        """Return whether it refers to this value, as JSON before a codec encodes it."""
         return self.digest == _digest(self.key, text)
 
 
 def _digest(key: str, text: str) -> str:
-    """The key is random, so that equal values have different digests."""
+    """Return the digest of a value with its key.
+
+    Keys are random, so equal values have different digests.
+    """
     return hashlib.sha256(f"{key} {text}".encode("utf-8", "surrogatepass")).hexdigest()
 
 
@@ -101,7 +104,7 @@ def check(blobs: Any, threshold: Any) -> None:
     """Check the arguments `blobs` and `blob_threshold`.
 
     Raises:
-        TypeError: It is no blob store, or the threshold is not a number.
+        TypeError: It is not a blob store, or the threshold is not a number.
         ValueError: The threshold is too small.
     """
     if isinstance(threshold, bool) or not isinstance(threshold, int):

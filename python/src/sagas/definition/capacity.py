@@ -1,22 +1,25 @@
-"""How many sagas and definitions a shard takes.
+"""Numbers of sagas and definitions that a shard can hold.
 
-Each has room for any definition. The program opens no saga if its log lacks the room for all that
-this one, and those that have not ended, may still write (`log-full`,
-docs/reference/formats/drive-log.md). Then another shard takes it.
+An event log has a maximum size. The engine refuses a new saga if the log might not have the room
+for all events of its open sagas (`log-full`, docs/reference/formats/drive-log.md). Then another
+shard takes the saga.
 """
 
 from __future__ import annotations
 
 SHARD_CAPACITY = 1000
-"""How many sagas a log has at most. A saga's id is its log's number times this, and its number
-in that log."""
+"""Maximum number of sagas of a shard.
+
+A saga's id is the number of its shard times this, plus its number in the shard.
+"""
 MOST_DEFINITIONS = 64
-"""How many definitions a log has at most, if it gets none later."""
+"""Maximum number of definitions of a shard that gets all of them when it is created."""
 MOST_ADDED = 256
-"""How many definitions a log has at most, if it gets them while it is executed, for sagas whose
-steps come from their input. With fewer, more shards share what is under way, and their batches are
-smaller. With more, an engine takes longer for the definitions of a question, because it reads its
-events again.
+"""Maximum number of definitions of a shard that gets them with its sagas.
+
+The steps of these sagas come from their input. With fewer definitions the open sagas are spread
+over more shards, with smaller batches. With more an engine takes longer to answer a question about
+the definitions, because it reads its events again.
 """
 HEADER = '{"format":2}\n'
-"""The first line of each log."""
+"""The first line of each event log."""

@@ -1,4 +1,4 @@
-"""Child sagas: steps that start another saga, and wait for its end."""
+"""Child sagas: steps that start another saga and wait for its end."""
 
 from __future__ import annotations
 
@@ -18,10 +18,10 @@ if TYPE_CHECKING:
     from sagas.definition.saga import Saga
 
 UNDO = ":undo"
-"""What the key of a saga ends with that undoes a child."""
+"""The ending of the key of a saga that undoes a child."""
 MOST_NAME = 32
 NUMBERS = 4
-"""Characters of a key that are left for the number of a further child."""
+"""Characters of a key that are reserved for the number of a repeated child."""
 
 
 class ChildResult(TypedDict):
@@ -39,14 +39,14 @@ class ChildResult(TypedDict):
 
 
 class ChildSteps:
-    """What `Saga` has for child sagas.
+    """The part of `Saga` that declares child sagas.
 
     Attributes:
         name: Its name.
         steps: Its steps.
-        undoes: The definition whose completed sagas it undoes, or None.
-        undoes_step: The only step that it undoes, of a saga that did not use a report of it.
-        undo_text: Its definition as a text, if it undoes others.
+        undoes: The saga whose completed runs it undoes, or None.
+        undoes_step: The step whose unused report it undoes, or None.
+        undo_text: Its definition as a text if it undoes another saga.
         has_children: Whether a step starts another saga.
         is_shaped: Whether its steps come from its input.
     """
@@ -180,7 +180,7 @@ class ChildSteps:
         return Decorator(of, f"{of.name}.child", name, declare)
 
     def total_cost(self, word: str) -> Cost:
-        """Return what it costs to undo a completed saga, or to keep it.
+        """Return the cost of undoing all steps of a completed saga, or of keeping them.
 
         Args:
             word: `undo` or `keep`.
@@ -216,13 +216,13 @@ class ChildSteps:
 
 
 def _check(step: Step[Any], child: Saga) -> None:
-    """Raise `DefinitionError` where a step cannot start this child."""
+    """Raise `DefinitionError` if a step cannot start this child."""
     function = step.run.function
     if inspect.iscoroutinefunction(function):
         raise validation.of_step(
             step,
-            "its function is async, but what returns a child's input must be a plain function. "
-            "Gather it in a step that this one needs",
+            "its function is async, but the function of a child's input must be a plain function. "
+            "Compute the input in a step that this one needs",
         )
     if step.run.on_exhausted == "retry":
         rule = "must be fail or ask, because a child is not repeated without end"
@@ -234,25 +234,26 @@ def _check(step: Step[Any], child: Saga) -> None:
 
 
 def children_of(saga: Saga) -> Iterator[tuple[Step[Any], Saga]]:
-    """The steps of a saga that start children, each with the child's definition."""
+    """Return the steps of a saga that start children, with the child of each."""
     return ((step, step.child) for step in saga.all_steps if step.child is not None)
 
 
 def descendants(saga: Saga) -> list[Saga]:
-    """The definitions of a saga's children, and of theirs."""
-    found: dict[Saga, None] = {}
+    """Return the definitions of a saga's children, and of their children."""
+    seen: dict[Saga, None] = {}
     left = [child for _, child in children_of(saga)]
     while left:
         child = left.pop()
-        if child not in found:
-            found[child] = None
-            left += [one for _, one in children_of(child)]
-    return [*found]
+        if child not in seen:
+            seen[child] = None
+            left += [grandchild for _, grandchild in children_of(child)]
+    return [*seen]
 
 
 def hints(step: Step[Any] | None) -> tuple[Decoder | None, Decoder | None]:
-    """How a step's input is read, and its result: what the function of a child step returns is
-    the child's input.
+    """Return the decoders of a step's input and of its result.
+
+    A step that starts a child has no decoder of a result: its function returns the child's input.
     """
     if step is None or step.run.function is None:
         return None, None
@@ -269,43 +270,48 @@ def key_of(parent: str, step: str, number: int = 1, undo: bool = False) -> str:
     Args:
         parent: The key of the saga that starts it.
         step: The step's name.
-        number: Greater than 1 for one that an operator had started behind others.
-        undo: Whether the saga is meant that undoes it.
+        number: The child's number: 1, or more if an operator retried the step.
+        undo: Whether to return the key of the saga that undoes the child.
     """
-    counted = "" if number == 1 else f"/{number}"
-    return f"{parent}{BELOW}{step}{UNDO if undo else ''}{counted}"
+    suffix = "" if number == 1 else f"/{number}"
+    return f"{parent}{BELOW}{step}{UNDO if undo else ''}{suffix}"
 
 
 def is_of_step(key: str, parent: str, step: str) -> bool:
-    """Return whether a key is that of a child of this step, and not of what undoes one."""
+    """Return whether a key is that of a child of this step.
+
+    The keys of sagas that undo such a child do not count.
+    """
     first = key_of(parent, step)
     number = key.removeprefix(f"{first}/")
     return key == first or (number != key and number.isdecimal() and number.isascii())
 
 
 def parent_of(key: str) -> str:
-    """Return the key of the saga that started a child, by the child's."""
+    """Return the key of the saga that started the child with this key."""
     return key.rpartition(BELOW)[0]
 
 
 def undoes_child(key: str) -> bool:
-    """Return whether a key is that of a saga that undoes a child, or of one that such a saga
-    started: it undoes a child of the child.
+    """Return whether a key is that of a saga that undoes a child.
+
+    Such a saga starts further ones for the children of the child. They count, too.
     """
     return UNDO in key.partition(BELOW)[2]
 
 
 def check_abortable(key: str) -> None:
-    """Raise `NotAbortable` where the key is that of a saga that undoes a child."""
+    """Raise `NotAbortable` if the key is that of a saga that undoes a child."""
     if undoes_child(key):
         raise NotAbortable(
-            f"saga {key!r} undoes a child, so it is not aborted: the rest of the child would stay. "
-            "Nothing was changed. If a step of it waits for a person, retry, complete or fail it"
+            f"saga {key!r} undoes a child, so it is not aborted: effects of the child would "
+            "remain. Nothing was changed. If one of its steps waits for a person, retry, complete "
+            "or fail the step"
         )
 
 
 def room_of(saga: Saga) -> int:
-    """How many characters the keys of a saga's descendants have more than its own."""
+    """Return how many characters the keys of a saga's descendants add to its own key."""
     return max(
         (
             (MOST_NAME if saga.is_shaped else len(step.name))
@@ -320,7 +326,7 @@ def room_of(saga: Saga) -> int:
 
 
 def check_key(key: str, saga: Saga) -> None:
-    """Raise `InvalidKey` where a key is too long for the keys of the saga's children."""
+    """Raise `InvalidKey` if a key is too long for the keys of the saga's children."""
     room = room_of(saga)
     if len(key) + room > arguments.MOST_KEY:
         raise InvalidKey(

@@ -1,4 +1,4 @@
-"""`collect`: going on with the items that succeeded, where others failed."""
+"""`collect`: a need for the items of a fan-out, some of which may fail."""
 
 from __future__ import annotations
 
@@ -20,11 +20,11 @@ R = TypeVar("R")
 
 @dataclasses.dataclass(frozen=True, slots=True)
 class Collected(Generic[R]):
-    """Hold what the items of a fan-out came to. Made by `Task.result_of`.
+    """Hold the outcomes of the items of a fan-out. Made by `Task.result_of`.
 
     Attributes:
         results: The results of the items that succeeded, by their numbers, or by their keys.
-        errors: What the others raised, by the same.
+        errors: The errors of the other items, by their numbers, or by their keys.
     """
 
     results: dict[int | str, R]
@@ -50,18 +50,18 @@ class Collection(Selection[Collected[R]]):
 def collect(step: FanOut[Any, R]) -> Collection[R]:
     """Need the items of a fan-out whether they succeed or fail.
 
-    Write `needs=[sagas.collect(ship)]`. The failure of an item is then a result, so that the saga
-    goes on, and its compensation is not called. `task.result_of(sagas.collect(ship))` is a
-    `Collected`. Of an item that failed, `task.result_of(ship.each)` raises `StepFailed`.
+    Write `needs=[sagas.collect(ship)]`. The failure of an item is then a result: the saga
+    continues, and the compensation of the item is not called. `task.result_of(sagas.collect(ship))`
+    is a `Collected`. For an item that failed, `task.result_of(ship.each)` raises `StepFailed`.
 
     Args:
         step: A step with `for_each=`.
 
     Returns:
-        What to write into `needs=`, and to ask for by `Task.result_of`.
+        A need for `needs=`, and the argument of `Task.result_of`.
 
     Raises:
-        DefinitionError: The step is none with `for_each=`.
+        DefinitionError: The step has no `for_each=`.
 
     Example:
         >>> batch = sagas.Saga("batch")
@@ -70,8 +70,8 @@ def collect(step: FanOut[Any, R]) -> Collection[R]:
         ...     return 1 / task.item
         >>> @batch.step(needs=[sagas.collect(invert)])
         ... def report(task):
-        ...     found = task.result_of(sagas.collect(invert))
-        ...     return [found.results, found.errors]
+        ...     collected = task.result_of(sagas.collect(invert))
+        ...     return [collected.results, collected.errors]
         >>> sagas.testing.run(batch, {"numbers": [2, 0]}).result_of(report)
         [{'0': 0.5}, {'1': 'ZeroDivisionError: division by zero'}]
     """
@@ -86,23 +86,23 @@ def collect(step: FanOut[Any, R]) -> Collection[R]:
 
 
 def mark(needs: Iterable[object]) -> None:
-    """The failures of these items are results, from now on."""
+    """Mark the steps that `collect` needs: failures of their items are results."""
     for need in needs:
         if isinstance(need, Collection):
             need.step.is_collected = True
 
 
-def of_names(names: Any, one: Callable[[str], Any]) -> Collected[Any]:
-    """Return what the steps with these names came to.
+def of_names(names: Any, result_of: Callable[[str], Any]) -> Collected[Any]:
+    """Return the outcomes of the steps with these names.
 
     Args:
         names: The names, in a list, or in a dict by the keys of the items.
-        one: Returns the result of a step; raises `StepFailed`.
+        result_of: Returns the result of a step, or raises `StepFailed`.
     """
-    found: Collected[Any] = Collected({}, {})
+    collected: Collected[Any] = Collected({}, {})
     for key, name in names.items() if isinstance(names, dict) else enumerate(names):
         try:
-            found.results[key] = one(name)
+            collected.results[key] = result_of(name)
         except StepFailed as error:
-            found.errors[key] = error.detail
-    return found
+            collected.errors[key] = error.detail
+    return collected

@@ -1,4 +1,4 @@
-"""Compensations that another saga calls as its steps: their tasks."""
+"""Tasks of compensations that another saga calls as its steps."""
 
 from __future__ import annotations
 
@@ -10,7 +10,7 @@ from typing import TYPE_CHECKING, Any
 from sagas.definition import children, decoders
 from sagas.definition.decoders import Decoder
 from sagas.definition.task import Task
-from sagas.definition.task_data import Told
+from sagas.definition.task_data import TaskSnapshot
 
 if TYPE_CHECKING:
     from sagas.definition.step import Step
@@ -23,8 +23,9 @@ def of(
     hint: Decoder | None = None,
     known: Mapping[str, Decoder] | None = None,
 ) -> Task[Any]:
-    """Return the task of a compensation: with the key, the input, the results and the idempotency
-    keys of the child.
+    """Return the task of a compensation that a saga calls to undo a child.
+
+    It has the key, the input, the results and the idempotency keys of the child.
 
     Args:
         task: The task of the step that calls it.
@@ -33,63 +34,63 @@ def of(
         hint: How the child's input is read (default: as JSON).
         known: How the results of the child's steps are read (default: as JSON).
     """
-    given, about = task.input, task._about
-    results = {name: json.dumps(value) for name, value in given["results"].items()}
-    found: Task[Any] = Task(
-        Told(
+    undo_input, data = task.input, task._data
+    results = {name: json.dumps(value) for name, value in undo_input["results"].items()}
+    compensation: Task[Any] = Task(
+        TaskSnapshot(
             saga=child,
-            key=given["key"],
+            key=undo_input["key"],
             name=task.step,
             undo=True,
             attempt=task.attempt,
-            saga_token=given["token"],
-            input=json.dumps(given["input"]),
-            given={name: text for name, text in results.items() if name in sees},
-            own=results.get(task.step, "null"),
+            saga_token=undo_input["token"],
+            input=json.dumps(undo_input["input"]),
+            needed_results={name: text for name, text in results.items() if name in sees},
+            own_result=results.get(task.step, "null"),
             hint=hint,
             decoders=known or {},
-            context=about.context,
-            control=about.control,
-            traceparent=about.traceparent,
+            context=data.context,
+            control=data.control,
+            traceparent=data.traceparent,
         )
     )
-    found.enter_by(lambda: task.connection)
-    return found
+    compensation.enter_by(lambda: task.connection)
+    return compensation
 
 
 def hints(
     function: Callable[[Any], Any], step: Step[Any]
 ) -> tuple[Decoder | None, dict[str, Decoder]]:
-    """Return how the compensation of a step reads its input, and the results of its saga's steps.
+    """Return the decoders of a compensation's input and of its saga's results.
 
-    Both are read as JSON if nothing is declared.
+    A value without a type hint has no decoder, and is read as JSON.
     """
-    hint, _ = decoders.hints(function)
-    known: dict[str, Decoder] = {}
-    for one in step.saga.steps:
-        _, result = children.hints(one)
-        if result is not None:
-            known[one.name] = result
-    return hint, known
+    input_decoder, _ = decoders.hints(function)
+    result_decoders: dict[str, Decoder] = {}
+    for sibling in step.saga.steps:
+        _, result_decoder = children.hints(sibling)
+        if result_decoder is not None:
+            result_decoders[sibling.name] = result_decoder
+    return input_decoder, result_decoders
 
 
 def calling(
-    function: Callable[[Any], Any], own: Callable[[Task[Any]], Task[Any]]
+    function: Callable[[Any], Any], task_of: Callable[[Task[Any]], Task[Any]]
 ) -> Callable[[Any], Any]:
     """Return a step's function that calls a compensation.
 
     Args:
         function: The compensation, plain or async.
-        own: Returns the task of the compensation, by that of the step.
+        task_of: Returns the task of the compensation, given that of the step.
     """
     if inspect.iscoroutinefunction(function):
 
         async def undo_later(task: Any) -> Any:
-            return await function(own(task))
+            return await function(task_of(task))
 
         return undo_later
 
     def undo(task: Any) -> Any:
-        return function(own(task))
+        return function(task_of(task))
 
     return undo

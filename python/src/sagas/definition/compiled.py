@@ -1,4 +1,4 @@
-"""A stored definition with this program's functions."""
+"""`CompiledDefinition`: a stored definition with the functions of this program."""
 
 from __future__ import annotations
 
@@ -22,70 +22,86 @@ from sagas.definition import (
     undo_text,
 )
 from sagas.definition.context import Context
-from sagas.definition.declaration import Declared
+from sagas.definition.declaration import Declaration
 from sagas.definition.decoders import Decoder
 from sagas.definition.layout import Layout
 from sagas.definition.payloads import PLAIN as PLAIN_PAYLOADS
 from sagas.definition.payloads import Payloads
-from sagas.definition.place import Place
+from sagas.definition.place import StepLocation
 from sagas.definition.saga import Saga
 from sagas.definition.shape_values import ShapeValues
 from sagas.definition.step import Function, Step
 
-Word = tuple[int, str]
+ActionKey = tuple[int, str]
 """A step's number, and `run` or `undo`."""
 VERSION = re.compile(r"# version (\d+)\n")
 NAME = re.compile(r'^name = "(.*)"$', re.M)
 
 
 def digest_of(text: str) -> str:
-    """The digest of one definition, by its text."""
+    """Return the digest of one definition, given its text."""
     return hashlib.sha256(text.encode()).hexdigest()[:16]
 
 
 def version_of(text: str) -> int:
-    found = VERSION.match(text)
-    return int(found[1]) if found else 1
+    """Return the version of the saga that a definition declares."""
+    match = VERSION.match(text)
+    return int(match[1]) if match else 1
 
 
 def name_of(text: str) -> str:
-    """The name of the saga that a definition is of."""
-    found = NAME.search(text)
-    assert found
-    return found[1]
+    """Return the name of the saga that a definition declares."""
+    match = NAME.search(text)
+    assert match
+    return match[1]
 
 
-def _simple(step: Step[Any] | None, word: str, is_fair: bool) -> Function | None:
-    """The function of a step that begins at once and is awaited here, and has no limit; of
-    others None. `is_fair`: its saga has tenants, also where it includes the step's.
+def _simple(step: Step[Any] | None, kind: str, is_fair: bool) -> Function | None:
+    """Return the async function of a step that can start at once, or None.
+
+    Args:
+        step: The step, or None if the program does not have it.
+        kind: `run`, or `undo` for its compensation.
+        is_fair: Whether the root saga shares its slots among tenants.
+
+    Returns:
+        None if the step has a limit, waits, or is done elsewhere.
     """
     if step is None or is_fair or step.is_collected:
         return None
     if step.saga.undoes is not None or step.child is not None:
         return None
-    if word == "run" and (step.kind != "step" or step.concurrency is not None or step.bounds):
+    if kind == "run" and (step.kind != "step" or step.concurrency is not None or step.bounds):
         return None
-    return step.manner(word).function if step.manner(word).is_simple else None
+    return step.manner(kind).function if step.manner(kind).is_simple else None
 
 
-def _fault(text: str, hint: Decoder) -> mismatches.Misfit | None:
-    """Why a stored value cannot be read, where it cannot."""
+def _fault(text: str, decoder: Decoder) -> mismatches.Mismatch | None:
+    """Return why a decoder cannot read a stored value, or None if it can."""
     try:
-        hint(serialization.read(text))
+        decoder(serialization.read(text))
     except NameError as error:
-        return mismatches.Misfit(f": {error}")
+        return mismatches.Mismatch(f": {error}")
     except Exception as error:  # of the type's own code
         return mismatches.of(error)
     return None
 
 
-class Action:
-    """What a step does, or its compensation: what is the same for all sagas of a definition.
-    `word`: the step's number, and `run` or `undo`.
+class CompiledAction:
+    """A step's action or its compensation, the same for all sagas of a definition.
 
-    `simple`: the function, where it begins at once and is awaited here, and has no limit;
-    `inside`: in a transaction of the database. `given`: the steps whose results its function may
-    see; `hint`: how its input is read; `context`: what its function shares with others.
+    Attributes:
+        name: The step's name.
+        word: The step's number, and `run` or `undo`.
+        kind: `run` or `undo`.
+        undo: Whether it is a compensation.
+        simple: The function if it can start at once and is awaited in the event loop, else None.
+        inside: Whether the function runs in a transaction of the store's database.
+        needed_results: The steps whose results the function may read, by number and name.
+        hint: The decoder of the input, or None.
+        is_remote: Whether workers of a queue call the function.
+        is_external: Whether workers, a person or another program report the outcome.
+        context: The context that the functions of the store share.
     """
 
     __slots__ = (
@@ -95,7 +111,7 @@ class Action:
         "undo",
         "simple",
         "inside",
-        "given",
+        "needed_results",
         "hint",
         "is_remote",
         "is_external",
@@ -105,15 +121,15 @@ class Action:
     def __init__(
         self,
         name: str,
-        word: Word,
+        word: ActionKey,
         step: Step[Any] | None,
-        given: list[tuple[int, str]],
+        needed_results: list[tuple[int, str]],
         hint: Decoder | None,
         context: Context,
         is_fair: bool,
     ) -> None:
-        self.name, self.word, self.given, self.hint = name, word, given, hint
-        self.context = context
+        self.name, self.word, self.hint, self.context = name, word, hint, context
+        self.needed_results = needed_results
         self.kind = word[1]
         self.undo = self.kind == "undo"
         self.simple = _simple(step, self.kind, is_fair)
@@ -123,13 +139,24 @@ class Action:
 
 
 Hooks = Mapping[str, tuple[str, ...]]
-"""The webhooks that are told, by the type of what is told."""
+"""The names of the webhooks that receive events, by the type of event."""
 
 
-class Kind:
-    """A definition on a log's shelf. `steps` has None where the program has no such step any
-    more. `context`: what their functions share; `payloads`: how their values are stored; `hooks`:
-    who is told of its sagas; `undoes`: the name of the child that its sagas undo, or None.
+class CompiledDefinition:
+    """A stored definition with the steps and functions that this program has for it.
+
+    Attributes:
+        text: The definition as it is stored.
+        name: The saga's name.
+        names: The names of the steps.
+        steps: The declared steps, with None for a step that the program does not have.
+        layout: The origins of the steps if they come from the input, else None.
+        payloads: How inputs and results are stored.
+        hooks: The webhooks that receive events of its sagas.
+        declared: The declaration of the saga in this program.
+        undoes: The name of the child that its sagas undo, or None.
+        below: The numbers of the steps that each step needs, directly or not.
+        reads: Whether stored values are decoded before a function gets them.
     """
 
     def __init__(
@@ -138,11 +165,11 @@ class Kind:
         saga: Saga | None,
         context: Context | None = None,
         payloads: Payloads = PLAIN_PAYLOADS,
-        declared: Declared | None = None,
+        declared: Declaration | None = None,
     ) -> None:
         self.payloads = payloads
         self.hooks: Hooks = {}
-        self.declared = declared or Declared(saga)
+        self.declared = declared or Declaration(saga)
         is_shaped = shape_text.is_shaped(text)
         listed = shape_text.steps(text) if is_shaped else tomllib.loads(text)["step"]
         self.layout: Layout | None = shape_text.layout(text, listed) if is_shaped else None
@@ -157,13 +184,13 @@ class Kind:
             kind: [int(step.get(word, 1)) for step in listed]
             for kind, word in (("run", "tries"), ("undo", "undo_tries"))
         }
-        place = {name: number for number, name in enumerate(self.names)}
+        number_of = {name: number for number, name in enumerate(self.names)}
         self.below = self._below(
-            [[place[need] for need in step.get("needs", ())] for step in listed]
+            [[number_of[need] for need in step.get("needs", ())] for step in listed]
         )
-        told_hints = [self.declared.hints(step) for step in self.steps]
-        self.inputs = [hint for hint, _, _ in told_hints]
-        undo_inputs = [hint for _, _, hint in told_hints]
+        step_decoders = [self.declared.hints(step) for step in self.steps]
+        self.inputs = [decoder for decoder, _, _ in step_decoders]
+        undo_inputs = [decoder for _, _, decoder in step_decoders]
         self.all_done = json.dumps(
             {
                 "aborted": False,
@@ -185,43 +212,48 @@ class Kind:
             ]
         )
         self.has_bounds = any(step and step.bounds for step in self.steps)
-        self.has_external = any(one.is_external for of in self.actions.values() for one in of)
+        self.has_external = any(
+            action.is_external for actions in self.actions.values() for action in actions
+        )
         self.decoders = {
-            name: decoder for name, (_, decoder, _) in zip(self.names, told_hints) if decoder
+            name: decoder for name, (_, decoder, _) in zip(self.names, step_decoders) if decoder
         }
-        # stored values are made into others
         self.reads = bool(payloads.reads or self.decoders or any(self.inputs) or any(undo_inputs))
 
-    def with_costs(self, text: str) -> Kind:
-        """Return the definition of a text that differs from this one's in its costs alone."""
-        kind = Kind.__new__(Kind)
-        kind.__dict__ |= self.__dict__  # nothing else in it comes from costs
-        kind.text = text
-        return kind
+    def with_costs(self, text: str) -> CompiledDefinition:
+        """Return the definition of a text that differs from this one's only in its costs."""
+        copy = CompiledDefinition.__new__(CompiledDefinition)
+        copy.__dict__ |= self.__dict__  # only the text depends on costs
+        copy.text = text
+        return copy
 
     def _declared_steps(self, saga: Saga | None) -> list[Step[Any] | None]:
-        """The steps as the program has them."""
+        """Return the steps as this program declares them."""
         if self.layout is not None:
-            return [self.declared.step(spot) for spot in self.layout.spots.values()]
+            return [self.declared.step(origin) for origin in self.layout.origins.values()]
         plain = shape_validation.plain_steps(saga) if saga else {}
         return [plain.get(name) for name in self.names]
 
-    def place(self, step: str, values: ShapeValues, input: str) -> Place | None:
-        """Where a step of a saga is, by the step's name, what is kept of the saga's shape, and its
-        input; None where its steps do not come from the input.
+    def location(self, step: str, values: ShapeValues, input: str) -> StepLocation | None:
+        """Return the location of a step; None if the steps do not come from the input.
+
+        Args:
+            step: The step's name.
+            values: The stored values of the saga's shape.
+            input: The saga's input as JSON.
         """
         if self.layout is None:
             return None
-        return Place(self.layout.spots[step], self.layout, values, self.declared, input)
+        return StepLocation(self.layout.origins[step], self.layout, values, self.declared, input)
 
     def declared_name(self, step: int) -> str:
-        """The name with which a step was declared, by its number: `hotel/room`."""
+        """Return the declared name of the step with this number, for example `hotel/room`."""
         name = self.names[step]
-        return name if self.layout is None else self.layout.spots[name].declared
+        return name if self.layout is None else self.layout.origins[name].declared
 
     @property
     def saga(self) -> Saga | None:
-        """The saga that the program has of its name and version."""
+        """The saga with this name and version that this program declares, or None."""
         return self.declared.root
 
     @property
@@ -231,24 +263,26 @@ class Kind:
 
     @property
     def count(self) -> int:
-        """How many steps it has."""
+        """The number of steps."""
         return len(self.names)
 
     @property
     def fair_by(self) -> Callable[[Any], Any] | None:
-        """What says whose a saga is, if slots are shared among tenants."""
+        """The function that names the tenant of a saga, or None."""
         return self.saga.fair_by if self.saga else None
 
-    def _actions(self, kind: str, hints: list[Decoder | None], context: Context) -> list[Action]:
-        """What each step does, or its compensation."""
-        given = [[(number, self.names[number]) for number in below] for below in self.below]
+    def _actions(
+        self, kind: str, hints: list[Decoder | None], context: Context
+    ) -> list[CompiledAction]:
+        """Return the actions of all steps, or their compensations."""
+        needed = [[(number, self.names[number]) for number in below] for below in self.below]
         is_fair = self.fair_by is not None
         return [
-            Action(
+            CompiledAction(
                 name,
                 (number, kind),
                 self.steps[number],
-                given[number],
+                needed[number],
                 hints[number],
                 context,
                 is_fair,
@@ -257,19 +291,18 @@ class Kind:
         ]
 
     def _below(self, needs: list[list[int]]) -> list[list[int]]:
-        """The steps that each step needs, directly or not."""
-        found: dict[int, set[int]] = {}
+        """Return the steps that each step needs, directly or not."""
+        below: dict[int, set[int]] = {}
         left = list(range(len(needs)))
         while left:
-            for step in [step for step in left if all(need in found for need in needs[step])]:
+            for step in [step for step in left if all(need in below for need in needs[step])]:
                 left.remove(step)
-                found[step] = set(needs[step]).union(*(found[need] for need in needs[step]))
-        return [sorted(found[step]) for step in range(len(needs))]
+                below[step] = set(needs[step]).union(*(below[need] for need in needs[step]))
+        return [sorted(below[step]) for step in range(len(needs))]
 
     def _firsts(self, numbers: list[int]) -> dict[int, type_checks.Check | None]:
-        """Of the steps that begin, one for each type as which they read the input, with what looks
-        at that."""
-        found: dict[int, type_checks.Check | None] = {}
+        """Return one first step for each type of the input, with the type's check."""
+        checks: dict[int, type_checks.Check | None] = {}
         hints: list[Any] = []
         for number in numbers:
             step = self.steps[number]
@@ -277,12 +310,14 @@ class Kind:
             hint = decoders.input_hint(step.run.function)
             if hint not in hints:
                 hints.append(hint)
-                found[number] = type_checks.check(hint)
-        return found
+                checks[number] = type_checks.check(hint)
+        return checks
 
-    def misfit(self, text: str) -> InvalidInput | None:
-        """Why the first steps cannot read an input, where they cannot. What is of a type already
-        is looked at, too: it may be another one, or be read otherwise than it is written."""
+    def input_error(self, text: str) -> InvalidInput | None:
+        """Return why the first steps cannot read an input, or None if they can.
+
+        A value that decodes is checked as well: it may have another type than the hint.
+        """
         for number, check in self.firsts.items():
             step, decoder = self.steps[number], self.inputs[number]
             assert decoder and step
@@ -291,9 +326,7 @@ class Kind:
                 if check:
                     check(value)
                 decoder(value)
-            except (
-                NameError
-            ):  # its hints name what is there for the checker alone: that is no fault of the input
+            except NameError:  # a hint names what only a type checker imports
                 continue
             except Exception as error:  # of the type's own code
                 return InvalidInput(
@@ -302,47 +335,60 @@ class Kind:
         return None
 
     def unread(self, text: str | None, results: dict[int, str]) -> str | None:
-        """What this program cannot read of a saga that is not over: its input, if that is given, or
-        the result of a step that stands. None where it can read all of it."""
+        """Return the first value of an open saga that this program cannot read.
+
+        Args:
+            text: The stored input, or None if it is not to be checked.
+            results: The stored results of committed steps, by number.
+
+        Returns:
+            The step and the error, or None if the program can read all values.
+        """
         try:
             text = None if text is None else self.payloads.decode(text)
-            results = {step: self.payloads.decode(told) for step, told in results.items()}
+            results = {step: self.payloads.decode(stored) for step, stored in results.items()}
         except CannotDecode as error:
             return str(error)
         for number, (run, undo) in enumerate(
-            zip(self.inputs, (one.hint for one in self.actions["undo"]))
+            zip(self.inputs, (action.hint for action in self.actions["undo"]))
         ):
-            for hint in (run, undo):
-                if hint and text is not None and (fault := _fault(text, hint)):
+            for decoder in (run, undo):
+                if decoder and text is not None and (fault := _fault(text, decoder)):
                     return f"step {self.names[number]!r}: input{fault}"
         for number, text in results.items():
-            hint = self.decoders.get(self.names[number])
+            decoder = self.decoders.get(self.names[number])
             if (
-                hint
+                decoder
                 and not serialization.is_plain(serialization.read(text))
-                and (fault := _fault(text, hint))
+                and (fault := _fault(text, decoder))
             ):
                 return f"step {self.names[number]!r}: result{fault}"
         return None
 
     def lacks(self) -> str | None:
-        """The first step without a function, or the first compensation that may be called and
-        has none.
+        """Return which function of the definition this program does not have.
+
+        Returns:
+            The first step without a function, or without a compensation that may be called; or
+            None.
         """
         if self.saga is None:
             return "this program did not open the store with that saga"
         for path, (name, version) in shape_text.included(self.text).items():
             inner = self.declared.included(path)
             if inner is None or (inner.name, inner.version) != (name, version):
-                has = f"version {inner.version}" if inner else "none"
+                has = f"version {inner.version} of {inner.name!r}" if inner else "no saga"
                 return (
-                    f"it includes saga {name!r} (version {version}) as {path!r}, and here is {has}"
+                    f"it includes saga {name!r} (version {version}) as {path!r}, and this program "
+                    f"includes {has} there"
                 )
-        what = "function" if self.undoes is None else "compensation"
+        function = "function" if self.undoes is None else "compensation"
         for listed, step in zip(listed_steps.of(self.text), self.steps):
             if step is None:
-                return f"step {listed.name!r} has no {what} in this program"
-            is_there = step.has_compensation and not (step.undo.implied and listed.is_compensated)
-            if listed.undo != "never" and not is_there:
+                return f"step {listed.name!r} has no {function} in this program"
+            has_compensation = step.has_compensation and not (
+                step.undo.implied and listed.is_compensated
+            )
+            if listed.undo != "never" and not has_compensation:
                 return f"step {listed.name!r} has no compensation in this program"
         return None

@@ -1,4 +1,4 @@
-"""`Context`: the value of `task.context`, an object or what a factory makes of one."""
+"""`Context`: the value of `task.context`, which the functions of a store share."""
 
 from __future__ import annotations
 
@@ -10,15 +10,15 @@ from typing import Any, Union
 from sagas.definition.arguments import shown
 
 Manager = Union[contextlib.AbstractAsyncContextManager[Any], contextlib.AbstractContextManager[Any]]
-NOT_GIVEN = "the store was opened without one: give it by sagas.open(.., context=..)"
-ELSEWHERE = "this task is a copy in another process, or is called by a worker, and has none"
+NOT_GIVEN = "the store was opened without a context. Open it with sagas.open(..., context=...)"
+ELSEWHERE = "a copy of a task in another process, or in a worker, has no context"
 
 
 class Context:
-    """What the functions of a store share: clients, pools and settings, say.
+    """Hold the value of `task.context`, which the functions of a store share.
 
     Attributes:
-        lacks: Why there is none; None while there is one.
+        lacks: Why the value is missing; None while there is one.
     """
 
     def __init__(self, lacks: str = NOT_GIVEN) -> None:
@@ -26,38 +26,38 @@ class Context:
         self._value: Any = None
 
     def __reduce__(self) -> tuple[type[Context], tuple[str]]:
-        """Another process has none."""
+        """Pickle it without its value: another process has no context."""
         return Context, (ELSEWHERE,)
 
     def put(self, value: Any) -> None:
-        """From now on it is this."""
+        """Set the value."""
         self.lacks, self._value = None, value
 
     def get(self) -> Any:
-        """Return it.
+        """Return the value.
 
         Raises:
-            RuntimeError: There is none.
+            RuntimeError: The value is missing.
         """
         if self.lacks is not None:
             raise RuntimeError(f"task.context: {self.lacks}")
         return self._value
 
 
-def is_factory(given: object) -> bool:
-    """Whether it makes the context, as a function or a class does; else it is the context."""
-    if isinstance(given, functools.partial):
+def is_factory(context: object) -> bool:
+    """Return whether the argument `context` is a function or class that makes it."""
+    if isinstance(context, functools.partial):
         return True
-    return inspect.isroutine(given) or inspect.isclass(given)
+    return inspect.isroutine(context) or inspect.isclass(context)
 
 
-def made(given: Any) -> Manager:
-    """Return the context manager that a factory gives.
+def made(factory: Any) -> Manager:
+    """Return the context manager that a factory makes.
 
     Raises:
-        TypeError: It gives something else.
+        TypeError: The factory returned something else.
     """
-    manager = given()
+    manager = factory()
     if isinstance(
         manager, (contextlib.AbstractAsyncContextManager, contextlib.AbstractContextManager)
     ):
@@ -65,6 +65,6 @@ def made(given: Any) -> Manager:
     if inspect.iscoroutine(manager):
         manager.close()
     raise TypeError(
-        f"context={shown(given)}: the function returned {type(manager).__name__}. Return a "
-        "context manager (@contextlib.asynccontextmanager), or give the object itself"
+        f"context={shown(factory)}: the function returned {type(manager).__name__}. Return a "
+        "context manager (@contextlib.asynccontextmanager), or pass the object itself"
     )

@@ -1,4 +1,4 @@
-"""`Control`: how a running function learns of its cancellation, and reports its progress."""
+"""`Control`: the cancellation and the progress of a running function."""
 
 from __future__ import annotations
 
@@ -11,11 +11,11 @@ from typing import Any, NamedTuple
 from sagas.definition.serialization import clean
 
 MOST_DETAIL = 200
-"""Characters that are kept of what a function says of its progress."""
+"""Maximum length of a stored progress detail, in characters."""
 
 
 class Progress(NamedTuple):
-    """How far a function says that it is."""
+    """The progress that a function reported last."""
 
     fraction: float
     detail: str | None = None
@@ -25,11 +25,11 @@ class Progress(NamedTuple):
 
 
 def checked(fraction: float, detail: str | None) -> Progress:
-    """Return how far somebody says to be.
+    """Return a reported progress as a `Progress`.
 
     Raises:
-        TypeError: That is no number, or no text.
-        ValueError: It is not from 0 to 1.
+        TypeError: The fraction is not a number, or the detail is not a text.
+        ValueError: The fraction is not from 0 to 1.
     """
     if isinstance(fraction, bool) or not isinstance(fraction, (int, float)):
         raise TypeError(f"progress({fraction!r}): must be a number from 0 to 1")
@@ -41,14 +41,14 @@ def checked(fraction: float, detail: str | None) -> Progress:
 
 
 class Cancellation:
-    """Whether what a function does is still wanted: an event for plain and async functions.
+    """An event that is set when a function should stop.
 
     Plain functions call `is_set` and `wait`, async ones `await task.cancelled`.
 
     Attributes:
-        reason: `aborted` (somebody aborted the saga), `failed` (another step of it failed),
-            `closing` (the store is closed), `lost` (another node has the saga); None while it is
-            not set.
+        reason: `aborted` (an operator or a program aborted the saga), `failed` (another step of it
+            failed), `closing` (the store is closed), `lost` (another node has the saga); None
+            while it is not set.
     """
 
     def __init__(self) -> None:
@@ -59,17 +59,17 @@ class Cancellation:
         self._for_abort: list[tuple[asyncio.AbstractEventLoop, asyncio.Future[None]]] = []
 
     def is_set(self) -> bool:
-        """Return whether it is cancelled."""
+        """Return whether the function should stop."""
         return self.reason is not None
 
     def wait(self, timeout: float | None = None) -> bool:
-        """Wait in a thread until it is cancelled; return whether it is.
+        """Block the thread until the event is set, and return whether it is set.
 
         Args:
-            timeout: Seconds to wait at most; None: for ever.
+            timeout: Maximum seconds to wait (default: no limit).
 
         Raises:
-            RuntimeError: It is called in an event loop, which would stand still.
+            RuntimeError: It is called in an event loop, which it would block.
         """
         try:
             asyncio.get_running_loop()
@@ -78,7 +78,7 @@ class Cancellation:
         raise RuntimeError("task.cancelled.wait() blocks the event loop. Await task.cancelled")
 
     def __await__(self) -> Generator[Any, None, str]:
-        """Wait until it is cancelled; return the reason."""
+        """Wait until the event is set, and return the reason."""
         loop = asyncio.get_running_loop()
         future = loop.create_future()
         with self._lock:
@@ -91,7 +91,7 @@ class Cancellation:
         return self.reason
 
     async def aborted(self) -> None:
-        """Wait until somebody has aborted the saga, whatever the first reason was."""
+        """Wait until the saga is aborted, whatever the first reason was."""
         loop = asyncio.get_running_loop()
         with self._lock:
             if self.reason == "aborted":
@@ -100,7 +100,7 @@ class Cancellation:
         await future
 
     def set(self, reason: str) -> None:
-        """Set it. Of a later reason only that somebody aborted the saga takes the first's place."""
+        """Set the event. A later reason replaces the first one only if it is `aborted`."""
         with self._lock:
             is_abort = reason == "aborted"
             if self.reason is not None and not is_abort:
@@ -110,7 +110,7 @@ class Cancellation:
                 waiting, self._for_abort = waiting + self._for_abort, []
         self._set.set()
         for loop, future in waiting:
-            with contextlib.suppress(RuntimeError):  # that loop is closed
+            with contextlib.suppress(RuntimeError):  # the loop is closed
                 loop.call_soon_threadsafe(_done, future)
 
 
@@ -120,13 +120,13 @@ def _done(future: asyncio.Future[None]) -> None:
 
 
 class Control:
-    """What an attempt and its function tell each other while it runs.
+    """The signals between an attempt and its running function.
 
     Attributes:
-        cancelled: Whether it is cancelled.
-        progress: How far it is, as it said last.
-        is_new: Whether that is not written yet.
-        is_stopped: Whether the function itself was cancelled, since the saga was aborted.
+        cancelled: The event that asks the function to stop.
+        progress: The progress that the function reported last, or None.
+        is_new: Whether that progress is not written yet.
+        is_stopped: Whether the function was cancelled because the saga was aborted.
     """
 
     __slots__ = ("cancelled", "progress", "is_new", "is_stopped")
@@ -137,14 +137,14 @@ class Control:
         self.is_new = self.is_stopped = False
 
     def __reduce__(self) -> tuple[type[Control], tuple[()]]:
-        """In another process nobody hears of it."""
+        """Pickle it as a new one: nothing in another process is connected to the attempt."""
         return Control, ()
 
-    def tell(self, fraction: float, detail: str | None = None) -> None:
-        """Keep how far it is. Raises as `checked`."""
+    def set_progress(self, fraction: float, detail: str | None = None) -> None:
+        """Set the progress that the function reports. Raises as `checked`."""
         self.progress, self.is_new = checked(fraction, detail), True
 
-    def news(self) -> Progress | None:
-        """Return how far it is, if that was not asked for since it was told."""
-        told, self.is_new = self.progress if self.is_new else None, False
-        return told
+    def take_progress(self) -> Progress | None:
+        """Return the progress if it is new since the last call, else None."""
+        progress, self.is_new = self.progress if self.is_new else None, False
+        return progress

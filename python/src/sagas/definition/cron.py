@@ -1,10 +1,10 @@
 """Times of cron expressions, in a time zone.
 
-The package `croniter` is not used: its maintainer gave it up in 2024, and it leaves open what
-becomes of hours that a clock change skips or repeats. Here:
+The package `croniter` is not used: its maintainer abandoned it in 2024, and it does not define
+what happens to hours that a clock change skips or repeats. This module defines it:
 
-- If the hour is given, a time is one of the wall clock. One that the clock skips comes as much
-  later as the clock skips; one that the clock repeats comes once.
+- If the expression names hours, times are those of the wall clock. A time that a clock change skips
+  moves by the length of the change. A time that a clock change repeats comes once.
 - If the hour is `*`, or `*/N`, a time comes whenever the wall clock shows it.
 """
 
@@ -18,7 +18,7 @@ from zoneinfo import ZoneInfo
 
 MINUTE, DAY = datetime.timedelta(minutes=1), datetime.timedelta(days=1)
 MOST_DAYS = 366 * 8 + 1
-"""Days that are looked at for the next time: a 29th of February may be eight years away."""
+"""Days in which the next time is searched: a 29th of February may be eight years away."""
 MACROS = {
     "@yearly": "0 0 1 1 *",
     "@annually": "0 0 1 1 *",
@@ -49,8 +49,8 @@ def _number(field: str, text: str, low: int, high: int, names: list[str]) -> int
 
 
 def _values(text: str, field: str, low: int, high: int, names: list[str]) -> frozenset[int]:
-    """The numbers that a field of an expression stands for."""
-    found = set[int]()
+    """Return the numbers that a field of an expression selects."""
+    numbers = set[int]()
     for part in text.split(","):
         match = PART.match(part)
         if not match or match[1] == "*" and match[2]:
@@ -65,18 +65,18 @@ def _values(text: str, field: str, low: int, high: int, names: list[str]) -> fro
         step = int(match[3] or 1)
         if first > last or not step:
             raise ValueError(f"{field} {part!r}: the range is empty")
-        found.update(range(first, last + 1, step))
-    return frozenset(found)
+        numbers.update(range(first, last + 1, step))
+    return frozenset(numbers)
 
 
 @dataclasses.dataclass(frozen=True)
 class Cron:
-    """An expression of five fields.
+    """A cron expression of five fields.
 
     Attributes:
         minutes, hours, days, months, weekdays: The numbers of each field; 0 is Sunday.
-        is_hourly: Whether the hour is not given.
-        is_either: Whether a day of the month or a day of the week is enough, since both are given.
+        is_hourly: Whether the hour is `*` or `*/N`.
+        is_either: Whether it names days of the month and of the week: then either is enough.
     """
 
     minutes: frozenset[int]
@@ -89,10 +89,10 @@ class Cron:
 
     @classmethod
     def parse(cls, text: str) -> Cron:
-        """Read an expression.
+        """Parse an expression.
 
         Raises:
-            ValueError: It is none; the text says which field is wrong.
+            ValueError: The expression is not valid; the message names the field.
         """
         fields = MACROS.get(text.strip().lower(), text).split()
         if len(fields) != len(FIELDS):
@@ -113,12 +113,12 @@ class Cron:
         return of_month or of_week if self.is_either else of_month and of_week
 
     def next_after(self, at: datetime.datetime, zone: ZoneInfo) -> datetime.datetime | None:
-        """Return the first time behind an instant, in UTC; None if there is none for years."""
+        """Return the first time after an instant, in UTC; None if it is years away."""
         times = self._instants(at, zone) if self.is_hourly else self._wall_times(at, zone)
         return next(times, None)
 
     def _wall_times(self, at: datetime.datetime, zone: ZoneInfo) -> Iterator[datetime.datetime]:
-        first = at.astimezone(zone).date() - DAY  # what is skipped there comes later
+        first = at.astimezone(zone).date() - DAY  # times that are skipped on that day come later
         for day in (first + count * DAY for count in range(MOST_DAYS)):
             if self._has_day(day):
                 times = (
@@ -126,7 +126,7 @@ class Cron:
                     for hour in self.hours
                     for minute in self.minutes
                 )
-                yield from sorted(time for one in times if (time := _utc(one)) > at)
+                yield from sorted(utc for time in times if (utc := _utc(time)) > at)
 
     def _instants(self, at: datetime.datetime, zone: ZoneInfo) -> Iterator[datetime.datetime]:
         time = at.replace(second=0, microsecond=0) + MINUTE

@@ -1,4 +1,4 @@
-"""`Declared`: the declared steps of a definition, and the types of what they read."""
+"""`Declaration`: the declared steps of a saga, and the decoders of their values."""
 
 from __future__ import annotations
 
@@ -7,7 +7,7 @@ from typing import TYPE_CHECKING, Any
 
 from sagas.definition import children, decoders, item_types, joins
 from sagas.definition.decoders import Decoder
-from sagas.definition.layout import Scope, Spot
+from sagas.definition.layout import Scope, StepOrigin
 from sagas.definition.parts import FanOut, Inclusion
 
 if TYPE_CHECKING:
@@ -18,12 +18,13 @@ COSTS = ("run", "undo", "skip", "keep")
 ComputedCosts = Sequence[tuple[str, Callable[[Any], Any]]]
 """The costs of a step that are functions, in the order of `COSTS`."""
 Hints = tuple[Decoder | None, Decoder | None, Decoder | None]
-"""How a step's input is read, its result, and the input of its compensation."""
+"""The decoders of a step's input, of its result, and of the input of its compensation."""
 
 
-class Declared:
-    """A saga as the program declares it today, by the places of steps. What it finds is kept: the
-    definitions of all its shapes ask for the same.
+class Declaration:
+    """A saga as this program declares it. Look up its steps by their origins.
+
+    It caches what it looks up, since the definitions of all shapes of the saga look up the same.
     """
 
     def __init__(self, saga: Saga | None) -> None:
@@ -44,49 +45,52 @@ class Declared:
         saga = self._within(names)
         return None if saga is None else saga.parts_by_name.get(name)
 
-    def step(self, spot: Spot) -> Step[Any] | None:
-        """The step that is declared at a place; None where there is none any more, or it is there
-        for items, or is not, as the definition does not have it.
+    def step(self, origin: StepOrigin) -> Step[Any] | None:
+        """Return the step that is declared at an origin.
+
+        Returns:
+            None if the program does not declare the step, or if only one of the program and the
+            definition has items for it.
         """
-        names = tuple(name for name, _ in spot.scope)
-        part = self._part(names, spot.name)
+        names = tuple(name for name, _ in origin.scope)
+        part = self._part(names, origin.name)
         if part is None and (saga := self._within(names)) is not None:
-            part = joins.step_of(saga, spot.name)
+            part = joins.step_of(saga, origin.name)
         if part is None or isinstance(part, Inclusion):
             return None
-        found: Step[Any] = part
-        return found if (found.for_each is None) == (spot.number is None) else None
+        step: Step[Any] = part
+        return step if (step.for_each is None) == (origin.number is None) else None
 
     def included(self, path: str) -> Saga | None:
-        """The saga that is included at a path of names: `p/hotel`."""
+        """Return the saga that is included at a path of names, for example `p/hotel`."""
         return self._within(tuple(path.split("/")))
 
     def hints(self, step: Step[Any] | None) -> Hints:
-        """How a step reads its values."""
+        """Return the decoders of a step's values."""
         if step is None:
             return None, None, None
         if step not in self._hints:
             undo = step.undo.function
-            own = decoders.hints(undo)[0] if undo else None
-            self._hints[step] = (*children.hints(step), own)
+            undo_input = decoders.hints(undo)[0] if undo else None
+            self._hints[step] = (*children.hints(step), undo_input)
         return self._hints[step]
 
     def computed_costs(self, step: Step[Any]) -> ComputedCosts:
-        """Which costs of a step come from the input."""
+        """Return the costs of a step that are functions of the input."""
         if step not in self._costs:
-            given = ((word, step.declared_cost(word)) for word in COSTS)
-            self._costs[step] = [(word, cost) for word, cost in given if callable(cost)]
+            costs = ((name, step.declared_cost(name)) for name in COSTS)
+            self._costs[step] = [(name, cost) for name, cost in costs if callable(cost)]
         return self._costs[step]
 
-    # -- as `place.Reading`
+    # -- the protocol `place.ScopeReader`
 
     def saga(self, scope: Scope) -> str:
-        """The name of the saga in a scope."""
+        """Return the name of the saga in a scope."""
         saga = self._within(tuple(name for name, _ in scope))
         return saga.name if saga else ""
 
     def input(self, scope: Scope) -> Decoder | None:
-        """How the input of a scope is read."""
+        """Return the decoder of the input of the saga in a scope."""
         saga = self._within(tuple(name for name, _ in scope))
         if saga is None:
             return None
@@ -94,9 +98,9 @@ class Declared:
             self._inputs[saga] = saga.input_decoder
         return self._inputs[saga]
 
-    def item(self, spot: Spot) -> Decoder | None:
-        """How the items of a step, or of an inclusion, are read."""
-        part = self._part(tuple(name for name, _ in spot.scope), spot.name)
+    def item(self, origin: StepOrigin) -> Decoder | None:
+        """Return the decoder of the items of a step, or of an inclusion."""
+        part = self._part(tuple(name for name, _ in origin.scope), origin.name)
         if part is None:
             return None
         if part not in self._items:
@@ -104,13 +108,13 @@ class Declared:
         return self._items[part]
 
     def fan_outs(self, scope: Scope) -> Sequence[str]:
-        """The steps with items of the saga in a scope."""
+        """Return the names of the fan-outs of the saga in a scope."""
         saga = self._within(tuple(name for name, _ in scope))
         parts = saga.parts_by_name.values() if saga else ()
         return [part.name for part in parts if isinstance(part, FanOut)]
 
     def given(self, scope: Scope) -> Callable[[Any], Any] | None:
-        """The function of the task outside that gives the included saga something."""
+        """Return the function `given=` of the inclusion of a scope, or None."""
         names = tuple(name for name, _ in scope)
         part = self._part(names[:-1], names[-1])
         return part.given if isinstance(part, Inclusion) else None

@@ -18,7 +18,7 @@ from typing import Any
 
 from sagas.base.errors import NotSerializable
 from sagas.definition import mismatches, type_checks
-from sagas.definition.mismatches import Misfit
+from sagas.definition.mismatches import Mismatch
 
 Decoder = Callable[[Any], Any]
 _MADE: dict[Any, type] = {
@@ -31,11 +31,11 @@ _MADE: dict[Any, type] = {
     collections.abc.Mapping: dict,
     collections.abc.MutableMapping: dict,
 }
-"""What is made for a hint that names no class of its own."""
+"""The class of the decoded value, by the abstract class that a hint names."""
 
 
 def _decimal(value: Any) -> decimal.Decimal:
-    """A number as it is written: 19.99, and not the nearest binary fraction."""
+    """Return a decimal number as JSON writes it: 19.99, not a binary fraction."""
     if isinstance(value, bool) or not isinstance(value, (str, int, float)):
         raise TypeError
     return decimal.Decimal(repr(value) if isinstance(value, float) else value)
@@ -51,76 +51,81 @@ _BY_TEXT: dict[type, Decoder] = {
 
 
 def is_old_model(kind: type) -> bool:
-    """Whether it is a model of pydantic 1, or of `pydantic.v1`."""
+    """Return whether a class is a model of pydantic 1, or of `pydantic.v1`."""
     return hasattr(kind, "__fields__") and hasattr(kind, "parse_obj")
 
 
 def hints(function: Callable[..., Any]) -> tuple[Decoder | None, Decoder | None]:
-    """How to read a function's input (of its parameter's hint `Task[Order]`), and what it
-    returns.
+    """Return the decoders of a function's input and of its result.
+
+    The input's type is that of the parameter's hint, `Task[Order]`. If a hint cannot be read, for
+    example because only a type checker imports its name, both decoders are None.
     """
     try:
-        told = typing.get_type_hints(_written(function))
-    except Exception:  # a name that is only there for the checker: then values are read as they are
+        type_hints = typing.get_type_hints(_hinted_function(function))
+    except Exception:
         return None, None
-    return decoder(input_hint(function)), decoder(told.get("return", Any))
+    return decoder(input_hint(function)), decoder(type_hints.get("return", Any))
 
 
 def input_hint(function: Callable[..., Any]) -> Any:
-    """The type of its input, of its parameter's hint `Task[Order]`; None where it says none."""
-    words = task_hints(function)
-    return words[0] if words else None
+    """Return the type of a function's input, `Order` of the hint `Task[Order]`."""
+    arguments = task_hints(function)
+    return arguments[0] if arguments else None
 
 
 def task_hints(function: Callable[..., Any]) -> tuple[Any, ...]:
-    """What the hint of a function's task says: of `ItemTask[Order, Parcel]` both types."""
+    """Return the type arguments of a function's task, `Order` of `Task[Order]`."""
     try:
-        told = typing.get_type_hints(_written(function))
-        names = [name for name in told if name != "return"]
-        if isinstance(function, functools.partial):  # the others have their values
+        type_hints = typing.get_type_hints(_hinted_function(function))
+        names = [name for name in type_hints if name != "return"]
+        if isinstance(function, functools.partial):  # without the parameters that have values
             names = [*inspect.signature(function).parameters]
     except Exception:  # as in `hints`
         return ()
-    return typing.get_args(told.get(names[0])) if names else ()
+    return typing.get_args(type_hints.get(names[0])) if names else ()
 
 
-def _written(function: Any) -> Any:
-    """The function that has the hints: of a partial one, of an object that can be called."""
+def _hinted_function(function: Any) -> Any:
+    """Return the function with the hints, for a partial function or a callable object."""
     function = inspect.unwrap(function)
     if isinstance(function, functools.partial):
-        return _written(function.func)
+        return _hinted_function(function.func)
     is_object = callable(function) and not isinstance(function, type)
     return type(function).__call__ if is_object and not inspect.isroutine(function) else function
 
 
 def unread(function: Callable[..., Any]) -> str | None:
-    """Why the hints of a function cannot be read, where they cannot."""
+    """Return why the type hints of a function cannot be read, or None if they can."""
     try:
-        typing.get_type_hints(_written(function))
+        typing.get_type_hints(_hinted_function(function))
     except NameError as error:
         return str(error)
-    except Exception:  # it is no function, say
+    except Exception:  # for example, it is not a function
         return None
     return None
 
 
 def decoder(hint: Any) -> Decoder | None:
-    """How to make a value of this type from JSON; None where the JSON is it already."""
+    """Return a function that makes a value of this type from JSON.
+
+    None means that the JSON value is used unchanged.
+    """
     hint = type_checks.bare(hint)
     if isinstance(hint, type) and not isinstance(hint, types.GenericAlias):
         return _of_class(hint)
-    origin, words = typing.get_origin(hint), typing.get_args(hint)
+    origin, arguments = typing.get_origin(hint), typing.get_args(hint)
     origin = _MADE.get(origin, origin)
     if origin in (typing.Union, types.UnionType):
-        return _of_union(words)
+        return _of_union(arguments)
     if origin in (list, set, frozenset) or (
-        origin is tuple and len(words) == 2 and words[1] is Ellipsis
+        origin is tuple and len(arguments) == 2 and arguments[1] is Ellipsis
     ):
-        return _of_items(origin, decoder(words[0]))
+        return _of_items(origin, decoder(arguments[0]))
     if origin is tuple:
-        return _of_tuple([decoder(word) or _same for word in words])
+        return _of_tuple([decoder(argument) or _same for argument in arguments])
     if origin is dict:
-        return _of_dict(_key(words[0]), decoder(words[1]))
+        return _of_dict(_key(arguments[0]), decoder(arguments[1]))
     if dataclasses.is_dataclass(origin):
         return _of_dataclass(origin, hint)
     return None
@@ -148,8 +153,7 @@ def _of_class(hint: type) -> Decoder | None:
 
 
 def _leaf(make: Decoder) -> Decoder:
-    """Makes a value by code that is not of this package: what that raises is told without the
-    value."""
+    """Wrap a class of a user or of another package: its errors may show the value."""
 
     def read(value: Any) -> Any:
         try:
@@ -161,13 +165,13 @@ def _leaf(make: Decoder) -> Decoder:
 
 
 def _named_leaf(make: Decoder, why: str) -> Decoder:
-    """The same, of what is known by its name."""
+    """Wrap a class with a fixed error message: its own errors may show the value."""
 
     def read(value: Any) -> Any:
         try:
             return make(value)
         except Exception:
-            raise Misfit(why) from None
+            raise Mismatch(why) from None
 
     return read
 
@@ -176,7 +180,7 @@ def _of_enum(hint: type[enum.Enum]) -> Decoder:
     def make(value: Any) -> Any:
         try:
             return hint(value)
-        except ValueError:  # of a member whose value JSON has otherwise: a tuple, a date
+        except ValueError:  # a member whose value has another form in JSON: a tuple, a date
             from sagas.definition import serialization
 
             text = serialization.write(value)
@@ -194,30 +198,30 @@ def _of_dataclass(hint: Any, whole: Any) -> Decoder:
 
     def make(value: Any) -> Any:
         if not isinstance(value, dict):
-            raise Misfit(f": {hint.__name__} requires an object")
-        if not parts:  # at the first value, since a class may name itself
-            told = type_checks.field_hints(whole)
+            raise Mismatch(f": {hint.__name__} requires an object")
+        if not parts:  # not before the first value, since a class may name itself
+            field_hints = type_checks.field_hints(whole)
             parts.update(
                 {
-                    field.name: decoder(told[field.name])
+                    field.name: decoder(field_hints[field.name])
                     for field in dataclasses.fields(hint)
                     if field.init
                 }
             )
-        given = {}
+        decoded = {}
         for name, part in parts.items():
             if name in value:
                 try:
-                    given[name] = value[name] if part is None else part(value[name])
+                    decoded[name] = value[name] if part is None else part(value[name])
                 except NameError:
                     raise
                 except Exception as error:
                     raise mismatches.of(error, mismatches.part(name)) from None
         try:
-            return hint(**given)
+            return hint(**decoded)
         except Exception as error:
-            lacks = mismatches.lacking(value, hint)
-            raise lacks or Misfit(
+            missing = mismatches.lacking(value, hint)
+            raise missing or Mismatch(
                 f": {hint.__name__} rejects it ({type(error).__name__})"
             ) from None
 
@@ -226,10 +230,10 @@ def _of_dataclass(hint: Any, whole: Any) -> Decoder:
 
 def _of_named_tuple(hint: Any) -> Decoder:
     def make(value: Any) -> Any:
-        told = typing.get_type_hints(hint)
-        parts = [decoder(told.get(name)) or _same for name in hint._fields]
+        field_hints = typing.get_type_hints(hint)
+        parts = [decoder(field_hints.get(name)) or _same for name in hint._fields]
         if not isinstance(value, (list, tuple)) or len(value) != len(parts):
-            raise Misfit(f": {hint.__name__} requires a list of {len(parts)}")
+            raise Mismatch(f": {hint.__name__} requires a list of {len(parts)}")
         return hint(*_each(value, parts))
 
     return make
@@ -242,42 +246,42 @@ def _of_items(make: Decoder, inner: Decoder | None) -> Decoder | None:
 
     def read(value: Any) -> Any:
         if not isinstance(value, (list, tuple)):
-            raise Misfit(": must be a list")
+            raise Mismatch(": must be a list")
         try:
             return make([part(item) for item in value])
         except Exception:
-            raise _first(value, part) or Misfit(": its items cannot be read") from None
+            raise _first_error(value, part) or Mismatch(": its items cannot be read") from None
 
     return read
 
 
-def _first(value: Iterable[Any], part: Decoder) -> Exception | None:
-    """What is raised of the first item that cannot be read."""
-    for place, item in enumerate(value):
+def _first_error(value: Iterable[Any], part: Decoder) -> Exception | None:
+    """Return the error of the first item that cannot be decoded."""
+    for index, item in enumerate(value):
         try:
             part(item)
         except NameError as error:
             return error
         except Exception as error:
-            return mismatches.of(error, f"[{place}]")
+            return mismatches.of(error, f"[{index}]")
     return None
 
 
 def _each(value: Iterable[Any], parts: Iterable[Decoder]) -> list[Any]:
-    """Items, each by a decoder of its own."""
-    made: list[Any] = []
-    for place, (part, item) in enumerate(zip(parts, value)):
+    """Decode each item with its own decoder."""
+    decoded: list[Any] = []
+    for index, (part, item) in enumerate(zip(parts, value)):
         try:
-            made.append(part(item))
+            decoded.append(part(item))
         except NameError:
             raise
         except Exception as error:
-            raise mismatches.of(error, f"[{place}]") from None
-    return made
+            raise mismatches.of(error, f"[{index}]") from None
+    return decoded
 
 
 def _key(hint: Any) -> Decoder | None:
-    """How to make a key of a dict, which JSON has as a text."""
+    """Return the decoder of the keys of a dict, which are texts in JSON."""
     if isinstance(hint, typing.NewType):
         return _key(hint.__supertype__)
     if hint in (int, float):
@@ -290,7 +294,7 @@ def _key(hint: Any) -> Decoder | None:
 
 
 def _enum_key(hint: type[enum.Enum]) -> Decoder:
-    by_text = {str(one.value): one for one in hint}
+    by_text = {str(member.value): member for member in hint}
     return lambda key: by_text[key] if key in by_text else hint(key)
 
 
@@ -301,16 +305,16 @@ def _of_dict(key: Decoder | None, inner: Decoder | None) -> Decoder | None:
 
     def read(value: Any) -> Any:
         if not isinstance(value, dict):
-            raise Misfit(": must be an object")
-        made = {}
-        for word, item in value.items():
+            raise Mismatch(": must be an object")
+        decoded = {}
+        for text, item in value.items():
             try:
-                made[name(word)] = part(item)
+                decoded[name(text)] = part(item)
             except NameError:
                 raise
             except Exception as error:
-                raise mismatches.of(error, mismatches.part(word)) from None
-        return made
+                raise mismatches.of(error, mismatches.part(text)) from None
+        return decoded
 
     return read
 
@@ -318,66 +322,68 @@ def _of_dict(key: Decoder | None, inner: Decoder | None) -> Decoder | None:
 def _of_tuple(parts: list[Decoder]) -> Decoder:
     def read(value: Any) -> Any:
         if not isinstance(value, (list, tuple)):
-            raise Misfit(": must be a list")
+            raise Mismatch(": must be a list")
         return tuple(_each(value, parts))
 
     return read
 
 
 def _named(key: Decoder) -> Decoder:
-    """A key as its hint says; one that cannot be made so stays the text that it is."""
+    """Return a decoder that leaves a key that is not of its type unchanged."""
 
-    def make(word: Any) -> Any:
+    def make(text: Any) -> Any:
         try:
-            return key(word)
+            return key(text)
         except (TypeError, ValueError, KeyError):
-            return word
+            return text
 
     return make
 
 
-def _of_union(words: tuple[Any, ...]) -> Decoder | None:
-    found = [(word, decoder(word)) for word in words]
-    parts = [part for _, part in found if part is not None]
-    plain = [word for word, part in found if part is None]
-    numbers = [word for word in plain if word in (int, float) and decimal.Decimal in words]
+def _of_union(members: tuple[Any, ...]) -> Decoder | None:
+    pairs = [(member, decoder(member)) for member in members]
+    parts = [part for _, part in pairs if part is not None]
+    plain = [member for member, part in pairs if part is None]
+    numbers = [hint for hint in plain if hint in (int, float) and decimal.Decimal in members]
     if not parts:
         return None
 
     def make(value: Any) -> Any:
         if value is None and type(None) in plain:
             return None
-        if any(_may_be(value, word) for word in numbers):  # a `Decimal` is stored as a text
+        if any(_may_be(value, hint) for hint in numbers):  # a `Decimal` is stored as a text
             return value
-        faults, read = list[Exception](), list[Any]()
+        errors, decoded = list[Exception](), list[Any]()
         for part in parts:
             try:
-                read.append(part(value))
+                decoded.append(part(value))
             except (TypeError, ValueError, KeyError, AttributeError) as error:
-                faults.append(error)
+                errors.append(error)
                 continue
-            if len(parts) == 1 or _knows(read[-1], value):
-                return read[-1]
-        if read:
-            return read[0]
-        if any(_may_be(value, word) for word in plain):
+            if len(parts) == 1 or _has_all_fields(decoded[-1], value):
+                return decoded[-1]
+        if decoded:
+            return decoded[0]
+        if any(_may_be(value, hint) for hint in plain):
             return value
-        has_more = any(word is not type(None) for word in plain)
-        if len(faults) == 1 and (isinstance(value, dict) or not has_more):
-            raise mismatches.of(faults[0])
-        raise Misfit(": matches none of its types")
+        has_more = any(hint is not type(None) for hint in plain)
+        if len(errors) == 1 and (isinstance(value, dict) or not has_more):
+            raise mismatches.of(errors[0])
+        raise Mismatch(": matches none of its types")
 
     return make
 
 
-def _knows(made: Any, value: Any) -> bool:
-    """Whether a type has all the fields of the value that was made of it."""
+def _has_all_fields(decoded: Any, value: Any) -> bool:
+    """Return whether a decoded value has fields for all entries of the JSON object."""
     if not isinstance(value, dict):
         return True
-    if dataclasses.is_dataclass(made):
-        names = {field.name for field in dataclasses.fields(made)}
+    if dataclasses.is_dataclass(decoded):
+        names = {field.name for field in dataclasses.fields(decoded)}
     else:
-        fields = getattr(type(made), "model_fields", None) or getattr(made, "__fields__", None)
+        fields = getattr(type(decoded), "model_fields", None) or getattr(
+            decoded, "__fields__", None
+        )
         if fields is None:
             return True
         names = {*fields, *(str(getattr(field, "alias", "")) for field in fields.values())}
@@ -393,10 +399,10 @@ _JSON: dict[Any, tuple[type, ...]] = {
     list: (list,),
     type(None): (type(None),),
 }
-"""The types of JSON that a plain hint stands for; of others anything is taken."""
+"""The JSON types that a plain hint accepts. Any other hint accepts every value."""
 
 
 def _may_be(value: Any, hint: Any) -> bool:
-    """Whether a value, as JSON has it, may be meant by a hint that needs no decoder."""
+    """Return whether a hint that needs no decoder accepts a JSON value."""
     kinds = _JSON.get(typing.get_origin(hint) or hint)
     return kinds is None or isinstance(value, kinds)

@@ -1,4 +1,4 @@
-"""What declarations give until they are put on a function."""
+"""Decorators that declarations return, before they are applied to a function."""
 
 from __future__ import annotations
 
@@ -15,14 +15,18 @@ R = TypeVar("R")
 
 
 class Decorator:
-    """What `saga.step(..)`, `saga.wait(..)`, `saga.approval(..)` and `step.compensation(..)`
-    give, until it is put on a function.
+    """A decorator that `saga.step(...)` or a similar call returned, not yet applied.
+
+    Attributes:
+        where: File and line of the call.
+        call: The called function, for messages: `order.step`.
+        name: The name of the step, if the call names it.
     """
 
     def __init__(
-        self, saga: Saga, what: str, name: str | None, declare: Callable[[Any], Any]
+        self, saga: Saga, call: str, name: str | None, declare: Callable[[Any], Any]
     ) -> None:
-        self.where, self.what, self.name = validation.caller(3), what, name
+        self.where, self.call, self.name = validation.caller(3), call, name
         self._declare, self._saga = declare, saga
         saga.decorators.append(self)
 
@@ -33,7 +37,7 @@ class Decorator:
 
 
 class Declare(Protocol):
-    """What `saga.step(..)` gives: a decorator that makes a step of a function."""
+    """The type of `saga.step(...)`: a decorator that makes a step of a function."""
 
     @overload
     def __call__(self, function: Callable[[Any], Awaitable[R]], /) -> Step[R]:

@@ -1,4 +1,4 @@
-"""Definitions of sagas with fixed steps, as texts, and texts of all other declarations."""
+"""Texts of definitions with fixed steps, and of all other declarations."""
 
 from __future__ import annotations
 
@@ -39,8 +39,9 @@ def fixed(saga: Saga) -> str:
 
 
 def declared(saga: Saga) -> str:
-    """Return a text that changes where the declaration does: the definition, or where the steps
-    come from the input, all that is known without one.
+    """Return a text that differs if the declaration differs.
+
+    It is the definition. If the steps come from the input, it lists the declared parts instead.
     """
     if not saga.is_shaped:
         return saga.toml()
@@ -49,17 +50,17 @@ def declared(saga: Saga) -> str:
     for part in saga.parts:
         needs = [repr(need) for need in part._needs]
         lines += [f'[{part.kind}] "{part.name}"', f"needs = {needs}"]
-        lines += [f"{word} = {_told(getattr(part, word))}" for word in ("for_each", "when")]
+        lines += [f"{word} = {_shown(getattr(part, word))}" for word in ("for_each", "when")]
         inner = getattr(part, "inner", None)
         if inner is not None:
             lines.append(f"of = {hashlib.sha256(declared(inner).encode()).hexdigest()}")
             continue
         step: Any = part
-        lines += [f"{word} = {_told(cost)}" for word, cost in step._costs.items()]
+        lines += [f"{word} = {_shown(cost)}" for word, cost in step._costs.items()]
         lines.append(f"tries = {step.run.tries}, {step.undo.tries}")
         lines += [listed_steps.COMPENSATED] * listed_steps.is_compensated(step)
     return "\n".join(lines) + "\n"
 
 
-def _told(value: object) -> str:
+def _shown(value: object) -> str:
     return "function" if callable(value) else repr(value)

@@ -1,4 +1,4 @@
-"""`Fan`: which steps of a saga a declared one means, for those who read its end."""
+"""`Fan`: the steps of a saga that come from a declared step."""
 
 from __future__ import annotations
 
@@ -11,11 +11,11 @@ from sagas.definition.shape_values import ShapeValues
 
 
 class Fan:
-    """Of a saga with fixed steps each stands for itself.
+    """Find the steps of a declared step in one saga.
 
     Args:
-        layout: The layout of the definition, or None.
-        text: What is kept of the saga's shape, if it is known. It is read once, when it is needed.
+        layout: The layout of the definition, or None if the saga has fixed steps.
+        text: The stored values of the saga's shape, or None. It is parsed at the first use.
     """
 
     __slots__ = ("_layout", "_text", "_values")
@@ -24,21 +24,25 @@ class Fan:
         self._layout, self._text = layout, text
         self._values: ShapeValues | None = None
 
-    def gather(self, step: Selection[Any] | str, one: Callable[[str], Any]) -> Any:
-        """Return what `one` gives of the steps that are meant, as `Layout.gather`.
+    def gather(self, step: Selection[Any] | str, value_of: Callable[[str], Any]) -> Any:
+        """Return the values of the steps that are selected, as `Layout.gather` does.
+
+        Args:
+            step: The declared step, or its name.
+            value_of: Returns the value of a step, given its name.
 
         Raises:
-            KeyError: They are not there.
+            KeyError: The saga has no such step.
         """
         layout, name = self._layout, step if isinstance(step, str) else step.path[0]
         if layout is None and getattr(step, "for_each", None) is not None:
             raise KeyError(f"the items of {step!r} are not known here. Name one: {name}-0")
-        if layout is None or name in layout.spots:
-            return one(name)
+        if layout is None or name in layout.origins:
+            return value_of(name)
         path = (step,) if isinstance(step, str) else step.path
         if self._values is None:
             self._values = ShapeValues() if self._text is None else ShapeValues.read(self._text)
-        return layout.gather((), path, self._values, one)
+        return layout.gather((), path, self._values, value_of)
 
 
 FIXED = Fan(None)

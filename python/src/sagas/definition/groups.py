@@ -1,4 +1,4 @@
-"""`Groups`: the steps of a definition by what can be drawn as one: fan-outs and included sagas."""
+"""`Groups`: the fan-outs and included sagas of a definition, each with its steps."""
 
 from __future__ import annotations
 
@@ -7,20 +7,20 @@ from collections.abc import Collection, Iterable, Sequence
 
 from sagas.definition import shape_text
 from sagas.definition.joins import ENDING
-from sagas.definition.layout import Spot, spot_of
+from sagas.definition.layout import StepOrigin, parse_origin
 
 ALL = "*"
-"""In what is unfolded: every group."""
+"""The name that unfolds every group."""
 
 
 @dataclasses.dataclass(slots=True)
 class Group:
-    """The items of a step, or the steps of an included saga.
+    """A fan-out with its steps, or an included saga with its steps.
 
     Attributes:
-        name: The declared name: `hotel/room`, or `hotel` of an included saga.
-        steps: The numbers of its steps, without those that the package put in.
-        items: How many items it has; None of a saga that is included once.
+        name: The declared name: `hotel/room`, or `hotel` for an included saga.
+        steps: The numbers of its steps, without joining steps.
+        items: The number of items; None for a saga that is included once.
     """
 
     name: str
@@ -29,7 +29,7 @@ class Group:
 
     @property
     def title(self) -> str:
-        """The name with the number of items, or of steps."""
+        """The name with the number of items or of steps."""
         if self.items is None:
             return f"{self.name}: {len(self.steps):,} steps"
         return f"{self.name} ×{self.items:,}"
@@ -37,13 +37,13 @@ class Group:
 
 @dataclasses.dataclass(frozen=True, slots=True)
 class Block:
-    """Steps that are drawn as one: a step, or a group that is not unfolded.
+    """A node of a drawing: a single step, or a group that is not unfolded.
 
     Attributes:
         steps: The numbers of the steps.
-        group: The group; None of a single step.
-        within: The innermost unfolded group that has it, if any.
-        item_of: The declared name of a single step, if it is an item of an unfolded group.
+        group: The group; None for a single step.
+        within: The innermost unfolded group around it, or None.
+        item_of: The declared name if it is an item of an unfolded fan-out, else None.
     """
 
     steps: list[int]
@@ -56,93 +56,97 @@ class Groups:
     """The groups of a definition.
 
     Attributes:
-        spots: Where each step comes from; empty if no step comes from the input.
-        found: The groups by name, an outer one before those in it.
+        origins: The origins of the steps; empty if no step comes from the input.
+        by_name: The groups by name, outer groups first.
     """
 
-    def __init__(self, spots: Sequence[Spot]) -> None:
-        self.spots = spots
-        paths = [_paths(spot) for spot in spots]
+    def __init__(self, origins: Sequence[StepOrigin]) -> None:
+        self.origins = origins
+        paths = [_paths(origin) for origin in origins]
         members: dict[str, Group] = {}
-        copies: dict[str, set[Spot]] = {}
-        for number, some in enumerate(paths):
-            for name, copy in some:
+        copies: dict[str, set[StepOrigin]] = {}
+        for number, path in enumerate(paths):
+            for name, copy in path:
                 members.setdefault(name, Group(name)).steps.append(number)
                 copies.setdefault(name, set()).add(copy)
         for name, group in members.items():
             is_repeated = any(_is_item(copy) for copy in copies[name])
             group.items = len(copies[name]) if is_repeated else None
-        self.found: dict[str, Group] = {}
+        self.by_name: dict[str, Group] = {}
         for name in sorted(members, key=lambda name: name.count("/")):
             outer = self._outer(name)
             is_same = outer is not None and outer.steps == members[name].steps
             if len(members[name].steps) > 1 and not is_same:
-                self.found[name] = members[name]
-        self._of = [[self.found[name] for name, _ in some if name in self.found] for some in paths]
+                self.by_name[name] = members[name]
+        self._of = [
+            [self.by_name[name] for name, _ in path if name in self.by_name] for path in paths
+        ]
         self._add_joins()
 
     @classmethod
     def read(cls, text: str) -> Groups:
-        """The groups of a definition, which says where each step comes from."""
+        """Return the groups of a definition, given its text."""
         listed = shape_text.steps(text) if shape_text.is_shaped(text) else []
-        return cls([spot_of(one["of"]) for one in listed])
+        return cls([parse_origin(step["of"]) for step in listed])
 
     def _outer(self, name: str) -> Group | None:
-        """The innermost group that has another one."""
+        """Return the innermost group around the group with this name."""
         while "/" in name:
             name = name.rpartition("/")[0]
-            if name in self.found:
-                return self.found[name]
+            if name in self.by_name:
+                return self.by_name[name]
         return None
 
     def _add_joins(self) -> None:
-        """A joining step that the package added after a group is drawn with it."""
-        for number, spot in enumerate(self.spots):
-            behind = Spot(spot.scope, spot.name.removesuffix(ENDING)).declared
-            if spot.name.endswith(ENDING) and behind in self.found:
-                self._of[number].append(self.found[behind])
+        """Add the joining step that follows a group to the group."""
+        for number, origin in enumerate(self.origins):
+            joined = StepOrigin(origin.scope, origin.name.removesuffix(ENDING)).declared
+            if origin.name.endswith(ENDING) and joined in self.by_name:
+                self._of[number].append(self.by_name[joined])
 
     def of(self, step: int) -> list[Group]:
-        """The groups that have a step, the outermost first."""
+        """Return the groups around a step, the outermost first."""
         return self._of[step] if step < len(self._of) else []
 
     def blocks(self, count: int, unfold: Collection[str]) -> list[Block]:
-        """Return what is drawn, in the order of the first steps.
+        """Return the nodes of a drawing, in the order of their first steps.
 
         Args:
-            count: How many steps the definition has.
+            count: The number of steps of the definition.
             unfold: The names of the groups whose parts are drawn, or `ALL`.
         """
-        found: dict[str | int, Block] = {}
+        blocks: dict[str | int, Block] = {}
         for step in range(count):
-            some = self.of(step)
-            shut = next((one for one in some if not {one.name, ALL} & {*unfold}), None)
-            within = some[: some.index(shut)] if shut else some
-            key: str | int = shut.name if shut else step
-            if key not in found:
-                is_item = bool(within) and not shut and _is_item(self.spots[step])
-                item_of = self.spots[step].declared if is_item else None
-                found[key] = Block([], shut, within[-1] if within else None, item_of)
-            found[key].steps.append(step)
-        return list(found.values())
+            groups = self.of(step)
+            folded = next((group for group in groups if not {group.name, ALL} & {*unfold}), None)
+            within = groups[: groups.index(folded)] if folded else groups
+            key: str | int = folded.name if folded else step
+            if key not in blocks:
+                is_item = bool(within) and not folded and _is_item(self.origins[step])
+                item_of = self.origins[step].declared if is_item else None
+                blocks[key] = Block([], folded, within[-1] if within else None, item_of)
+            blocks[key].steps.append(step)
+        return list(blocks.values())
 
     def known(self, names: Iterable[str]) -> frozenset[str]:
-        """Those of the names that are of groups."""
-        return frozenset(name for name in names if name in self.found)
+        """Return the names that are names of groups."""
+        return frozenset(name for name in names if name in self.by_name)
 
 
-def _paths(spot: Spot) -> list[tuple[str, Spot]]:
-    """The groups in which a step may be, the outermost first: the name of each, and which of its
-    copies has the step."""
-    found = []
-    for depth in range(1, len(spot.scope) + 1):
-        copy = Spot(spot.scope[: depth - 1], *spot.scope[depth - 1])
-        found.append((copy.declared, copy))
-    if _is_item(spot):
-        found.append((spot.declared, spot))
-    return found
+def _paths(origin: StepOrigin) -> list[tuple[str, StepOrigin]]:
+    """Return the possible groups around a step, the outermost first.
+
+    Each is the group's name, and the origin of the inclusion or item in it that has the step.
+    """
+    groups = []
+    for depth in range(1, len(origin.scope) + 1):
+        copy = StepOrigin(origin.scope[: depth - 1], *origin.scope[depth - 1])
+        groups.append((copy.declared, copy))
+    if _is_item(origin):
+        groups.append((origin.declared, origin))
+    return groups
 
 
-def _is_item(spot: Spot) -> bool:
-    """Whether it is there once for each item, by itself or in what is."""
-    return spot.number is not None or any(number is not None for _, number in spot.scope)
+def _is_item(origin: StepOrigin) -> bool:
+    """Return whether a step, or an inclusion around it, exists once for each item."""
+    return origin.number is not None or any(number is not None for _, number in origin.scope)

@@ -1,4 +1,4 @@
-"""Sagas in sagas, and what `Saga` knows of its parts."""
+"""`Inclusions`: the part of `Saga` for included sagas and computed steps."""
 
 from __future__ import annotations
 
@@ -15,7 +15,7 @@ if TYPE_CHECKING:
 
 
 class Inclusions:
-    """What `Saga` has for included sagas, and for steps that come from its input.
+    """The part of `Saga` for included sagas and for steps that come from its input.
 
     Attributes:
         name: Its name.
@@ -69,19 +69,19 @@ class Inclusions:
         when: Callable[[Any], Any] | None = None,
         for_each: ForEach | None = None,
     ) -> Inclusion:
-        """Have the steps of another saga within this one, under one plan.
+        """Include the steps of another saga in this one, under one plan.
 
         The step `room` of an inclusion `hotel` has the name `hotel-room`. The functions of the
         included saga see only its own input and its own steps.
 
         Args:
-            saga: The saga, which may include others. It can be started by itself, too.
+            saga: The saga, which may include others. It can also be started on its own.
             name: The inclusion's name (default: the saga's).
             needs: As of `Saga.step`: what commits before any step of the included saga.
             input: Of the included saga: the name of a part of the input, or a function of the
                 input; with `for_each` of the item (default: the input itself, or the item).
-            given: A plain function of the task, as a step here would have it. The functions of the
-                included saga read what it returns as `task.given` (default: None).
+            given: A plain function of the task that a step here would get. The functions of the
+                included saga read its result as `task.given` (default: None).
             when: As of `Saga.step` (default: it is always there).
             for_each: As of `Saga.step`: the saga is included once for each item (default: once).
 
@@ -91,18 +91,18 @@ class Inclusions:
         Raises:
             DefinitionError: An argument is not valid.
         """
-        of: Any = self
+        outer: Any = self
         validation.check_given(saga)
         where = validation.caller(2)
-        named = saga.name if name is None else name
-        needed = validation.listed(needs, of, named, where)
+        inclusion_name = saga.name if name is None else name
+        needed = validation.listed(needs, outer, inclusion_name, where)
         make = Inclusion if for_each is None else FanOutInclusion
-        inclusion = make(of, saga, named, where, needed, input, given, for_each, when)
+        inclusion = make(outer, saga, inclusion_name, where, needed, input, given, for_each, when)
         shape_validation.check_inclusion(inclusion)
         collection.mark(needed)
         self.parts.append(inclusion)
-        saga.outers.append(of)
-        of.has_children = of.has_children or saga.has_children
+        saga.outers.append(outer)
+        outer.has_children = outer.has_children or saga.has_children
         return inclusion
 
     @property
@@ -115,7 +115,7 @@ class Inclusions:
 
     @property
     def calls_functions(self) -> bool:
-        """Whether functions say which steps it has for an input, or what they cost."""
+        """Whether functions of the input determine its steps or their costs."""
         return any(
             callable(part.for_each)
             or part.when is not None
@@ -133,25 +133,25 @@ class Inclusions:
         return {part.name: part for part in self.parts}
 
     def outer(self, name: str, version: int) -> Saga | None:
-        """Find this saga, or one that includes it, directly or not.
+        """Return this saga, or one that includes it, directly or not.
 
         Args:
-            name: The name of the saga that is looked for.
+            name: The name of the saga to return.
             version: Its version.
 
         Returns:
             The saga, or None.
         """
-        of: Any = self
+        saga: Any = self
         if (self.name, self.version) == (name, version):
-            found: Saga = of
-            return found
-        tried = (outer.outer(name, version) for outer in self.outers)
-        return next((one for one in tried if one is not None), None)
+            match: Saga = saga
+            return match
+        candidates = (outer.outer(name, version) for outer in self.outers)
+        return next((candidate for candidate in candidates if candidate is not None), None)
 
     @property
     def declared_steps(self) -> Iterator[tuple[str, Step[Any]]]:
-        """Its steps, and those of included sagas, by declared name: `hotel/room`."""
+        """Its steps and those of included sagas, with their declared names: `hotel/room`."""
         for part in self.parts:
             if isinstance(part, Inclusion):
                 for name, step in part.inner.declared_steps:
@@ -170,6 +170,6 @@ class Inclusions:
 
     @property
     def input_decoder(self) -> Decoder | None:
-        """How its input is read by the functions that make steps and costs of it."""
-        of: Any = self
-        return item_types.input_decoder(of)
+        """The decoder of its input, for the functions that determine steps and costs."""
+        saga: Any = self
+        return item_types.input_decoder(saga)

@@ -1,7 +1,6 @@
-"""Equality of inputs under the present types.
+"""Equality of two inputs of a saga under its present types.
 
-Whether two inputs are the same to a saga, as its present types have them: a stored one may be
-older than a field.
+A stored input may be older than a field of its type, so it is decoded before it is compared.
 """
 
 from __future__ import annotations
@@ -16,64 +15,73 @@ if TYPE_CHECKING:
 
 
 class HasSteps(Protocol):
-    """A saga, or its definition on a shelf."""
+    """A saga, or a compiled definition."""
 
     @property
     def steps(self) -> list[Step[Any]] | list[Step[Any] | None]:
         ...
 
 
-def differences(kind: HasSteps, one: str, other: str) -> list[str]:
-    """The ways to what differs in two inputs. None where the types of all that read them make the
-    same of both; where something reads them without a type, what
-    no type knows counts as well. A value that cannot be read is as it is."""
-    decoders, is_whole = _readers(kind)
-    here, there = serialization.read(one), serialization.read(other)
+def differences(definition: HasSteps, first: str, second: str) -> list[str]:
+    """Return the paths of the values in which two inputs differ.
+
+    The list is empty if the decoders of all functions make equal values of both inputs. If some
+    function reads the input without a type, fields that no type declares are compared as well. If
+    a decoder fails, the inputs are compared as JSON.
+
+    Args:
+        definition: The saga or its definition.
+        first: An input as JSON.
+        second: Another input as JSON.
+    """
+    decoders, is_complete = _readers(definition)
+    values = serialization.read(first), serialization.read(second)
     if not decoders:
-        return list(mismatches.differences(here, there))
-    found: dict[str, None] = {}
+        return list(mismatches.differences(*values))
+    paths: dict[str, None] = {}
     for decoder in decoders:
-        made = _made(one, decoder), _made(other, decoder)
-        if made[0] is None or made[1] is None:
-            return list(mismatches.differences(here, there))
-        pair = (serialization.read(made[0]), serialization.read(made[1]))
-        if not is_whole:
-            pair = (_over(here, pair[0]), _over(there, pair[1]))
-        found |= dict.fromkeys(mismatches.differences(*pair))
-    return list(found)
+        normalized = _normalized(first, decoder), _normalized(second, decoder)
+        if normalized[0] is None or normalized[1] is None:
+            return list(mismatches.differences(*values))
+        pair = serialization.read(normalized[0]), serialization.read(normalized[1])
+        if not is_complete:
+            pair = _merged(values[0], pair[0]), _merged(values[1], pair[1])
+        paths |= dict.fromkeys(mismatches.differences(*pair))
+    return list(paths)
 
 
-def _readers(kind: HasSteps) -> tuple[list[Decoder], bool]:
-    """How the steps, and their compensations, read their input, and whether each does by a type."""
-    found: dict[Any, Decoder] = {}
-    is_whole = True
-    for step in kind.steps:
+def _readers(definition: HasSteps) -> tuple[list[Decoder], bool]:
+    """Return the decoders of the functions' inputs, and whether each function has one."""
+    by_hint: dict[Any, Decoder] = {}
+    is_complete = True
+    for step in definition.steps:
         for manner in (step.run, step.undo) if step else ():
             if manner.function is None:
-                is_whole = is_whole and not manner.external
+                is_complete = is_complete and not manner.external
             elif not manner.implied:
                 hint = decoders.input_hint(manner.function)
                 decoder = decoders.decoder(hint)
-                is_whole = is_whole and decoder is not None
+                is_complete = is_complete and decoder is not None
                 if decoder:
-                    found[repr(hint), id(hint)] = decoder
-    return list(found.values()), is_whole
+                    by_hint[repr(hint), id(hint)] = decoder
+    return list(by_hint.values()), is_complete
 
 
-def _made(text: str, decoder: Decoder) -> str | None:
-    """A value as its type makes it, written anew. None where it cannot be read."""
+def _normalized(text: str, decoder: Decoder) -> str | None:
+    """Return the JSON of a value after decoding it; None if it cannot be decoded."""
     try:
         return serialization.write(decoder(serialization.read(text)))
     except Exception:  # of the type's own code
         return None
 
 
-def _over(whole: Any, made: Any) -> Any:
-    """What a type makes of a value, and what of it the type does not know."""
-    if isinstance(whole, dict) and isinstance(made, dict):
-        return whole | {
-            name: _over(whole[name], part) if name in whole else part for name, part in made.items()
+def _merged(value: Any, normalized: Any) -> Any:
+    """Return a normalized value with those fields that its type does not have."""
+    if isinstance(value, dict) and isinstance(normalized, dict):
+        return value | {
+            name: _merged(value[name], part) if name in value else part
+            for name, part in normalized.items()
         }
-    if isinstance(whole, list) and isinstance(made, list) and len(whole) == len(made):
-        return [_over(one, other) for one, other in zip(whole, made)]
-    return made
+    if isinstance(value, list) and isinstance(normalized, list) and len(value) == len(normalized):
+        return [_merged(item, part) for item, part in zip(value, normalized)]
+    return normalized

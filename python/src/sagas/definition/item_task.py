@@ -33,5 +33,5 @@ class ItemTask(Task[I], Generic[I, T]):
     @property
     def item(self) -> T:
         """As of `Task`."""
-        found: T = super().item
-        return found
+        item: T = super().item
+        return item

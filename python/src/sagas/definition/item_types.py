@@ -1,4 +1,4 @@
-"""The types of a saga's input and of its items, by the hints of its functions."""
+"""The types of a saga's input and items, from the type hints of its functions."""
 
 from __future__ import annotations
 
@@ -19,7 +19,7 @@ DICTS = (dict, collections.abc.Mapping)
 
 
 def input_hint(saga: Saga) -> Any:
-    """The type of a saga's input: what it was declared with, else that of the first hint."""
+    """Return the type of a saga's input: declared, or of the first type hint."""
     if saga.input_type is not None:
         return saga.input_type
     functions = (step.run.function for step in saga.steps if step.run.function)
@@ -28,32 +28,32 @@ def input_hint(saga: Saga) -> Any:
 
 
 def input_decoder(saga: Saga) -> Decoder | None:
-    """How a saga's input is read by the functions that make its shape."""
+    """Return the decoder of a saga's input for the functions that compute its shape."""
     return decoders.decoder(input_hint(saga))
 
 
 def item_decoder(part: Part) -> Decoder | None:
-    """How the items of a fan-out are read."""
+    """Return the decoder of the items of a fan-out."""
     return decoders.decoder(_item_hint(part))
 
 
 def _item_hint(part: Part) -> Any:
-    """What the step's function says, else what `for_each` returns."""
+    """Return the item's type: of the hint `ItemTask[..., T]`, else of `for_each`."""
     from sagas.definition.step import Step
 
     if isinstance(part, Step) and part.run.function:
-        told = decoders.task_hints(part.run.function)
-        if len(told) > 1:
-            return told[1]
-    of = part.for_each
-    whole = _by_name(input_hint(part.saga), of) if isinstance(of, str) else _returned(of)
-    return _inside(whole)
+        arguments = decoders.task_hints(part.run.function)
+        if len(arguments) > 1:
+            return arguments[1]
+    items = part.for_each
+    hint = _by_name(input_hint(part.saga), items) if isinstance(items, str) else _returned(items)
+    return _inside(hint)
 
 
 def _hints(function: Any) -> dict[str, Any]:
     try:
         return typing.get_type_hints(inspect.unwrap(function))
-    except Exception:  # a name that is only there for the checker, or it is no function
+    except Exception:  # only a type checker imports a name, or it is not a function
         return {}
 
 
@@ -62,19 +62,19 @@ def _returned(function: Any) -> Any:
 
 
 def _by_name(hint: Any, path: str) -> Any:
-    """The type of a part of a value: `hotel.rooms`."""
-    for word in path.split("."):
+    """Return the type of a part of a value, for a path such as `hotel.rooms`."""
+    for name in path.split("."):
         if not isinstance(hint, type):
             return None
-        hint = _hints(hint).get(word)
+        hint = _hints(hint).get(name)
     return hint
 
 
 def _inside(hint: Any) -> Any:
-    """The type of the items of a list or a dict."""
-    origin, words = typing.get_origin(hint), typing.get_args(hint)
-    if origin in LISTS and words:
-        return words[0]
-    if origin in DICTS and len(words) == 2:
-        return words[1]
+    """Return the type of the items of a list or a dict."""
+    origin, arguments = typing.get_origin(hint), typing.get_args(hint)
+    if origin in LISTS and arguments:
+        return arguments[0]
+    if origin in DICTS and len(arguments) == 2:
+        return arguments[1]
     return None

@@ -1,4 +1,4 @@
-"""Steps that the package puts between two fan-outs each of whose items needs all of the other's."""
+"""Joining steps between two fan-outs: each item of one needs all of the other."""
 
 from __future__ import annotations
 
@@ -11,15 +11,15 @@ if TYPE_CHECKING:
     from sagas.definition.saga import Saga
 
 ENDING = "--all"
-"""Behind the name of the part of which such a step needs all."""
+"""The ending of the name of a joining step, after the name of the part that it joins."""
 
 
 async def _join(task: Task[Any]) -> None:
-    """Does nothing: what needs it needs all that it needs."""
+    """Do nothing: the step exists for its needs."""
 
 
 def step_of(saga: Saga, name: str) -> Step[Any] | None:
-    """Return the step with a name that ends so; None where there is no such part."""
+    """Return the joining step with this name, or None if the saga has no such part."""
     part = saga.parts_by_name.get(name.removesuffix(ENDING))
     if part is None or not name.endswith(ENDING):
         return None

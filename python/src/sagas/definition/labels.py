@@ -1,4 +1,4 @@
-"""Labels of sagas: names and values by which sagas are found."""
+"""Labels of sagas: names and values that filters select by."""
 
 from __future__ import annotations
 
@@ -10,8 +10,11 @@ from sagas.definition.arguments import shown
 
 Labels = Mapping[str, str]
 TOKEN = "=token"
-"""Stands among the labels of a saga that a service started, with the bytes of its input and the
-name of the token. No label of a caller has this name, and none is shown."""
+"""The name of a hidden label of sagas that a service started.
+
+Its value is the size of the input in bytes and the name of the token. Callers cannot set it, and no
+list shows it.
+"""
 NONE: dict[str, str] = {}
 MOST_LABELS, MOST_NAME, MOST_VALUE = 16, 64, 256
 RULE = (
@@ -21,34 +24,34 @@ RULE = (
 
 
 def with_token(labels: Labels, token: str, size: int) -> Labels:
-    """Labels, and who started the saga."""
+    """Return labels with the hidden one: the token of the start, and the input's size."""
     return {**labels, TOKEN: f"{size} {token}"}
 
 
-def is_text(value: Any, most: int) -> bool:
-    """Whether a value is a printable text of so many characters."""
-    return isinstance(value, str) and 0 < len(value) <= most and value.isprintable()
+def is_text(value: Any, maximum: int) -> bool:
+    """Return whether a value is a printable text of 1 to `maximum` characters."""
+    return isinstance(value, str) and 0 < len(value) <= maximum and value.isprintable()
 
 
 def selecting(labels: Any) -> Labels:
-    """As `checked`, of a filter for a command: an empty one would mean every saga.
+    """Return the labels of a filter for a command that changes sagas.
 
     Raises:
-        InvalidLabel: They are not as `RULE` says, or there are none.
+        InvalidLabel: They break `RULE`, or are empty and would select every saga.
     """
     if labels is not None and not checked(labels):
         raise InvalidLabel(
-            "labels={} selects every saga, and nothing was changed. Leave labels= out to mean "
-            "every saga, or name a label"
+            "labels={} selects every saga, and nothing was changed. Omit labels= to select every "
+            "saga, or name a label"
         )
     return checked(labels)
 
 
 def checked(labels: Any) -> Labels:
-    """Return labels as given to `start` or to a filter; None is none.
+    """Return the labels of a start or of a filter, checked and sorted.
 
     Raises:
-        InvalidLabel: They are not as `RULE` says.
+        InvalidLabel: They break `RULE`.
     """
     if labels is None:
         return NONE

@@ -1,4 +1,4 @@
-"""Which steps a declared one means, in a definition that comes from an input."""
+"""`Layout`: the steps of a definition from an input, by their declared steps."""
 
 from __future__ import annotations
 
@@ -10,12 +10,12 @@ if TYPE_CHECKING:
     from sagas.definition.shape_values import ShapeValues
 
 Scope = tuple[tuple[str, "int | None"], ...]
-"""The inclusions in which a step is, from the outermost, each with the number of its item."""
-WORD = re.compile(r"([a-z][a-z0-9_-]*)(?:\[(\d+)\])?\Z")
+"""The inclusions around a step, the outermost first, each with the number of its item."""
+ORIGIN_PART = re.compile(r"([a-z][a-z0-9_-]*)(?:\[(\d+)\])?\Z")
 
 
-class Spot(NamedTuple):
-    """Where a step comes from: its inclusions, its declared name, and the number of its item."""
+class StepOrigin(NamedTuple):
+    """The origin of a step: its inclusions, declared name and item's number."""
 
     scope: Scope
     name: str
@@ -23,109 +23,126 @@ class Spot(NamedTuple):
 
     @property
     def declared(self) -> str:
-        """The declared step, for people and labels: `hotel/room`, whatever the item."""
+        """The declared step without numbers of items, for people and labels: `hotel/room`."""
         return "/".join([*(name for name, _ in self.scope), self.name])
 
     @property
-    def word(self) -> str:
-        """The same with the numbers of items: `hotel/room[2]`."""
-        return "/".join([_word(*part) for part in (*self.scope, (self.name, self.number))])
+    def path(self) -> str:
+        """The declared step with the numbers of items: `hotel/room[2]`."""
+        return "/".join([_path_part(*part) for part in (*self.scope, (self.name, self.number))])
 
     @property
     def group(self) -> str:
-        """All items of it, by the name under which they are kept: `car[1]/room`."""
-        return Spot(self.scope, self.name).word
+        """The key under which `ShapeValues` keeps the items: `car[1]/room`."""
+        return StepOrigin(self.scope, self.name).path
 
 
-def _word(name: str, index: int | None) -> str:
+def _path_part(name: str, index: int | None) -> str:
     return name if index is None else f"{name}[{index}]"
 
 
-def spot_of(word: str) -> Spot:
-    """Return the spot that a word means.
+def parse_origin(path: str) -> StepOrigin:
+    """Return the origin with this path.
 
     Raises:
-        ValueError: It means none.
+        ValueError: It is not the path of an origin.
     """
-    found = [WORD.match(part) for part in word.split("/")]
-    parts = [(one[1], None if one[2] is None else int(one[2])) for one in found if one]
-    if len(parts) < len(found):
-        raise ValueError(f"{word!r} is not the place of a step")
-    return Spot(tuple(parts[:-1]), *parts[-1])
+    matches = [ORIGIN_PART.match(part) for part in path.split("/")]
+    parts = [(match[1], None if match[2] is None else int(match[2])) for match in matches if match]
+    if len(parts) < len(matches):
+        raise ValueError(f"{path!r} is not the path of a step")
+    return StepOrigin(tuple(parts[:-1]), *parts[-1])
 
 
 class Layout:
-    """The steps of a definition, by what was declared.
+    """The steps of a definition, by the declared steps that they come from.
 
     Attributes:
-        spots: Where each step comes from, by its name, in order.
+        origins: The origins of the steps, by name, in order.
     """
 
     def __init__(
-        self, names: Sequence[str], spots: Sequence[Spot], giving: Collection[str] = ()
+        self, names: Sequence[str], origins: Sequence[StepOrigin], giving: Collection[str] = ()
     ) -> None:
-        self.spots, self._giving = dict(zip(names, spots)), giving
+        self.origins, self._giving = dict(zip(names, origins)), giving
         self._groups: dict[tuple[Scope, str], dict[int | None, str]] = {}
-        for name, spot in self.spots.items():
-            self._groups.setdefault((spot.scope, spot.name), {})[spot.number] = name
+        for name, origin in self.origins.items():
+            self._groups.setdefault((origin.scope, origin.name), {})[origin.number] = name
 
     def gives(self, scope: Scope) -> bool:
-        """Whether a function gives something to the saga in a scope, or to one around it."""
+        """Return whether an inclusion of a scope has a function `given=`."""
         names = [name for name, _ in scope]
         return any("/".join(names[: depth + 1]) in self._giving for depth in range(len(names)))
 
     def prefix(self, scope: Scope) -> str:
-        """What the names of the steps in a scope begin with."""
+        """Return the common beginning of the names of the steps in a scope."""
         return "".join(f"{name}-" if at is None else f"{name}-{at}-" for name, at in scope)
 
     def name(self, scope: Scope, name: str, index: int | None) -> str:
-        """The whole name of a step in a scope."""
+        """Return the full name of a step in a scope."""
         return self.prefix(scope) + name + ("" if index is None else f"-{index}")
 
     def within(self, scope: Scope) -> Iterator[tuple[str, str]]:
-        """The steps in a scope, and in what is included there: each by its name there, and by the
-        whole one.
+        """Yield the steps in a scope and in the scopes within it.
+
+        Each is a pair: the name relative to the scope, and the full name.
         """
         count, cut = len(scope), len(self.prefix(scope))
-        for name, spot in self.spots.items():
-            if spot.scope[:count] == scope:
+        for name, origin in self.origins.items():
+            if origin.scope[:count] == scope:
                 yield name[cut:], name
 
     def own(self, scope: Scope, name: str, index: int | None) -> str:
-        """The step of this item. Raises `KeyError`."""
-        found = self._groups.get((scope, name), {}).get(index)
-        if found is None:
-            raise KeyError(f"step {Spot(scope, name, index).word!r} is not there for this input")
-        return found
-
-    def gather(
-        self, scope: Scope, path: Sequence[str], values: ShapeValues, one: Callable[[str], Any]
-    ) -> Any:
-        """Return what `one` gives of each step that a path leads to, from a scope: of a single
-        step that; of a fan-out a list, or a dict by the keys of its items.
+        """Return the full name of a declared step's item.
 
         Raises:
-            KeyError: No such step is there.
+            KeyError: The definition has no such step.
+        """
+        step = self._groups.get((scope, name), {}).get(index)
+        if step is None:
+            raise KeyError(
+                f"step {StepOrigin(scope, name, index).path!r} does not exist for this input"
+            )
+        return step
+
+    def gather(
+        self, scope: Scope, path: Sequence[str], values: ShapeValues, value_of: Callable[[str], Any]
+    ) -> Any:
+        """Return the values of the steps that a path selects.
+
+        Args:
+            scope: The scope in which the path begins.
+            path: The names of inclusions, and last that of a declared step.
+            values: The stored values of the saga's shape.
+            value_of: Returns the value of a step, given its full name.
+
+        Returns:
+            The value of a single step. For a fan-out a list, or a dict by the keys of the items.
+
+        Raises:
+            KeyError: The definition has no such step.
         """
         name, *rest = path
         count = values.count(scope, name)
         if not rest:
             if count is None:
-                return one(self.own(scope, name, None))
-            found = [one(self.own(scope, name, index)) for index in range(count)]
+                return value_of(self.own(scope, name, None))
+            gathered = [value_of(self.own(scope, name, index)) for index in range(count)]
         else:
             if count is None:
-                return self.gather((*scope, (name, None)), rest, values, one)
-            found = [
-                self.gather((*scope, (name, index)), rest, values, one) for index in range(count)
+                return self.gather((*scope, (name, None)), rest, values, value_of)
+            gathered = [
+                self.gather((*scope, (name, index)), rest, values, value_of)
+                for index in range(count)
             ]
         keys = values.keys_of(scope, name)
-        return found if keys is None else dict(zip(keys, found))
+        return gathered if keys is None else dict(zip(keys, gathered))
 
 
-class ToldLayout(Layout):
-    """The same for a worker elsewhere, which knows the numbers of items, and no other steps than
-    those that have results.
+class RemoteLayout(Layout):
+    """The layout for a worker outside of the store.
+
+    It knows the numbers of items, but not the names of the steps. It computes them.
     """
 
     def __init__(self, values: ShapeValues) -> None:
@@ -133,7 +150,13 @@ class ToldLayout(Layout):
         self._values = values
 
     def own(self, scope: Scope, name: str, index: int | None) -> str:
-        """As of `Layout`; whether there is such a step, only the results tell."""
+        """Return the full name of a declared step's item, which may have no result.
+
+        Raises:
+            KeyError: Only one of the step and the arguments has items.
+        """
         if (index is None) != (self._values.count(scope, name) is None):
-            raise KeyError(f"step {Spot(scope, name, index).word!r} is not there for this input")
+            raise KeyError(
+                f"step {StepOrigin(scope, name, index).path!r} does not exist for this input"
+            )
         return self.name(scope, name, index)

@@ -1,4 +1,4 @@
-"""Fan-outs and included sagas, and what names their steps."""
+"""Fan-outs and included sagas, and the selections of their steps."""
 
 from __future__ import annotations
 
@@ -20,7 +20,7 @@ R = TypeVar("R")
 T = TypeVar("T")
 
 ForEach = Union[str, Callable[[Any], Union[Sequence[Any], Mapping[str, Any]]]]
-"""The name of a part of the input, or a function of the input: a list of items, or a dict."""
+"""The items: the name of a list or a dict in the input, or a function that returns one."""
 
 
 class Each(Selection[R]):
@@ -41,7 +41,7 @@ class Each(Selection[R]):
 
     @property
     def is_own(self) -> bool:
-        """It is."""
+        """Whether only the step of the same item is selected: always."""
         return True
 
     def __repr__(self) -> str:
@@ -49,7 +49,7 @@ class Each(Selection[R]):
 
 
 class FanOut(Step[C], Generic[C, R]):
-    """Hold a step that is there once for each item, whose function returns `R`.
+    """Hold a step that exists once for each item, whose function returns `R`.
 
     Made by `Saga.step` and its like with `for_each=`. Its results are a `C`: a list, or a dict by
     the keys of the items.
@@ -86,7 +86,7 @@ class Inclusion:
         inner: The saga that is included.
         name: The inclusion's name.
         where: File and line of the declaration.
-        input: What is the included saga's input, as given to `Saga.include`.
+        input: The included saga's input, as given to `Saga.include`.
         given: As given to `Saga.include`.
         for_each: As given to `Saga.include`.
         when: As given to `Saga.include`.
@@ -139,7 +139,7 @@ class FanOutInclusion(Inclusion):
         return Each(self)
 
     def __getitem__(self, step: Selection[R]) -> Selection[Any]:
-        """Return a step of all these included sagas: its result is a list, or a dict by the keys.
+        """Return a step of all these sagas, whose result is a list or a dict.
 
         Args:
             step: The step, as the included saga knows it.
@@ -148,7 +148,7 @@ class FanOutInclusion(Inclusion):
 
 
 class DeclareEach(Protocol[T]):
-    """What `saga.step(for_each=..)` gives: a decorator that makes a fan-out over a list."""
+    """The type of `saga.step(for_each=...)` over a list: a decorator."""
 
     @overload
     def __call__(
@@ -162,7 +162,7 @@ class DeclareEach(Protocol[T]):
 
 
 class DeclareKeyed(Protocol[T]):
-    """What `saga.step(for_each=..)` gives: a decorator that makes a fan-out over a dict."""
+    """The type of `saga.step(for_each=...)` over a dict: a decorator."""
 
     @overload
     def __call__(
@@ -177,4 +177,4 @@ class DeclareKeyed(Protocol[T]):
 
 Part = Union[Step[Any], Inclusion]
 Need = Union[Step[Any], Each[Any], Inclusion, Collection[Any], str]
-"""What `needs=` has: steps, inclusions, those of the same item, collections, or their names."""
+"""An entry of `needs=`: a step, an inclusion, either of the same item, a collection, or a name."""

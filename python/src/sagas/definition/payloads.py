@@ -1,4 +1,4 @@
-"""How inputs and results are stored: as JSON, or as what a codec makes of it."""
+"""Stored forms of inputs and results: JSON, or the output of a codec."""
 
 from __future__ import annotations
 
@@ -11,42 +11,42 @@ from sagas.base.errors import CannotDecode, NotSerializable
 from sagas.definition.blobs import Reference
 
 ENVELOPE = re.compile(r'\{"\$codec":"([A-Za-z0-9+/]*={0,2})"\}\Z')
-"""A stored value that a codec made. It is JSON, so that programs without the codec can list it."""
+"""A stored value that a codec encoded. It is JSON, so programs without the codec can list it."""
 ESCAPED = '{"$plain":'
-"""What a stored value begins with that would else be taken for another one."""
+"""The beginning of a stored value that is escaped, because it begins as a reserved one."""
 ABSENT = '{"$absent":true}'
-"""Stands for a stored value that is not held in memory; it is never stored."""
+"""The placeholder of a stored value that is not in memory. It is never stored."""
 RESERVED = ('{"$codec":', '{"$blob":', '{"$absent":', ESCAPED)
-"""What no value begins with as it is stored."""
+"""The beginnings of stored texts that are not plain values."""
 
 
 class Codec(Protocol):
     """Encode inputs and results before they are stored, for example to encrypt them.
 
-    Made by you, with these two functions. Both are called in the event loop and in threads, so
-    they have to be fast.
+    Made by you, as a class with these two functions. Both are called in the event loop and in
+    threads, so they must be fast.
     """
 
     def encode(self, data: bytes, /) -> bytes:
-        """Return what is stored in place of a value.
+        """Return the bytes to store for a value.
 
         Args:
             data: The value as JSON, in UTF-8.
         """
 
     def decode(self, data: bytes, /) -> bytes:
-        """Return the value of which `encode` made this, also if an older key was used.
+        """Return the value that `encode` encoded, possibly with an older key.
 
         Args:
-            data: What `encode` returned.
+            data: The bytes that `encode` returned.
         """
 
 
 class Payloads:
-    """Encodes and decodes the JSON texts of a store.
+    """Encode and decode the JSON texts of a store.
 
-    A value that only looks as what is stored in place of one is escaped, so that it is read as the
-    data that it is. With a codec, texts of a time without it can still be read.
+    A plain value that begins as a reserved one is escaped, so that it is read as plain data. With
+    a codec, texts that were stored without one can still be read.
     """
 
     def __init__(self, codec: Codec | None = None, has_blobs: bool = False) -> None:
@@ -54,19 +54,19 @@ class Payloads:
 
     @property
     def reads(self) -> bool:
-        """Whether what is stored may be something else than the value."""
+        """Whether there is a codec or a blob store, so that texts may differ."""
         return self.codec is not None or self.has_blobs
 
     def is_encoded(self, text: str) -> bool:
-        """Whether a codec made a stored text, and this program has one."""
+        """Return whether a codec encoded a stored text, and this program has one."""
         return self.codec is not None and ENVELOPE.match(text) is not None
 
     def changes(self, text: str) -> bool:
-        """Whether a value is stored as another text."""
+        """Return whether the stored text of a value differs from its JSON."""
         return self.codec is not None or text.startswith(RESERVED)
 
     def encode(self, text: str) -> str:
-        """Return a text as it is stored.
+        """Return the stored text of a value, given its JSON.
 
         Raises:
             NotSerializable: The codec failed.
@@ -75,18 +75,17 @@ class Payloads:
             return f"{ESCAPED}{text}}}" if text.startswith(RESERVED) else text
         try:
             data = base64.b64encode(self.codec.encode(text.encode())).decode()
-        except Exception as error:  # of the codec, which may have the value in its text
+        except Exception as error:  # of the codec: its message may contain the value
             raise NotSerializable(
                 f"the codec could not encode it: {type(error).__name__}"
             ) from None
         return f'{{"$codec":"{data}"}}'
 
     def decode(self, text: str) -> str:
-        """Return a text as it was before it was stored.
+        """Return the JSON of a value, given its stored text.
 
         Raises:
-            CannotDecode: The codec failed, or there is none: a key is not there, say. Or it refers
-                to a blob that is missing.
+            CannotDecode: The codec failed or is missing, or the text refers to a missing blob.
         """
         if not text.startswith(RESERVED):
             return text
@@ -100,19 +99,21 @@ class Payloads:
         if envelope is None:
             return text
         if self.codec is None:
-            raise CannotDecode("it is encoded, and this program has no codec. Give it codec=")
+            raise CannotDecode("it is encoded, and this program has no codec. Set codec=")
         try:
             return self.codec.decode(base64.b64decode(envelope[1])).decode()
         except Exception as error:
             raise CannotDecode(f"the codec could not decode it: {type(error).__name__}") from None
 
     def is_same(self, text: str, stored: str) -> bool:
-        """Return whether two stored texts are of one value: a large one is known by its digest,
-        since it may be in the blob store meanwhile, and a codec may encode it in many ways.
+        """Return whether two stored texts have the same value.
+
+        A codec may encode a value differently each time. A large value is compared by its digest,
+        since one of the texts may refer to the blob store.
 
         Args:
-            text: A stored text that is no reference.
-            stored: Another one, or a reference to a blob.
+            text: A stored text that is not a reference.
+            stored: Another stored text, or a reference to a blob.
         """
         if text == stored:
             return True
@@ -125,32 +126,32 @@ class Payloads:
             return False
 
     def encode_value(self, value: Any) -> Any:
-        """As `encode`, of a value that is a part of another one."""
+        """Return the encoded form of a value that is a part of a stored value."""
         text = json.dumps(value, separators=(",", ":"))
         return json.loads(self.encode(text)) if self.changes(text) else value
 
     def decode_value(self, value: Any) -> Any:
-        """As `decode`, of a value that is a part of another one."""
+        """Return the decoded form of a value that is a part of a stored value."""
         text = json.dumps(value, separators=(",", ":"))
         return json.loads(self.decode(text)) if text.startswith(RESERVED) else value
 
     def read(self, text: str) -> Any:
-        """The value of a text that is stored. A reference to a blob stays as it is.
+        """Return the value of a stored text. A reference to a blob is not followed.
 
         Raises:
-            CannotDecode: As of `decode`.
+            CannotDecode: As `decode`.
         """
         return json.loads(text if Reference.of(text) else self.decode(text))
 
 
 def shown(value: Any) -> Any:
-    """As `unescaped`, of a value that was read."""
+    """Return the parsed value of a stored text without its escape."""
     is_escaped = isinstance(value, dict) and [*value] == ["$plain"]
     return value["$plain"] if is_escaped else value
 
 
 def unescaped(text: str) -> str:
-    """A text that is stored, for programs that only show it: an encoded value stays so."""
+    """Return a stored text without its escape, for display, still encoded."""
     return text[len(ESCAPED) : -1] if text.startswith(ESCAPED) else text
 
 
@@ -158,10 +159,10 @@ PLAIN = Payloads()
 
 
 def checked(codec: Any, has_blobs: bool = False) -> Payloads:
-    """Return how values are stored, by an argument `codec`, and whether there are blobs.
+    """Return the payloads of a store, after checking its argument `codec`.
 
     Raises:
-        TypeError: It is no codec.
+        TypeError: It is not a codec.
     """
     if codec is not None:
         for name in ("encode", "decode"):

@@ -47,18 +47,19 @@ T = TypeVar("T")
 
 
 class Saga(WaitSteps, Inclusions):
-    """Declare a kind of saga: a name, a version, and its steps in order.
+    """Declare a type of saga: a name, a version, and its steps in order.
 
-    Sagas of an older version go on by its functions, as long as `open` is given both versions.
+    Open sagas of an older version continue with its functions, as long as `open` gets both
+    versions.
 
     Args:
         name: 1 to 32 characters a-z, 0-9, `_` or `-`, the first one a letter.
         version: A whole number from 1 (default: 1). Raise it if the definition's meaning changes.
         deadline: Seconds, or a timedelta, from the start of a saga, after which it is aborted if it
-            has not ended (default: none). `Store.start` may say another one.
-        fair_by: A function of the input, as JSON has it, whose result names a tenant. The slots of
+            has not ended (default: none). `Store.start` may set another one.
+        fair_by: A function of the input as a JSON value, whose result names a tenant. The slots of
             `open(concurrency=...)` are shared among tenants in turn (default: None).
-        input: The type of the input, for the functions that make steps and costs of it (default:
+        input: The type of the input, for the functions that compute steps and costs (default:
             the hint of the first step that has one).
 
     Attributes:
@@ -320,7 +321,7 @@ class Saga(WaitSteps, Inclusions):
     ) -> Any:
         """Declare a function as a step, by `@saga.step` or `@saga.step(...)`.
 
-        The function gets a `Task`. It may be called again, for example after a crash: hand
+        The function gets a `Task`. It may be called again, for example after a crash: send
         `task.idempotency_key` to services. Its result is stored as JSON before a step that needs it
         starts. If it raises, it had no effect, except for the exceptions in `unknown`. Plain
         functions run in threads; async ones run in the event loop, and must not block it.
@@ -332,7 +333,8 @@ class Saga(WaitSteps, Inclusions):
             run: Cost of running it, if a plan finds it not started (default: 0). Each of the costs
                 may be a function of the input that returns it, when the saga is started.
             undo: Cost of undoing it (default: 0 with a compensation, else `NEVER`). With `NEVER`,
-                neither it nor what it needs is undone; 0 alone: there is nothing to undo.
+                neither this step nor the steps that it needs are undone. Set 0 without a
+                compensation if there is nothing to undo.
             skip: Cost of ending without it (default: 0). `NEVER`: it is mandatory.
             keep: Cost of leaving its effect in place after a failure (default: 0).
             tries: Maximum number of attempts, 1 to 9 (default: 1).
@@ -344,31 +346,31 @@ class Saga(WaitSteps, Inclusions):
             max_unknown: After more unknown outcomes, or this timedelta since the first, wait for
                 `Store.complete` or `Store.fail` (default: repeat without end).
             concurrency: Maximum concurrent calls in this program (default: no limit).
-            transaction: Over PostgreSQL, `task.connection` is a psycopg connection. What you write
-                there commits with the result, so exactly once (default: False).
+            transaction: Over PostgreSQL, `task.connection` is a psycopg connection. Rows that you
+                write there commit with the result, so exactly once (default: False).
             external: The work is done elsewhere (default: False). Give `name`, and no function;
                 `Store.complete`, `Store.fail` or a `Worker` reports the outcome.
             queue: A `sagas.celery.Queue` whose workers call it (default: this program).
             fleet_concurrency: Maximum concurrent calls over all nodes (default: no limit).
-            rate_limit: `(calls, seconds)`: calls that may start in such a time, over all nodes.
-                Retries count; compensations have neither limit (default: no limit).
+            rate_limit: `(calls, seconds)`: the maximum number of calls that start in any such
+                period, over all nodes. Retries count; compensations have neither limit (default:
+                no limit).
             on_exhausted: What follows the last attempt: `fail`, `ask` (wait for `Store.retry`,
-                `Store.complete` or `Store.fail`) or `retry` (go on with the longest pauses, without
-                end). `Fail` fails the step in any case (default: `fail`).
-            max_attempts: Number of attempts, where 9 are too few (default: `tries`).
-            concurrency_by: A function of the input. `concurrency` and `fleet_concurrency` then hold
-                for each of its results by itself: an account, say (default: None).
+                `Store.complete` or `Store.fail`) or `retry` (retry without end, with the longest
+                pause). `Fail` fails the step in any case (default: `fail`).
+            max_attempts: Maximum number of attempts if 9 are too few (default: `tries`).
+            concurrency_by: A function of the input. `concurrency` and `fleet_concurrency` then
+                apply separately to each result, for example to each account (default: None).
             for_each: The name of a list or a dict in the input, or a function of the input that
-                returns one: the step is there once for each item (default: once). Then
-                `task.item` and `task.index` are there, costs may be functions of the item, and
-                `needs=[ship.each]` of another step with the same `for_each` means that of the same
-                item. For a type checker a name means a list.
-            when: A function of the input: the step is there if it returns true (default: always).
-                What needs a step that is not there needs what that one needs.
-            early_unused: What follows if a success of an external step is reported before it
-                begins, and the saga ends without it: `ask` (a person sees to it, by
-                `Store.compensate` or `Store.resolve`), or `compensate` (its compensation is called
-                at once) (default: `ask`).
+                returns one: the step exists once for each item (default: once). `task.item` and
+                `task.index` have the item, and costs may be functions of it. If another step has
+                the same `for_each`, its `needs=[ship.each]` means the step of the same item. A
+                type checker takes a name as that of a list.
+            when: A function of the input: the step exists if it returns true (default: always).
+                Otherwise steps that need this one need the steps that it needs.
+            early_unused: What follows if an external step is reported as a success before it
+                starts, and the saga ends without it: `ask` (wait for `Store.compensate` or
+                `Store.resolve`), or `compensate` (call its compensation at once) (default: `ask`).
             cancel_on_abort: Whether an abort raises `asyncio.CancelledError` in the async function
                 (default: False). Unhandled, the outcome is unknown, and the attempt repeats.
 
@@ -376,7 +378,7 @@ class Saga(WaitSteps, Inclusions):
             The `Step`, or a decorator that returns it.
 
         Raises:
-            DefinitionError: An argument is not valid. The message says where it stands.
+            DefinitionError: An argument is not valid. The message has the file and the line.
         """
         if not isinstance(external, bool):
             raise DefinitionError(
@@ -430,11 +432,11 @@ class Saga(WaitSteps, Inclusions):
         for_each: ForEach | None = None,
         when: Callable[[Any], Any] | None = None,
     ) -> Step[Any]:
-        where = validation.place(function) or validation.caller(4)
-        named = name or str(getattr(function, "__name__", "?"))
-        needed = validation.listed(needs, self, named, where)
+        where = validation.location_of(function) or validation.caller(4)
+        step_name = name or str(getattr(function, "__name__", "?"))
+        needed = validation.listed(needs, self, step_name, where)
         make: type[Step[Any]] = Step if for_each is None else FanOut
-        step = make(self, named, where, kind, needed, costs, manner, for_each, when)
+        step = make(self, step_name, where, kind, needed, costs, manner, for_each, when)
         step.concurrency = concurrency
         if costs["undo"] is not NEVER and (kind != "step" or costs["undo"] == 0):
             step.undo = Manner(nothing, implied=True)
@@ -450,12 +452,12 @@ class Saga(WaitSteps, Inclusions):
         """Check the whole definition, as `toml` and `open` do.
 
         Raises:
-            DefinitionError: The first fault that only the whole definition shows.
+            DefinitionError: The first error that only the whole definition shows.
         """
         validation.check_saga(self)
 
     def warnings(self) -> list[str]:
-        """Return what is valid but probably not meant; `open` logs it.
+        """Return warnings about valid but unlikely options; `open` logs them.
 
         For example, a compensation that can never be called, or a type hint that cannot be read.
         """
@@ -465,12 +467,12 @@ class Saga(WaitSteps, Inclusions):
         """Return the definition in the format of a definition file.
 
         Args:
-            input: The input, of a saga whose steps or costs come from it (default: None).
+            input: The input, for a saga whose steps or costs come from it (default: None).
 
         Raises:
             DefinitionError: As `check`.
-            InvalidInput: The input gives the saga no shape.
-            TooLarge: It gives it too many steps, or needs.
+            InvalidInput: The steps cannot be computed from the input.
+            TooLarge: The saga has too many steps or needs for the input.
             NotSerializable: The input is not JSON.
         """
         self.check()
@@ -484,11 +486,11 @@ class Saga(WaitSteps, Inclusions):
 
         Args:
             input: As of `toml` (default: None).
-            unfold: The steps with items, and the included sagas, whose parts are nodes of their
-                own, by declared names such as `hotel/room`; `"*"`: all (default: none).
+            unfold: The declared names, such as `hotel/room`, of the steps with items and of the
+                included sagas whose parts are drawn as single nodes; `"*"`: all (default: none).
 
         Raises:
-            DefinitionError: As `check`. For what else see `toml`.
+            DefinitionError: As `check`. For other exceptions see `toml`.
             EngineError: The program `sagas` cannot be run.
         """
         text = self.toml(input)

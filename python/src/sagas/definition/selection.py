@@ -1,4 +1,4 @@
-"""What results are asked of: a step, each of a fan-out, or a step of an included saga."""
+"""`Selection`: a step, a fan-out, or a step of an included saga."""
 
 from __future__ import annotations
 
@@ -11,20 +11,20 @@ R = TypeVar("R", covariant=True)
 
 
 class Selection(Generic[R]):
-    """Steps of a saga whose results are asked for together, as an `R`.
+    """Select steps of a saga whose results together are an `R`.
 
     Attributes:
-        saga: The saga in which they are looked for.
+        saga: The saga with the steps.
     """
 
     saga: Saga
 
     @property
     def path(self) -> tuple[str, ...]:
-        """The names that lead to them: of inclusions, and at last of a step."""
+        """The names of the inclusions around the step, and of the step."""
         raise NotImplementedError
 
     @property
     def is_own(self) -> bool:
-        """Whether only that of the same item is meant."""
+        """Whether only the step of the same item is selected."""
         return False

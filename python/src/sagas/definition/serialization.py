@@ -1,4 +1,4 @@
-"""Inputs and results as JSON, in both directions."""
+"""Conversion of inputs and results to JSON and back."""
 
 from __future__ import annotations
 
@@ -19,16 +19,18 @@ from sagas.definition.decoders import Decoder, is_old_model
 NUMBERS = {int, float, bool}
 UNSTORABLE = "unstorable"
 FAILED = "$failed"
-"""The only word of what is kept of an item whose failure was collected."""
+"""The only key of the stored result of an item whose failure was collected."""
 MOST_LEVELS = 64
-"""Levels of a value that comes in. Every reader and writer of JSON, in any language, takes them
-together with those that are around the value in an answer."""
+"""Maximum nesting of a value.
+
+JSON libraries of all languages can read it together with the levels around it in a reply.
+"""
 BRACKETS = b"[]{}"
 OTHERS = bytes(byte for byte in range(256) if byte not in BRACKETS)
 ALIKE = bytes.maketrans(b"{}", b"[]")
 RUN = re.compile(rb"\[+|\]+")
 FLAT = 4
-"""Levels that are removed together, the innermost first: few values have more."""
+"""Innermost levels that `is_deeper` removes by replacement. Few values have more levels."""
 MOST_DEEP = 16
 TOO_DEEP = f"it has more than {MOST_LEVELS} levels of lists and objects. Use fewer levels"
 
@@ -55,8 +57,9 @@ def _default(value: Any) -> Any:
 
 
 def _in_order(items: Iterable[Any]) -> list[Any]:
-    """The items of a set, always in the same order: numbers and texts as they are compared, all
-    others by their JSON.
+    """Return the items of a set in a fixed order.
+
+    Numbers and texts are compared as they are, other items by their JSON.
     """
     kinds = {type(item) for item in items}
     return (
@@ -74,7 +77,7 @@ _scan: Callable[[str, int], tuple[Any, int]] = getattr(_decoder, "scan_once")
 
 
 def _chunked() -> Callable[[Any, int], Iterable[str]]:
-    """What the encoder does, with the part in C made once and not for each value."""
+    """Return the encoder's function, with its C part created only once."""
     make: Callable[..., Callable[[Any, int], Iterable[str]]] | None = getattr(
         json.encoder, "c_make_encoder", None
     )
@@ -97,8 +100,10 @@ _chunks = _chunked()
 
 
 def _decode(text: str) -> Any:
-    """What the decoder does; of a text with nothing around its value, as `write` makes it, by
-    the part in C alone. Raises `CannotDecode` where it has too many levels for that.
+    """Parse a JSON text, by the fast path in C if it has no blanks around it.
+
+    Raises:
+        CannotDecode: The text has too many levels.
     """
     try:
         try:
@@ -111,9 +116,9 @@ def _decode(text: str) -> Any:
 
 
 def is_deeper(text: str, levels: int = MOST_LEVELS) -> bool:
-    """Return whether a JSON text has more levels than these.
+    """Return whether a JSON text has more nesting levels than `levels`.
 
-    It never recurses. For 1 MiB it takes at most 50 ms, however the brackets lie.
+    It does not recurse. For 1 MiB it takes at most 50 ms, for any order of brackets.
     """
     if len(text) <= 2 * levels or text.count("[") + text.count("{") <= levels:
         return False
@@ -131,38 +136,49 @@ def is_deeper(text: str, levels: int = MOST_LEVELS) -> bool:
 
 
 def clean(text: str) -> str:
-    """A text that a database can keep: it has no zeros and no halves of pairs."""
+    """Return a text without NUL characters and lone surrogates, for a database."""
     if text.isprintable():
         return text
     return text.replace("\0", "\\0").encode("utf-8", "backslashreplace").decode()
 
 
-def cleaned(words: Iterable[Any]) -> tuple[Any, ...]:
-    """Words of a statement, the texts among them clean."""
-    return tuple(clean(word) if isinstance(word, str) else word for word in words)
+def cleaned(parameters: Iterable[Any]) -> tuple[Any, ...]:
+    """Return the parameters of a statement with clean texts."""
+    return tuple(
+        clean(parameter) if isinstance(parameter, str) else parameter for parameter in parameters
+    )
 
 
 def write(value: Any, name: str = "") -> str:
-    """The value as canonical JSON: keys in order, no spaces. Raises `NotSerializable`, which says
-    where in the value that is; `name` is the whole's.
+    """Return a value as canonical JSON: with sorted keys, and without spaces.
+
+    Args:
+        value: The value.
+        name: The name of the value, for the message of an error.
+
+    Raises:
+        NotSerializable: The value cannot be written. The message has the path of the part.
     """
     if value is None:
         return "null"
     try:
         return "".join(_chunks(value, 0))
     except Exception as error:  # also of the value's own code
-        where = name
+        path = name
         if not isinstance(error, RecursionError):
             with contextlib.suppress(Exception):
-                where += _where(value, MOST_DEEP)
+                path += _path(value, MOST_DEEP)
         raise NotSerializable(
-            f"{where}: {_why(value, error)}" if where else _why(value, error)
+            f"{path}: {_reason(value, error)}" if path else _reason(value, error)
         ) from error
 
 
 def write_value(value: Any, name: str = "") -> str:
-    """As `write`, of a value that comes in: an input, an item or a result. Raises `NotSerializable`
-    also where it has more than `MOST_LEVELS` levels, which not every program could read.
+    """Return an input, an item or a result as canonical JSON.
+
+    Raises:
+        NotSerializable: As `write`. Or the value has more than `MOST_LEVELS` levels, which not
+            every program could read.
     """
     text = write(value, name)
     if is_deeper(text):
@@ -170,7 +186,7 @@ def write_value(value: Any, name: str = "") -> str:
     return text
 
 
-def _why(value: Any, error: Exception) -> str:
+def _reason(value: Any, error: Exception) -> str:
     if isinstance(error, RecursionError):
         return f"{TOO_DEEP}, and must not contain itself"
     text = str(error)
@@ -185,8 +201,8 @@ def _why(value: Any, error: Exception) -> str:
     )
 
 
-def _where(value: Any, deep: int) -> str:
-    """The way to what is no JSON in a value that cannot be written: `["seats"][0].row`."""
+def _path(value: Any, depth: int) -> str:
+    """Return the path of the part that is not JSON, for example `["seats"][0].row`."""
     parts: Iterable[tuple[str, Any]] = ()
     if isinstance(value, dict):
         parts = (
@@ -194,75 +210,84 @@ def _where(value: Any, deep: int) -> str:
             for key, item in value.items()
         )
     elif isinstance(value, (list, tuple)):
-        parts = ((f"[{place}]", item) for place, item in enumerate(value))
+        parts = ((f"[{index}]", item) for index, item in enumerate(value))
     elif dataclasses.is_dataclass(value) and not isinstance(value, type):
         parts = (
             (f".{field.name}", getattr(value, field.name)) for field in dataclasses.fields(value)
         )
-    for name, part in parts if deep else ():
+    for name, part in parts if depth else ():
         try:
             "".join(_chunks(part, 0))
         except Exception:
-            return name + _where(part, deep - 1)
+            return name + _path(part, depth - 1)
     return ""
 
 
 def read(text: str, decoder: Decoder | None = None) -> Any:
-    """The value that `write` wrote; a new one each time."""
+    """Return the decoded value of a JSON text: a new object at each call."""
     value = _decode(text)
     return value if decoder is None else decoder(value)
 
 
 def unstorable(value: Any) -> str | None:
-    """Of what is kept of a result that could not be stored, why it could not."""
-    said = value.get(UNSTORABLE) if type(value) is dict and len(value) == 1 else None
-    return said if isinstance(said, str) else None
+    """Return why a result could not be stored, if the stored value says so; else None."""
+    detail = value.get(UNSTORABLE) if type(value) is dict and len(value) == 1 else None
+    return detail if isinstance(detail, str) else None
 
 
 def failed(value: Any) -> str | None:
-    """Of what is kept of an item whose failure was collected, what it raised."""
-    said = value.get(FAILED) if type(value) is dict and len(value) == 1 else None
-    return said if isinstance(said, str) else None
+    """Return the collected error in a stored value, or None if it has none."""
+    detail = value.get(FAILED) if type(value) is dict and len(value) == 1 else None
+    return detail if isinstance(detail, str) else None
 
 
 def is_plain(value: Any) -> bool:
-    """Whether it is no result, so that it has no type."""
+    """Return whether a stored value is an error instead of a result."""
     return unstorable(value) is not None or failed(value) is not None
 
 
 def stored(value: Any, step: str) -> Any:
-    """What a step returned, as it is kept. Raises `ResultNotSerializable` where it could not be
-    stored, and `StepFailed` where the step failed."""
+    """Return the stored result of a step.
+
+    Raises:
+        ResultNotSerializable: The result could not be stored.
+        StepFailed: The step failed, and its failure was collected.
+    """
     if (detail := failed(value)) is not None:
         raise StepFailed(step, detail)
-    said = unstorable(value)
-    if said is not None:
-        raise ResultNotSerializable(f"step {step!r} returned a value that is not JSON: {said}")
+    reason = unstorable(value)
+    if reason is not None:
+        raise ResultNotSerializable(f"step {step!r} returned a value that is not JSON: {reason}")
     return value
 
 
 def returned(text: str, decoder: Decoder | None, step: str) -> Any:
-    """As `read`, of what a step returned. Raises `ResultNotSerializable` where that could not be
-    stored."""
+    """Return the decoded result of a step.
+
+    Raises:
+        ResultNotSerializable: The result could not be stored.
+        StepFailed: The step failed, and its failure was collected.
+    """
     value = stored(_decode(text), step)
     return value if decoder is None else decoder(value)
 
 
 def kept(text: str, decoder: Decoder | None) -> Any:
-    """As `read`, of what a step returned; what could not be stored is as it is kept."""
+    """Return the decoded result of a step, or the stored error in its place as a dict."""
     value = _decode(text)
     return value if decoder is None or is_plain(value) else decoder(value)
 
 
 def fitting(text: str, decoder: Decoder | None) -> Any:
-    """As `read`. Where the value is not of the type, since a person said it or it could not be
-    stored, it is as JSON has it.
+    """Return the decoded value of a JSON text, or the JSON value if it cannot be.
+
+    An operator may have reported such a value, or the result could not be stored.
     """
     return fitted(_decode(text), decoder)
 
 
 def fitted(value: Any, decoder: Decoder | None) -> Any:
-    """As `fitting`, of a value that was read."""
+    """Return a decoded value, or the JSON value if it does not fit its type."""
     if decoder is None or is_plain(value):
         return value
     try:

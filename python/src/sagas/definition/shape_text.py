@@ -1,4 +1,4 @@
-"""Definitions of sagas whose steps come from their input, as texts."""
+"""Texts of definitions of sagas whose steps come from their input."""
 
 from __future__ import annotations
 
@@ -9,7 +9,7 @@ from typing import TYPE_CHECKING, Any
 from sagas.base.errors import TooLarge
 from sagas.definition import listed_steps, validation
 from sagas.definition.declaration import COSTS
-from sagas.definition.layout import Layout, spot_of
+from sagas.definition.layout import Layout, parse_origin
 from sagas.definition.shape import Shape, ShapedStep
 
 if TYPE_CHECKING:
@@ -18,32 +18,35 @@ if TYPE_CHECKING:
     from sagas.definition.step import Cost
 
 OF = "# of "
-"""Behind the name of a step: where it comes from."""
+"""The beginning of the line after the name of a step. The line has the path of the origin."""
 INCLUDES = re.compile(r"^# includes (\S+) (\S+) (\d+)( given)?$", re.M)
-"""In the head, for each inclusion: its path, the included saga's name and version, and whether
-there is a `given=`."""
+"""A line of the head for each inclusion.
+
+It has the inclusion's path, the included saga's name and version, and `given` if there is a
+`given=`.
+"""
 
 COST_LINES = re.compile(r"^(?:run|undo|skip|keep) = .*\n", re.M)
 
 
 def is_shaped(text: str) -> bool:
-    """Whether a definition is one of a saga whose steps come from its input."""
+    """Return whether the steps of a definition come from the saga's input."""
     return f"\n{OF}" in text
 
 
 class Template:
-    """The definitions of all shapes of one structure."""
+    """The text that the definitions of all shapes with one structure have in common."""
 
-    __slots__ = ("_pieces", "_words")
+    __slots__ = ("_pieces", "_cost_names")
 
     def __init__(self, shape: Shape) -> None:
-        """Make it of one of the shapes.
+        """Make the template from one of the shapes.
 
         Raises:
-            TooLarge: It has more needs than a saga can have.
+            TooLarge: The shape has more needs than a saga can have.
         """
-        self._pieces: list[str] = []  # a computed cost is between each two of them
-        self._words: list[str] = []
+        self._pieces: list[str] = []  # with a computed cost between each two pieces
+        self._cost_names: list[str] = []
         saga, needs = shape.saga, 0
         lines = [f"# version {saga.version}"] if saga.version != 1 else []
         lines += [
@@ -52,42 +55,42 @@ class Template:
             for path, part in inclusions(saga)
         ]
         lines += ["format = 2", f'name = "{saga.name}"']
-        for one in shape.steps():
-            needs += len(one.needs)
-            lines = self._step(one, lines)
+        for step in shape.steps():
+            needs += len(step.needs)
+            lines = self._step(step, lines)
         if needs > validation.MOST_NEEDS:
             raise TooLarge(
-                f"saga {saga.name!r} has {needs:,} needs for this input, and may have "
-                f"{validation.MOST_NEEDS:,}. Nothing was started. Put a step in between"
+                f"saga {saga.name!r} has {needs:,} needs for this input, and may have at most "
+                f"{validation.MOST_NEEDS:,}. Nothing was started. Declare a step in between"
             )
         self._pieces.append(_joined(lines))
 
-    def _step(self, one: ShapedStep, lines: list[str]) -> list[str]:
-        """Add a step to these lines. Return those after the last computed cost."""
-        lines += ("", "[[step]]", f'name = "{one.name}"', f"{OF}{one.spot.word}")
-        if listed_steps.is_compensated(one.step):
+    def _step(self, shaped: ShapedStep, lines: list[str]) -> list[str]:
+        """Add a step to the lines, and return the lines after the last computed cost."""
+        lines += ("", "[[step]]", f'name = "{shaped.name}"', f"{OF}{shaped.origin.path}")
+        if listed_steps.is_compensated(shaped.step):
             lines.append(listed_steps.COMPENSATED)
-        if one.needs:
-            lines.append("needs = [" + ", ".join([f'"{need}"' for need in one.needs]) + "]")
-        for word in COSTS:
-            if callable(one.step.declared_cost(word)):
+        if shaped.needs:
+            lines.append("needs = [" + ", ".join([f'"{need}"' for need in shaped.needs]) + "]")
+        for name in COSTS:
+            if callable(shaped.step.declared_cost(name)):
                 self._pieces.append(_joined(lines))
-                self._words.append(word)
+                self._cost_names.append(name)
                 lines = []
-            elif cost := _cost(word, one.step.cost(word)):
+            elif cost := _cost(name, shaped.step.cost(name)):
                 lines.append(cost[:-1])
-        if one.step.run.tries != 1:
-            lines.append(f"tries = {one.step.run.tries}")
-        if one.step.undo.tries != 1:
-            lines.append(f"undo_tries = {one.step.undo.tries}")
+        if shaped.step.run.tries != 1:
+            lines.append(f"tries = {shaped.step.run.tries}")
+        if shaped.step.undo.tries != 1:
+            lines.append(f"undo_tries = {shaped.step.undo.tries}")
         return lines
 
     def text(self, costs: Sequence[Cost]) -> str:
         """Return the definition with these computed costs."""
-        found = [self._pieces[0]]
-        for word, cost, piece in zip(self._words, costs, self._pieces[1:], strict=True):
-            found += (_cost(word, cost), piece)
-        return "".join(found)
+        parts = [self._pieces[0]]
+        for name, cost, piece in zip(self._cost_names, costs, self._pieces[1:], strict=True):
+            parts += (_cost(name, cost), piece)
+        return "".join(parts)
 
 
 def write(shape: Shape) -> str:
@@ -103,15 +106,15 @@ def _joined(lines: list[str]) -> str:
     return "".join([f"{line}\n" for line in lines])
 
 
-def _cost(word: str, cost: Cost) -> str:
-    """Return the line of a cost; nothing if it is 0, which is the default."""
+def _cost(name: str, cost: Cost) -> str:
+    """Return the line of a cost; the empty text for the default 0."""
     if isinstance(cost, int):
-        return f"{word} = {cost}\n" if cost else ""
-    return f'{word} = "never"\n'
+        return f"{name} = {cost}\n" if cost else ""
+    return f'{name} = "never"\n'
 
 
 def inclusions(saga: Saga, outer: str = "") -> Iterator[tuple[str, Inclusion]]:
-    """The inclusions of a saga, and of those, each with its path."""
+    """Yield the inclusions of a saga and of its included sagas, each with its path."""
     from sagas.definition.parts import Inclusion
 
     for part in saga.parts:
@@ -122,40 +125,41 @@ def inclusions(saga: Saga, outer: str = "") -> Iterator[tuple[str, Inclusion]]:
 
 
 def included(text: str) -> dict[str, tuple[str, int]]:
-    """The names and versions of the sagas that a definition includes, by path."""
+    """Return the names and versions of the sagas that a definition includes, by path."""
     return {path: (name, int(version)) for path, name, version, _ in INCLUDES.findall(text)}
 
 
 def giving(text: str) -> frozenset[str]:
-    """The paths of the inclusions to which a function gives something."""
+    """Return the paths of the inclusions that have a function `given=`."""
     return frozenset(path for path, _, _, given in INCLUDES.findall(text) if given)
 
 
 def without_costs(text: str) -> str:
-    """What two definitions of `write` have in common if they differ in their costs alone."""
+    """Return a definition without its costs."""
     return COST_LINES.sub("", text)
 
 
 def steps(text: str) -> list[dict[str, Any]]:
-    """The steps of a definition that `write` wrote, as a reader of TOML gives them; `of` is what
-    stands behind the name. It takes a tenth of that reader's time.
+    """Return the steps of a definition that `write` wrote, as `tomllib` would.
+
+    The key `of` has the path of the origin. It takes a tenth of the time of `tomllib`.
     """
-    found = []
+    steps = []
     for block in text.split("\n[[step]]\n")[1:]:
         step: dict[str, Any] = {}
         for line in block.splitlines():
-            word, _, value = line.partition(" = ")
+            key, _, value = line.partition(" = ")
             if line.startswith(OF):
                 step["of"] = line[len(OF) :]
-            elif word == "needs":
-                step[word] = value[2:-2].split('", "')
+            elif key == "needs":
+                step[key] = value[2:-2].split('", "')
             elif value:
-                step[word] = value[1:-1] if value[0] == '"' else int(value)
-        found.append(step)
-    return found
+                step[key] = value[1:-1] if value[0] == '"' else int(value)
+        steps.append(step)
+    return steps
 
 
 def layout(text: str, steps: list[dict[str, Any]]) -> Layout:
     """Return the layout of a definition, given its text and its steps."""
-    names, spots = [one["name"] for one in steps], [spot_of(one["of"]) for one in steps]
-    return Layout(names, spots, giving(text))
+    names, origins = [step["name"] for step in steps], [parse_origin(step["of"]) for step in steps]
+    return Layout(names, origins, giving(text))

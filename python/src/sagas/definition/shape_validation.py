@@ -18,54 +18,54 @@ if TYPE_CHECKING:
 
 MOST_NAME, MOST_DEPTH = 32, 8
 MANY = "-1023"
-"""What the number of an item adds to a name at most."""
+"""The longest ending that the number of an item adds to a name."""
 
 
 def is_cost(value: object) -> bool:
-    """Whether a number, or `NEVER`, may be a cost."""
+    """Return whether a value is a valid cost: a number in the range, or `NEVER`."""
     from sagas.definition.step import NEVER
 
     return value is NEVER or (is_count(value) and 0 <= value <= MOST_COST)  # type: ignore[operator]
 
 
 def is_each(need: object) -> bool:
-    """Whether only the step of the same item is needed."""
+    """Return whether a need means only the step of the same item."""
     from sagas.definition.parts import Each
 
     return isinstance(need, Each)
 
 
 def need_name(need: Any) -> str:
-    """The name of the part that is needed."""
+    """Return the name of the needed part."""
     return need if isinstance(need, str) else str(need.name)
 
 
 def is_shaped_step(step: Step[Any]) -> bool:
-    """Whether its being there, or its costs, come from the input."""
+    """Return whether a step's existence or its costs depend on the input."""
     return step.for_each is not None or step.when is not None or has_computed_costs(step)
 
 
 def has_computed_costs(step: Step[Any]) -> bool:
-    """Whether functions say what it costs."""
+    """Return whether functions compute costs of a step."""
     return any(map(callable, step._costs.values()))
 
 
 def plain_steps(saga: Saga) -> dict[str, Step[Any]]:
-    """The steps that are there once, whatever the input is, by name."""
+    """Return the steps without `for_each`, by name."""
     return {step.name: step for step in saga.steps if step.for_each is None}
 
 
 def check_part(part: Part) -> None:
-    """Raise `DefinitionError` where a part cannot be there in this manner."""
+    """Raise `DefinitionError` if `when` or `for_each` of a part is not valid."""
     _check_function(part, "when", part.when)
     if part.for_each is not None and not isinstance(part.for_each, str):
         _check_function(part, "for_each", part.for_each)
-    room = MOST_NAME - len(MANY if part.for_each is not None else "")
-    if part.for_each is not None and len(part.name) > room:
+    maximum = MOST_NAME - len(MANY if part.for_each is not None else "")
+    if part.for_each is not None and len(part.name) > maximum:
         raise validation.of_step(
             part,
             f"its name has {len(part.name)} characters, and with for_each it may have at most "
-            f"{room}, because each item has its number behind it. Set another name=",
+            f"{maximum}, because the number of the item follows it. Set another name=",
         )
 
 
@@ -80,7 +80,7 @@ def _check_function(part: Part, word: str, function: object) -> None:
 
 
 def check_inclusion(inclusion: Inclusion) -> None:
-    """Raise `DefinitionError` where a saga cannot be included in this manner."""
+    """Raise `DefinitionError` if an inclusion is not valid."""
     validation.check_part_name(inclusion)
     validation.check_needs(inclusion)
     check_part(inclusion)
@@ -90,7 +90,7 @@ def check_inclusion(inclusion: Inclusion) -> None:
 
 
 def check_costs(step: Step[Any]) -> None:
-    """Raise `DefinitionError` where costs are neither numbers nor functions."""
+    """Raise `DefinitionError` if a cost is not a valid number or plain function."""
     for word, cost in step._costs.items():
         if cost is None or is_cost(cost) or (callable(cost) and not _is_async(cost)):
             continue
@@ -109,13 +109,13 @@ def _is_async(function: object) -> bool:
 
 
 def check_shaped(saga: Saga, depth: int = 0) -> None:
-    """Raise `DefinitionError` for the first fault that only the whole declaration shows."""
+    """Raise `DefinitionError` for errors that only the whole declaration shows."""
     if depth > MOST_DEPTH:
-        told = f"it includes itself, or sagas in one another more than {MOST_DEPTH} deep"
-        raise validation.of_saga(saga, f"{told}. Start a child saga instead")
+        error = f"it includes itself, or nests included sagas more than {MOST_DEPTH} deep"
+        raise validation.of_saga(saga, f"{error}. Start a child saga instead")
     for left in saga.decorators:
         raise DefinitionError(
-            f"{left.where}: saga {saga.name!r}: {left.what}(...) declares nothing, because it is "
+            f"{left.where}: saga {saga.name!r}: {left.call}(...) declares nothing, because it is "
             "a decorator. Apply it to a function"
         )
     if not saga.parts:
@@ -141,14 +141,19 @@ def _check_needs(saga: Saga, part: Part) -> None:
         if is_each(need) and (part.for_each is None or part.for_each != other.for_each):
             raise validation.of_step(
                 part,
-                f"needs {name}.each, but it is not there for the same items. Set the same "
+                f"needs {name}.each, but it does not have the same items. Set the same "
                 f"for_each= for both, or need {name} itself, which means all of it",
             )
 
 
 class Pattern(NamedTuple):
-    """The names that a declared step may have. `name`: with `#` for the number of an item;
-    `path`: as it was declared; `where`: where that was in the outermost saga.
+    """The possible names of a declared step.
+
+    Attributes:
+        name: The name, with `#` for the number of an item.
+        path: The declared name: `hotel/room`.
+        step: The step.
+        where: File and line of the step, or of the inclusion in the outermost saga.
     """
 
     name: str
@@ -157,17 +162,17 @@ class Pattern(NamedTuple):
     where: str
 
     def is_of(self, name: str) -> bool:
-        """Whether a step with this name, or this path, is meant."""
+        """Return whether a name, or a path, is one of the step."""
         return name == self.path or bool(self.names.match(name))
 
     @property
     def names(self) -> re.Pattern[str]:
-        """Matches the names."""
+        """The regular expression that matches the names."""
         return re.compile(self.name.replace("#", r"\d+") + r"\Z")
 
 
 def patterns(saga: Saga, prefix: str = "", path: str = "", where: str = "") -> Iterator[Pattern]:
-    """The steps of a saga, and of those that it includes."""
+    """Yield the patterns of a saga's steps and of those of included sagas."""
     from sagas.definition.parts import Inclusion
 
     for part in saga.parts:
@@ -180,39 +185,39 @@ def patterns(saga: Saga, prefix: str = "", path: str = "", where: str = "") -> I
 
 
 def _joined(saga: Saga, prefix: str = "", where: str = "") -> Iterator[tuple[str, str]]:
-    """The names that the package may give to steps between fan-outs."""
+    """Yield the possible names of joining steps, each with its file and line."""
     from sagas.definition import joins
     from sagas.definition.parts import Inclusion
 
     for part in saga.parts:
-        at = where or part.where
+        outer_where = where or part.where
         if part.for_each is not None:
-            yield f"{prefix}{part.name}{joins.ENDING}", at
+            yield f"{prefix}{part.name}{joins.ENDING}", outer_where
         if isinstance(part, Inclusion):
             name = prefix + part.name + ("" if part.for_each is None else "-#")
-            yield from _joined(part.inner, f"{name}-", at)
+            yield from _joined(part.inner, f"{name}-", outer_where)
 
 
 def step_named(saga: Saga, name: str) -> Step[Any] | None:
-    """The step that a name, or a path, means: `ship`, `ship-2`, `hotel/room`, `hotel-room-1`."""
-    return next((one.step for one in patterns(saga) if one.is_of(name)), None)
+    """Return the declared step of a name: `ship`, `ship-2` or `hotel/room`."""
+    return next((pattern.step for pattern in patterns(saga) if pattern.is_of(name)), None)
 
 
 def _check_names(saga: Saga) -> None:
-    """No two steps may have one name, whatever the input is, and none is too long."""
-    found = [(one.name, one.where) for one in patterns(saga)] + [*_joined(saga)]
-    for name, where in found:
+    """Raise `DefinitionError` if names of steps may be equal or too long."""
+    names = [(pattern.name, pattern.where) for pattern in patterns(saga)] + [*_joined(saga)]
+    for name, where in names:
         longest = name.replace("-#", MANY)
         if len(longest) > MOST_NAME:
             raise DefinitionError(
                 f"{where}: saga {saga.name!r}: a step would have the name {longest!r}, of "
                 f"{len(longest)} characters, and may have at most {MOST_NAME}. Set a shorter name="
             )
-    fixed = {name for name, _ in found if "#" not in name}
+    fixed = {name for name, _ in names if "#" not in name}
     seen: set[str] = set()
-    for name, where in found:
-        pattern = re.compile(name.replace("#", r"\d+") + r"\Z")
-        others = [one for one in fixed if "#" in name and pattern.match(one)]
+    for name, where in names:
+        regex = re.compile(name.replace("#", r"\d+") + r"\Z")
+        others = [fixed_name for fixed_name in fixed if "#" in name and regex.match(fixed_name)]
         other = name if name in seen else others[0] if others else None
         if other is not None:
             raise DefinitionError(

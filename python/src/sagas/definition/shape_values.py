@@ -1,4 +1,4 @@
-"""What a saga keeps of its shape: items, their keys, and the inputs of included sagas."""
+"""`ShapeValues`: the items, keys and inputs of a saga's shape."""
 
 from __future__ import annotations
 
@@ -6,16 +6,16 @@ from typing import Any
 
 from sagas.definition import serialization
 from sagas.definition.decoders import Decoder
-from sagas.definition.layout import Scope, Spot
+from sagas.definition.layout import Scope, StepOrigin
 
 
 class ShapeValues:
-    """The values of one saga, as JSON has them. They are kept with it, and not computed again.
+    """The JSON values of one saga's shape, computed once and stored.
 
     Attributes:
-        inputs: The inputs of included sagas, by their scopes (`hotel`, `car[1]`).
-        items: The items of fan-outs, by their groups (`ship`, `car[1]/room`); of one that has the
-            same items as another, that one's group.
+        inputs: The inputs of included sagas, by the paths of their scopes (`hotel`, `car[1]`).
+        items: The items of fan-outs, by group (`ship`, `car[1]/room`). If two fan-outs have the
+            same items, the second one has the group of the first instead.
         keys: The keys of the items that came from a dict, by group.
     """
 
@@ -29,70 +29,74 @@ class ShapeValues:
 
     @classmethod
     def read(cls, text: str) -> ShapeValues:
-        """Read what `text` wrote."""
-        told = serialization.read(text)
-        return cls(told.get("inputs"), told.get("items"), told.get("keys"))
+        """Return the values that `text` wrote."""
+        parts = serialization.read(text)
+        return cls(parts.get("inputs"), parts.get("items"), parts.get("keys"))
 
     @classmethod
-    def of_told(cls, told: dict[str, Any]) -> ShapeValues:
-        """Make those of which only numbers and keys are known, of what `told` returned."""
+    def of_numbering(cls, numbering: dict[str, Any]) -> ShapeValues:
+        """Return values with only the numbers and keys that `numbering` returned."""
         items: dict[str, list[Any] | str] = {
-            group: [None] * count for group, count in told["counts"].items()
+            group: [None] * count for group, count in numbering["counts"].items()
         }
-        return cls(None, items, told["keys"])
+        return cls(None, items, numbering["keys"])
 
-    def told(self, scope: Scope) -> dict[str, Any]:
-        """The numbers of items within a scope, and their keys, by the groups as they are there."""
-        head = f"{Spot(scope[:-1], *scope[-1]).word}/" if scope else ""
+    def numbering(self, scope: Scope) -> dict[str, Any]:
+        """Return the numbers and the keys of the items within a scope.
+
+        They are by group, relative to the scope.
+        """
+        head = f"{StepOrigin(scope[:-1], *scope[-1]).path}/" if scope else ""
         counts, keys = {}, {}
-        for whole in self.items:
-            if whole.startswith(head):
-                of, group = self.items[whole], whole[len(head) :]
-                same = of if isinstance(of, str) else whole
-                counts[group] = len(self.items[same])
-                if same in self.keys:
-                    keys[group] = self.keys[same]
+        for full_group in self.items:
+            if full_group.startswith(head):
+                items, group = self.items[full_group], full_group[len(head) :]
+                source = items if isinstance(items, str) else full_group
+                counts[group] = len(self.items[source])
+                if source in self.keys:
+                    keys[group] = self.keys[source]
         return {"counts": counts, "keys": keys}
 
     def text(self) -> str:
-        """Write them, as they are kept."""
-        told = {"inputs": self.inputs, "items": self.items, "keys": self.keys}
-        return serialization.write({word: part for word, part in told.items() if part})
+        """Return the values as JSON, for the store."""
+        parts = {"inputs": self.inputs, "items": self.items, "keys": self.keys}
+        return serialization.write({name: part for name, part in parts.items() if part})
 
     def _items(self, scope: Scope, name: str) -> tuple[str, list[Any]] | None:
-        group = Spot(scope, name).word
-        found = self.items.get(group)
-        if isinstance(found, str):
-            group, found = found, self.items[found]
-        return None if found is None else (group, found)  # type: ignore[return-value]
+        """Return the group that has the items of a fan-out, and the items."""
+        group = StepOrigin(scope, name).path
+        items = self.items.get(group)
+        if isinstance(items, str):
+            group, items = items, self.items[items]
+        return None if items is None else (group, items)  # type: ignore[return-value]
 
     def count(self, scope: Scope, name: str) -> int | None:
-        """How many items a fan-out has; None where it is none, or is not there."""
-        found = self._items(scope, name)
-        return None if found is None else len(found[1])
+        """Return the number of items of a fan-out; None if the saga has no such fan-out."""
+        entry = self._items(scope, name)
+        return None if entry is None else len(entry[1])
 
     def keys_of(self, scope: Scope, name: str) -> list[str] | None:
-        """The keys of a fan-out's items, where they came from a dict."""
-        found = self._items(scope, name)
-        return None if found is None else self.keys.get(found[0])
+        """Return the keys of a fan-out's items; None if they did not come from a dict."""
+        entry = self._items(scope, name)
+        return None if entry is None else self.keys.get(entry[0])
 
-    def key(self, spot: Spot) -> int | str | None:
-        """The key of a step's item, or its number; None where it has no item."""
-        if spot.number is None:
+    def key(self, origin: StepOrigin) -> int | str | None:
+        """Return the key of a step's item, or its number; None if the step has no item."""
+        if origin.number is None:
             return None
-        keys = self.keys_of(spot.scope, spot.name)
-        return spot.number if keys is None else keys[spot.number]
+        keys = self.keys_of(origin.scope, origin.name)
+        return origin.number if keys is None else keys[origin.number]
 
-    def item(self, spot: Spot, decoder: Decoder | None = None) -> Any:
-        """A step's item: a new object at each call."""
-        found = self._items(spot.scope, spot.name)
-        assert found is not None and spot.number is not None
-        item = found[1][spot.number]
+    def item(self, origin: StepOrigin, decoder: Decoder | None = None) -> Any:
+        """Return a step's item: a new object at each call."""
+        entry = self._items(origin.scope, origin.name)
+        assert entry is not None and origin.number is not None
+        item = entry[1][origin.number]
         if decoder is None and not isinstance(item, (dict, list)):
-            return item  # it cannot be changed
+            return item  # it is immutable
         return serialization.read(serialization.write(item), decoder)
 
     def input(self, scope: Scope) -> str:
-        """The input of an included saga, as JSON."""
+        """Return the input of an included saga, as JSON."""
         *outer, last = scope
-        return serialization.write(self.inputs[Spot(tuple(outer), *last).word])
+        return serialization.write(self.inputs[StepOrigin(tuple(outer), *last).path])

@@ -1,4 +1,4 @@
-"""`Shelf`: the sagas that a store was opened with, and their definitions."""
+"""`DefinitionRegistry`: the sagas of an open store, and their definitions."""
 
 from __future__ import annotations
 
@@ -17,7 +17,7 @@ from sagas.definition import (
     validation,
 )
 from sagas.definition.capacity import MOST_DEFINITIONS, SHARD_CAPACITY
-from sagas.definition.compiled import Hooks, Kind, name_of, version_of
+from sagas.definition.compiled import Hooks, CompiledDefinition, name_of, version_of
 from sagas.definition.context import Context
 from sagas.definition.payloads import PLAIN as PLAIN_PAYLOADS
 from sagas.definition.listed_steps import of as listed_steps
@@ -28,8 +28,8 @@ from sagas.definition.shaped_kinds import ShapedKinds
 from sagas.definition.step import Step
 
 
-def shelf_of(sagas: Iterable[Saga]) -> tuple[str, list[str]]:
-    """The definitions' texts, sorted by name, and the digest that names them."""
+def digest_and_texts(sagas: Iterable[Saga]) -> tuple[str, list[str]]:
+    """Return the digest of a set of definitions, and their texts sorted by name."""
     texts = [
         definition_text.declared(saga)
         for saga in sorted(sagas, key=lambda saga: (saga.name, saga.version))
@@ -38,43 +38,51 @@ def shelf_of(sagas: Iterable[Saga]) -> tuple[str, list[str]]:
 
 
 def digest_of_texts(texts: list[str]) -> str:
-    """The digest of a set of definitions."""
+    """Return the digest of a set of definitions, given their texts."""
     return hashlib.sha256(json.dumps(texts).encode()).hexdigest()[:16]
 
 
 class DefinitionSet(NamedTuple):
-    """The definitions with which a shard begins. Of sagas whose steps come from their input, and of
-    those that undo children of earlier definitions, there are none, and no digest: they come with
-    the sagas.
+    """The definitions that a shard has when it is created.
+
+    The set is empty for sagas whose steps come from their input, and for sagas that undo children
+    of earlier definitions. Their shards get the definitions with the sagas.
     """
 
     digest: str = ""
-    kinds: Sequence[Kind] = ()
+    kinds: Sequence[CompiledDefinition] = ()
 
 
 GROWING = DefinitionSet()
 
 
 class Fitted(NamedTuple):
-    """A saga with an input.
+    """The definition of a saga for an input.
 
     Attributes:
-        kind: The definition; None where the input gives it no shape.
-        shape: What is kept of its shape, as it is stored, if its steps come from the input.
-        wrong: Why it cannot be started, or None.
+        kind: The definition; None if it cannot be computed from the input.
+        shape: The stored values of its shape, if its steps come from the input, else None.
+        wrong: Why the saga cannot be started, or None.
     """
 
-    kind: Kind | None
+    kind: CompiledDefinition | None
     shape: str | None
     wrong: SagasError | None
 
 
-class Shelf:
-    """The sagas that a store was opened with, and the definitions of older logs by them.
+class DefinitionRegistry:
+    """The sagas of an open store, and the definitions that it compiled for them.
 
     Attributes:
-        declared: The sagas.
-        sagas: The same, and those that undo their children, by name and version.
+        declared: The sagas that the store was opened with.
+        sagas: These sagas, and the sagas that undo their children, by name and version.
+        context: The context that their functions share.
+        payloads: How inputs and results are stored.
+        digest: The digest of the definitions.
+        texts: The texts of the definitions.
+        kinds: The definitions of the sagas with fixed steps.
+        room: Maximum number of sagas of a shard.
+        by_name: The definitions of the sagas with fixed steps, by name and version.
     """
 
     def __init__(self, sagas: Iterable[Saga], payloads: Payloads = PLAIN_PAYLOADS) -> None:
@@ -99,13 +107,13 @@ class Shelf:
             raise DefinitionError("a store needs at least one saga")
         self.declared = list(self.sagas.values())
         self.sagas = undo_sagas.with_undo_sagas(self.sagas)
-        self.shelf, self.texts = shelf_of(self.sagas.values())
-        self._kinds: dict[str, Kind] = {}
+        self.digest, self.texts = digest_and_texts(self.sagas.values())
+        self._kinds: dict[str, CompiledDefinition] = {}
         self._report_undos: dict[tuple[str, int, str], Saga] = {}
         self._shaped = ShapedKinds(self)
         self.kinds = [self.kind(saga.toml()) for saga in self._fixed()]
         self._check_queues()
-        self.room = SHARD_CAPACITY  # how many sagas a log takes, where they are small
+        self.room = SHARD_CAPACITY
         self.by_name = {(kind.name, kind.version): kind for kind in self.kinds}
         self._fitted = {
             saga: Fitted(self.by_name[name], None, None)
@@ -113,24 +121,25 @@ class Shelf:
             if name in self.by_name
         }
         self._sets = dict(self._divided())
-        self._calling: dict[Saga, bool] = {}  # whether functions say which steps they have
+        self._calling: dict[Saga, bool] = {}  # whether functions compute the steps
 
     def report_undo(self, saga: Saga, step: Step[Any]) -> Saga:
-        """Return the saga that calls the compensation of a step that was reported, and not used;
-        `report_undos.fault` allows it.
+        """Return the saga that calls the compensation of a step with an unused report.
+
+        `report_undos.fault` must allow it.
         """
         name = (undo_text.name_of(saga.name), saga.version, report_undos.step_name(saga, step))
         if name not in self._report_undos:
-            made = self._report_undos[name] = report_undos.saga_of(saga, step)
-            kind = Kind(made.toml(), made, self.context, self.payloads)
+            undo_saga = self._report_undos[name] = report_undos.saga_of(saga, step)
+            kind = CompiledDefinition(undo_saga.toml(), undo_saga, self.context, self.payloads)
             kind = self._kinds.setdefault(kind.text, kind)
             kind.hooks = self._hooks_of(kind)
-            self._fitted[made] = Fitted(kind, None, None)
+            self._fitted[undo_saga] = Fitted(kind, None, None)
             self._sets[kind] = DefinitionSet(digest_of_texts([kind.text]), [kind])
         return self._report_undos[name]
 
     def _undoing(self, text: str) -> Saga | None:
-        """The saga that calls one compensation, by its text as some program stored it."""
+        """Return the saga that undoes an unused report, given its stored definition."""
         name, version = name_of(text), version_of(text)
         if undo_text.child_of(text) is not None or not name.endswith(undo_text.ENDING):
             return None
@@ -140,49 +149,54 @@ class Shelf:
             if (undo_text.name_of(saga.name), saga.version) != (name, version):
                 continue
             for step in saga.all_steps:
-                is_it = report_undos.step_name(saga, step) == steps[0].name
-                if is_it and report_undos.is_reported(step) and report_undos.fault(step) is None:
+                is_named = report_undos.step_name(saga, step) == steps[0].name
+                if is_named and report_undos.is_reported(step) and report_undos.fault(step) is None:
                     return self.report_undo(saga, step)
         return None
 
     def _fixed(self) -> list[Saga]:
-        """The sagas whose steps do not come from their input, sorted by name."""
+        """Return the sagas whose steps do not come from their input, sorted by name."""
         fixed = (saga for saga in self.sagas.values() if not saga.is_shaped)
         return sorted(fixed, key=lambda saga: (saga.name, saga.version))
 
     def _check_queues(self) -> None:
-        """Raises `DefinitionError` where workers would read stored values without the codec or the
-        blobs."""
-        word = "codec" if self.payloads.codec else "blobs"
+        """Check that workers of queues do not get encoded values or blobs.
+
+        Raises:
+            DefinitionError: They would.
+        """
+        option = "codec" if self.payloads.codec else "blobs"
         for saga in self.sagas.values() if self.payloads.reads else ():
-            for step in (one for one in saga.all_steps if one.run.queue or one.undo.queue):
+            for step in (step for step in saga.all_steps if step.run.queue or step.undo.queue):
                 raise DefinitionError(
-                    f"saga {saga.name!r}, step {step.name!r}: a store with {word}= cannot "
+                    f"saga {saga.name!r}, step {step.name!r}: a store with {option}= cannot "
                     "have steps with queue=, because their workers read stored values themselves"
                 )
 
-    def _divided(self) -> Iterator[tuple[Kind, DefinitionSet]]:
-        """Each definition with its set, of as many as a log has."""
+    def _divided(self) -> Iterator[tuple[CompiledDefinition, DefinitionSet]]:
+        """Yield each definition with its set, in sets of `MOST_DEFINITIONS`."""
         for first in range(0, len(self.kinds), MOST_DEFINITIONS):
             kinds = self.kinds[first : first + MOST_DEFINITIONS]
-            found = DefinitionSet(digest_of_texts([kind.text for kind in kinds]), kinds)
-            yield from ((kind, found) for kind in kinds)
+            definitions = DefinitionSet(digest_of_texts([kind.text for kind in kinds]), kinds)
+            yield from ((kind, definitions) for kind in kinds)
 
-    def kind(self, text: str) -> Kind:
-        """The definition of a text."""
+    def kind(self, text: str) -> CompiledDefinition:
+        """Return the definition of a text."""
         if shape_text.is_shaped(text):
             return self._shaped.kind(text)
         if text not in self._kinds:
             saga = self._undoing(text) or self._saga(text)
             if text in self._kinds:
                 return self._kinds[text]
-            kind = self._kinds[text] = Kind(text, saga, self.context, self.payloads)
+            kind = self._kinds[text] = CompiledDefinition(text, saga, self.context, self.payloads)
             kind.hooks = self._hooks_of(kind)
         return self._kinds[text]
 
     def _saga(self, text: str) -> Saga | None:
-        """The saga with the functions of a definition. One that undoes children has those of the
-        children's own definition, whatever the program declares today.
+        """Return the saga with the functions of a definition, or None.
+
+        The saga that undoes a child follows the stored definition, even if the program declares
+        another one.
         """
         version, child_name = version_of(text), undo_text.child_of(text)
         saga = self.sagas.get((name_of(text), version))
@@ -193,60 +207,64 @@ class Shelf:
         child = self.sagas.get((child_name, version)) if child_name else saga and saga.undoes
         return undo_sagas.of_text(child, text) if child else None
 
-    def undo_kind(self, child: Kind) -> Kind | None:
+    def undo_kind(self, child: CompiledDefinition) -> CompiledDefinition | None:
         """Return the definition of the saga that undoes a completed child.
 
         Args:
             child: The definition that the child ran with.
 
         Returns:
-            None where there is nothing to undo.
+            None if there is nothing to undo.
 
         Raises:
-            MissingStep: This program lacks a compensation.
+            MissingStep: This program does not have a compensation.
         """
-        lacks, saga = undo_sagas.lacks(child.saga, child.text), child.saga
-        if lacks is not None or saga is None:
+        missing, saga = undo_sagas.lacks(child.saga, child.text), child.saga
+        if missing is not None or saga is None:
             raise MissingStep(
                 f"a child of saga {child.name!r} (version {child.version}) is to be undone, but "
-                f"{lacks}. Declare it again"
+                f"{missing}. Declare it again"
             )
         text = undo_sagas.of_child(saga, child.text)
         return None if text is None else self.kind(text)
 
     def hooks(self, name: str) -> Hooks:
-        """The webhooks that are told of sagas of a name."""
+        """Return the webhooks that receive events of the sagas with this name."""
         return self._hooks(name)
 
     def fit(self, saga: Saga, text: str) -> Fitted | None:
-        """Return the definition of a saga with an input; None if functions say which steps it has
-        for the input. Then `shaping` calls them.
+        """Return the definition of a saga for an input.
 
         Args:
             saga: The saga.
             text: The input as JSON.
 
+        Returns:
+            None if functions compute the steps. Then `shaping` returns a function that calls them.
+
         Raises:
-            DefinitionError: The store was not opened with this very saga.
+            DefinitionError: The store was not opened with this saga.
         """
         if not isinstance(saga, Saga):
             validation.check_given(saga)
         fitted = self._fitted.get(saga)
         if fitted is not None and (kind := fitted.kind) is not None:
-            wrong = kind.misfit(text)
+            wrong = kind.input_error(text)
             return fitted if wrong is None else Fitted(kind, None, wrong)
         if self.sagas.get((saga.name, saga.version)) is not saga:
             raise DefinitionError(
                 f"{saga.where}: saga {saga.name!r}: the store was not opened with it. Add it "
                 "to open(..., [...])"
             )
-        if saga not in self._calling:  # it is whole by now
+        if saga not in self._calling:  # all of its parts are declared by now
             self._calling[saga] = saga.calls_functions
         return None if self._calling[saga] else self.shaped(text, self.shaping(saga, text)())
 
     def shaping(self, saga: Saga, text: str) -> Callable[[], Shape | SagasError]:
-        """Return what calls the functions by which the steps of a saga come from its input. They
-        may be slow, so a thread calls it.
+        """Return a function that computes the shape of a saga for an input.
+
+        It calls functions of the declaration, which may be slow, so call it in a thread. It returns
+        an error instead of raising it.
         """
         shape = self._shaped.shaping(saga, text)
 
@@ -259,34 +277,39 @@ class Shelf:
         return computed
 
     def shaped(self, text: str, shape: Shape | SagasError) -> Fitted:
-        """Return the definition of what `shaping` found for an input."""
+        """Return the definition for an input and the shape, or the error, of `shaping`."""
         if isinstance(shape, SagasError):
             return Fitted(None, None, shape)
         try:
             kind, values = self._shaped.of(shape)
         except SagasError as error:
             return Fitted(None, None, error)
-        return Fitted(kind, values, kind.misfit(text))
+        return Fitted(kind, values, kind.input_error(text))
 
     def announce(self, hooks: Callable[[str], Hooks]) -> None:
-        """Let webhooks be told of sagas: `hooks` gives them by the name of the saga."""
+        """Set the webhooks that receive events.
+
+        Args:
+            hooks: Returns the webhooks, given the name of the saga.
+        """
         self._hooks = hooks
         for kind in (*self._kinds.values(), *self._shaped.all()):
             kind.hooks = self._hooks_of(kind)
 
-    def _hooks_of(self, kind: Kind) -> Hooks:
-        """The webhooks that get posts of sagas of a definition; of one that undoes children, those
-        of the children as well.
+    def _hooks_of(self, kind: CompiledDefinition) -> Hooks:
+        """Return the webhooks that receive events of the sagas of a definition.
+
+        If the sagas undo children, these are also the webhooks of the children.
         """
-        found, child = self._hooks(kind.name), kind.saga and kind.saga.undoes
+        hooks, child = self._hooks(kind.name), kind.saga and kind.saga.undoes
         if not child:
-            return found
+            return hooks
         more = self._hooks(child.name)
-        types = dict.fromkeys((*found, *more))
+        types = dict.fromkeys((*hooks, *more))
         return {
-            name: (*dict.fromkeys((*found.get(name, ()), *more.get(name, ()))),) for name in types
+            name: (*dict.fromkeys((*hooks.get(name, ()), *more.get(name, ()))),) for name in types
         }
 
-    def set_of(self, kind: Kind) -> DefinitionSet:
-        """The definitions of the logs that take new sagas of this one."""
+    def set_of(self, kind: CompiledDefinition) -> DefinitionSet:
+        """Return the definitions of the shards for new sagas of a definition."""
         return self._sets.get(kind, GROWING)

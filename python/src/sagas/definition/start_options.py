@@ -1,4 +1,4 @@
-"""What a start says, apart from its key and its input."""
+"""`StartOptions`: the options of a start, apart from its key and its input."""
 
 from __future__ import annotations
 
@@ -11,21 +11,21 @@ from sagas.definition.labels import Labels
 from sagas.definition.step import Seconds, seconds
 
 Deadline = Seconds | datetime.datetime
-"""A time from now on, or a moment with a time zone."""
+"""A duration from now, or a datetime with a time zone."""
 LAST = datetime.datetime(9999, 1, 1, tzinfo=datetime.timezone.utc).timestamp()
-"""No calendar has a later time."""
+"""The last deadline, in seconds since 1970: a `datetime` has no year after 9999."""
 
 
 @dataclasses.dataclass(frozen=True, slots=True)
 class StartOptions:
-    """Of a saga that is started.
+    """The options of a saga that is started.
 
     Attributes:
-        labels: Its labels; the store has them once it is committed.
-        deadline: When it is aborted if it has not ended, in seconds of wall time, or None.
-        parent: The id of the saga that starts it, or None; the store has it once it is committed.
-        shape: What is kept of the shape that its input gave it, as it is stored, or None.
-        traceparent: The W3C trace context that it is started in, or None.
+        labels: Its labels. Only the store has them after the commit.
+        deadline: When it is aborted if it has not ended, in seconds since 1970, or None.
+        parent: The id of the saga that starts it, or None. Only the store has it after the commit.
+        shape: The stored values of its shape, or None.
+        traceparent: The W3C trace context in which it is started, or None.
     """
 
     labels: Labels = dataclasses.field(default_factory=lambda: labels_module.NONE)
@@ -39,11 +39,15 @@ NONE = StartOptions()
 
 
 def deadline_at(deadline: Deadline | None, now: float) -> float | None:
-    """Return when that is, in seconds of wall time.
+    """Return the time of a deadline in seconds since 1970.
+
+    Args:
+        deadline: The deadline, or None.
+        now: The present time in seconds since 1970.
 
     Raises:
-        TypeError: It is not a time, or has no time zone.
-        ValueError: It is negative, no number, or too far away.
+        TypeError: The deadline is not a time, or has no time zone.
+        ValueError: It is negative, not a number, or too far away.
     """
     if deadline is None:
         return None

@@ -31,10 +31,10 @@ class _Never(enum.Enum):
 
 
 NEVER: Literal[_Never.NEVER] = _Never.NEVER
-"""The cost of what must not be."""
+"""The cost of an operation that is not allowed."""
 
 Cost = Union[int, Literal[_Never.NEVER]]
-"""A whole number from 0 to 1,000,000,000, in whatever unit; or `NEVER`."""
+"""A whole number from 0 to 1,000,000,000, in any unit; or `NEVER`."""
 
 CostOf = Union[Cost, Callable[[Any], Any]]
 """A cost, or a function of the input that returns one (with `for_each`: of the item)."""
@@ -48,26 +48,26 @@ Until = Union[
 Unknowns = tuple[type[BaseException], ...]
 
 UNKNOWN: Unknowns = (TimeoutError, ConnectionError)
-"""What a function raises by default where nobody knows whether it had its effect."""
+"""The exceptions after which the outcome of a function is unknown by default."""
 
 EarlyUnused = Literal["ask", "compensate"]
-"""What follows where a step is reported before it begins, and its saga ends without it."""
+"""The reaction to a report of a step that does not start before its saga ends."""
 OnExhausted = Literal["fail", "ask", "retry"]
-"""What follows the last attempt of a step, or of a compensation."""
+"""The reaction to the failure of the last attempt of a step, or of a compensation."""
 
 Seconds = Union[float, datetime.timedelta]
-"""A time: seconds, or a timedelta."""
+"""A duration: seconds, or a timedelta."""
 
 MANY_TRIES = 9
 
 
 def seconds(time: Seconds) -> float:
-    """A time in seconds."""
+    """Return a duration in seconds."""
     return time.total_seconds() if isinstance(time, datetime.timedelta) else time
 
 
 def _rate(rate: Any) -> Any:
-    """So many calls in a time, with the time in seconds."""
+    """Return a rate limit with its period in seconds."""
     return (rate[0], seconds(rate[1])) if isinstance(rate, tuple) and len(rate) == 2 else rate
 
 
@@ -78,9 +78,9 @@ class Backoff:
     Args:
         initial: Seconds before the second attempt (default: 1).
         maximum: The longest pause, in seconds (default: 60).
-        multiplier: By which each pause is longer than the one before (default: 2).
-        jitter: A fraction from 0 to 1: each pause is shorter by up to this part of it, at random,
-            so that sagas that failed together do not retry together (default: 0).
+        multiplier: The factor by which each pause is longer than the one before (default: 2).
+        jitter: A fraction from 0 to 1. Each pause is shortened at random by up to this fraction, so
+            that sagas that failed together do not retry together (default: 0).
 
     Example:
         >>> [sagas.Backoff(initial=5).after(attempt) for attempt in (1, 2, 3, 4, 5)]
@@ -104,39 +104,43 @@ class Backoff:
 
 @dataclasses.dataclass(frozen=True, slots=True)
 class Bounds:
-    """What holds of a step's function over all nodes: so many calls at once, and so many in so
-    many seconds.
+    """The limits of a step's function over all nodes.
+
+    Attributes:
+        concurrency: Maximum concurrent calls, or None.
+        rate_limit: Maximum number of calls that start in a period, and the period in seconds.
     """
 
     concurrency: int | None = None
     rate_limit: tuple[int, float] | None = None
     is_keyed: bool = False
-    """Whether the concurrency is of each key by itself (`concurrency_by`)."""
+    """Whether the concurrency applies to each result of `concurrency_by` separately."""
 
 
 class RemoteQueue(Protocol):
-    """Where a step's function is called, if not in the program that has the store
-    (`sagas.celery.Queue`).
-    """
+    """A queue whose workers call a step's function: a `sagas.celery.Queue`."""
 
     timeout: float
-    """Seconds without a report after which nobody knows, where the step does not say it."""
+    """Seconds without a report after which the outcome is unknown, if the step has no timeout."""
 
     def declare(self, step: Step[Any], kind: str, manner: Manner) -> None:
-        """The function is there: `kind` is `run`, or `undo` for the step's compensation."""
+        """Register a step's function (`kind` is `run`), or its compensation (`undo`)."""
 
     async def check(self, database: Any, steps: Iterable[tuple[Step[Any], str]]) -> None:
-        """Whether reports can come back into this store. Raises `WrongStore` or
-        `DefinitionError`.
+        """Check that the workers report into this store.
+
+        Raises:
+            WrongStore: The workers report into another store.
+            DefinitionError: A step cannot run in this queue.
         """
 
     async def send(self, order: Any) -> None:
-        """Hands an order over. Raises where it could not be."""
+        """Send a message for an attempt. It raises an exception if that failed."""
 
 
 @dataclasses.dataclass(slots=True)
 class Manner:
-    """How a step's function, or its compensation, is called."""
+    """The options of calls of a step's function, or of its compensation."""
 
     function: Function | None = None
     tries: int = 1
@@ -145,35 +149,34 @@ class Manner:
     unknown: Unknowns = UNKNOWN
     max_unknown: int | datetime.timedelta | None = None
     external: bool = False
-    """It has no function here: a person or another program says how it ended (`Store.finish`)."""
+    """Whether it has no function here: a person or another program reports the outcome."""
     transaction: bool = False
-    """It is a transaction in the store's database, which its result is part of."""
+    """Whether the function runs in a transaction of the store's database, with its result."""
     asks: bool = False
-    """It is an approval's function: it asks somebody, or says at once how that ends."""
+    """Whether the function is that of an approval: it asks for a decision, or returns one."""
     implied: bool = False
-    """Nobody declared it: a wait, an approval, or a step with `undo=0` is undone by doing
-    nothing.
+    """Whether the compensation is not declared, and does nothing.
+
+    Waits, approvals and steps with `undo=0` have such a compensation.
     """
     queue: RemoteQueue | None = None
-    """Where it is called, if not in the program that has the store."""
+    """The queue whose workers call the function; None for the program with the store."""
     cancel_on_abort: bool = False
     """Whether the function is cancelled when its saga is aborted."""
     on_exhausted: OnExhausted = "fail"
-    """What follows the last attempt."""
+    """The reaction to the failure of the last attempt."""
     max_attempts: int | None = None
-    """The number of attempts, where it is not `tries`."""
+    """The maximum number of attempts; None for `tries`."""
 
     @property
     def is_simple(self) -> bool:
-        """Whether it is an async function that is called here, alone or in a transaction, for as
-        long as it takes.
-        """
+        """Whether it is an async function of this program without a timeout."""
         plain = self.function is not None and self.timeout is None and self.queue is None
         return plain and inspect.iscoroutinefunction(self.function)
 
 
 def nothing(task: Task[Any]) -> None:
-    """Undoes what had no effect."""
+    """Do nothing, as the compensation of a step without an effect."""
 
 
 class Step(Selection[R]):
@@ -237,7 +240,7 @@ class Step(Selection[R]):
 
     @property
     def has_compensation(self) -> bool:
-        """Whether it can be undone: by a function here, or elsewhere."""
+        """Whether it can be undone, by a function of this program or elsewhere."""
         return self.undo.function is not None or self.undo.external
 
     def cost(self, word: str) -> Cost:
@@ -247,19 +250,19 @@ class Step(Selection[R]):
             word: `run`, `undo`, `skip` or `keep`.
 
         Raises:
-            DefinitionError: It comes from the input.
+            DefinitionError: The cost is a function of the input.
         """
-        given = self._costs[word]
-        if callable(given):
+        cost = self._costs[word]
+        if callable(cost):
             raise validation.of_step(self, f"{word}= is a function, so it comes from the input")
-        if given is not None:
-            return given
+        if cost is not None:
+            return cost
         if self.child is not None and (word == "keep" or self.undo.implied):
             return self.child.total_cost(word)
         return 0 if self.has_compensation else NEVER
 
     def declared_cost(self, word: str) -> CostOf | None:
-        """Return one of the step's costs as it was declared.
+        """Return one of the step's costs without its default: None if it is not declared.
 
         Args:
             word: As of `cost`.
@@ -267,7 +270,7 @@ class Step(Selection[R]):
         return self._costs[word]
 
     def manner(self, kind: str) -> Manner:
-        """Return how its function or its compensation is called.
+        """Return the call options of its function, or of its compensation.
 
         Args:
             kind: `run`, or `undo` for the compensation.
@@ -275,7 +278,7 @@ class Step(Selection[R]):
         return self.run if kind == "run" else self.undo
 
     def starts_child(self, kind: str) -> bool:
-        """Return whether another saga does it, or its compensation.
+        """Return whether a child saga performs it, or its compensation.
 
         Args:
             kind: `run`, or `undo` for the compensation.
@@ -338,8 +341,8 @@ class Step(Selection[R]):
                 False).
             queue: The queue whose workers call it; None: this program (default: the step's).
             on_exhausted: What follows the last attempt, or `Fail`: `ask` waits for `Store.retry`,
-                `Store.complete` or `Store.fail`. `retry` goes on without end, but asks at a `Fail`.
-                `fail` leaves the effect in place (default: `ask`).
+                `Store.complete` or `Store.fail`. `retry` repeats without end, but asks after a
+                `Fail`. `fail` leaves the effect in place (default: `ask`).
             max_attempts: As of `Saga.step` (default: `tries`).
 
         Returns:
@@ -365,7 +368,7 @@ class Step(Selection[R]):
         """
 
         def declare(function: Callable[[Any], Any] | None) -> Callable[[Any], Any] | None:
-            where = validation.place(function) or validation.caller(3)
+            where = validation.location_of(function) or validation.caller(3)
             if self.has_compensation and not self.undo.implied:
                 raise validation.of_step(
                     self,
@@ -381,7 +384,7 @@ class Step(Selection[R]):
                     where,
                 )
             unknowns = self.run.unknown if unknown is None else unknown
-            inside = function is not None and (
+            is_transaction = function is not None and (
                 self.run.transaction if transaction is None else transaction
             )
             self.undo = Manner(
@@ -392,7 +395,7 @@ class Step(Selection[R]):
                 unknowns,
                 max_unknown,
                 function is None,
-                inside,
+                is_transaction,
                 on_exhausted=on_exhausted,
                 max_attempts=max_attempts,
             )
@@ -407,7 +410,7 @@ class Step(Selection[R]):
         return Decorator(self.saga, f"{self.name}.compensation", None, declare)
 
     def __call__(self, task: Any) -> Any:
-        """Calls the function itself, for tests of it."""
+        """Call the step's function, for tests of the function."""
         if self.run.function is None:
             raise validation.of_step(self, "has no function in this program")
         return self.run.function(task)

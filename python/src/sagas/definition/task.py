@@ -1,4 +1,4 @@
-"""`Task`: what a function is called with."""
+"""`Task`: the argument of a step's function."""
 
 from __future__ import annotations
 
@@ -10,11 +10,11 @@ from sagas.base.errors import CannotDecode, ResultNotSerializable, StepFailed
 from sagas.definition import mismatches, serialization, tokens
 from sagas.definition.collection import Collection, of_names
 from sagas.definition.control import Cancellation, Progress
-from sagas.definition.place import NO_ITEM, Place
+from sagas.definition.place import NO_ITEM, StepLocation
 from sagas.definition.selection import Selection
-from sagas.definition.task_data import About as About
-from sagas.definition.task_data import Told as Told
-from sagas.definition.task_data import whole as whole
+from sagas.definition.task_data import TaskData as TaskData
+from sagas.definition.task_data import TaskSnapshot as TaskSnapshot
+from sagas.definition.task_data import snapshot as snapshot
 
 I = TypeVar("I")
 R = TypeVar("R")
@@ -35,66 +35,67 @@ class Task(Generic[I]):
         {'greet': 'hello h-1 greet 1 you'}
     """
 
-    __slots__ = ("_about", "_given", "_connection", "_take")
+    __slots__ = ("_data", "_needed_results", "_connection", "_take")
 
-    def __init__(self, about: About) -> None:
-        self._about = about
-        self._given: Mapping[str, str] | None = None
+    def __init__(self, data: TaskData) -> None:
+        self._data = data
+        self._needed_results: Mapping[str, str] | None = None
         self._connection: Any = None
         self._take: Callable[[], Any] | None = None
 
     @property
     def saga(self) -> str:
         """The saga's name."""
-        return self._about.saga
+        return self._data.saga
 
     @property
     def key(self) -> str:
         """The saga's key."""
-        return self._about.key
+        return self._data.key
 
     @property
     def step(self) -> str:
         """The step's name."""
-        return self._about.name
+        return self._data.name
 
     @property
     def is_compensation(self) -> bool:
-        """Whether it undoes the step."""
-        return self._about.undo
+        """Whether this is an attempt of the step's compensation."""
+        return self._data.undo
 
     @property
     def attempt(self) -> int:
         """The attempt's number, from 1."""
-        return self._about.attempt
+        return self._data.attempt
 
     @property
     def deadline(self) -> datetime.datetime | None:
         """When the saga is aborted if it has not ended, or None. It has a time zone."""
-        at = self._about.deadline
+        at = self._data.deadline
         return None if at is None else datetime.datetime.fromtimestamp(at, datetime.timezone.utc)
 
     @property
     def traceparent(self) -> str | None:
         """The W3C trace context that the saga was started in, or None.
 
-        Hand it on as the header `traceparent`. Where `opentelemetry-api` is installed, the span of
-        this attempt is a child of it, and is current while the function runs.
+        Send it to services as the header `traceparent`. If `opentelemetry-api` is installed, the
+        span of this attempt is a child of it, and is current while the function runs.
         """
-        return self._about.traceparent
+        return self._data.traceparent
 
-    def __reduce__(self) -> tuple[type[Task[Any]], tuple[Told]]:
-        """A copy, or one for another process, knows all of it, and has no connection and no
-        context; it is never cancelled, and nobody hears of its progress.
+    def __reduce__(self) -> tuple[type[Task[Any]], tuple[TaskSnapshot]]:
+        """Copy the data of the task, without its connection and its context.
+
+        The copy is never cancelled, and its progress is not stored.
         """
-        return Task, (whole(self._about),)
+        return Task, (snapshot(self._data),)
 
     @property
     def _texts(self) -> Mapping[str, str]:
-        """The results that it may ask for: gathered once, since a step may ask for each of many."""
-        if self._given is None:
-            self._given = self._about.given
-        return self._given
+        """The results that the function may read, by step; cached, since it may read many."""
+        if self._needed_results is None:
+            self._needed_results = self._data.needed_results
+        return self._needed_results
 
     def enter(self, connection: Any) -> None:
         """Set the connection of a step with `transaction=True`.
@@ -105,7 +106,7 @@ class Task(Generic[I]):
         self._connection = connection
 
     def enter_by(self, take: Callable[[], Any]) -> None:
-        """Set what returns that connection when the function asks for it.
+        """Set the function that returns the connection when `connection` is read.
 
         Args:
             take: Returns the connection.
@@ -113,7 +114,7 @@ class Task(Generic[I]):
         self._take = take
 
     def leave(self) -> Any:
-        """Return the connection that the function asked for, and give no more."""
+        """End the use of the connection, and return it if it was read, else None."""
         self._take = None
         return self._connection
 
@@ -138,12 +139,12 @@ class Task(Generic[I]):
 
     @property
     def context(self) -> Any:
-        """Return what the store was opened with as `context=`, or what that made.
+        """Return the value of `context=` of the open store, or what its factory made.
 
         Raises:
-            RuntimeError: There is none.
+            RuntimeError: The context is missing.
         """
-        return self._about.context.get()
+        return self._data.context.get()
 
     @property
     def cancelled(self) -> Cancellation:
@@ -156,36 +157,36 @@ class Task(Generic[I]):
             A `Cancellation`: `is_set()`, `wait(timeout)` in a plain function, `await` in an async
             one, and `reason`.
         """
-        return self._about.control.cancelled
+        return self._data.control.cancelled
 
     def progress(self, fraction: float, detail: str | None = None) -> None:
         """Report how far the function is, for people.
 
-        It does not block. The last one is written about once a second, as it is: a codec does not
-        encode it.
+        It does not block. The last one is written about once a second. It is not encoded by a
+        codec.
 
         Args:
             fraction: A number from 0 to 1.
-            detail: A text for people, of which 200 characters are kept (default: None).
+            detail: A text for people, cut to 200 characters (default: None).
 
         Raises:
             TypeError: The fraction is not a number, or the detail is not a text.
             ValueError: The fraction is not from 0 to 1.
         """
-        self._about.control.tell(fraction, detail)
+        self._data.control.set_progress(fraction, detail)
 
-    def news(self) -> Progress | None:
-        """Return what `progress` was told since this was asked last, for a heartbeat."""
-        return self._about.control.news()
+    def take_progress(self) -> Progress | None:
+        """Return the progress if it is new since the last call, else None."""
+        return self._data.control.take_progress()
 
     @property
     def idempotency_key(self) -> str:
-        """The key to hand to services: the same for all attempts, and after a crash.
+        """The key to send to services: the same for all attempts, and after a crash.
 
         It differs between a step and its compensation.
         """
         kind = "undo" if self.is_compensation else "run"
-        return tokens.idempotency_key(self._about.saga_token, self.step, kind)
+        return tokens.idempotency_key(self._data.saga_token, self.step, kind)
 
     @property
     def attempt_id(self) -> str:
@@ -199,18 +200,18 @@ class Task(Generic[I]):
     @property
     def original_idempotency_key(self) -> str:
         """The idempotency key of the action: in a compensation, of what it undoes."""
-        return tokens.idempotency_key(self._about.saga_token, self.step, "run")
+        return tokens.idempotency_key(self._data.saga_token, self.step, "run")
 
     @property
     def input(self) -> I:
-        """What the saga was started with: a new object at each access.
+        """The input of the saga: a new object at each access.
 
         Raises:
             CannotDecode: The stored input does not fit the type of the hint.
         """
         try:
-            given: I = serialization.read(self._about.input, self._about.hint)
-            return given
+            value: I = serialization.read(self._data.input, self._data.hint)
+            return value
         except Exception as error:  # of the type's own code
             raise self._unread("input", error) from None
 
@@ -223,25 +224,29 @@ class Task(Generic[I]):
         Raises:
             CannotDecode: A stored result does not fit its step's type.
         """
-        texts, place = self._texts, self._about.place
-        if place is None:
+        texts, location = self._texts, self._data.location
+        if location is None:
             return {name: self._kept(name, text) for name, text in texts.items()}
-        return {name: self._kept(step, texts[step]) for name, step in place.visible(texts)}
+        return {name: self._kept(step, texts[step]) for name, step in location.visible(texts)}
 
     def _kept(self, name: str, text: str) -> Any:
-        """A step's result. Raises `CannotDecode`."""
+        """Return a step's result. Raises `CannotDecode`."""
         try:
-            return serialization.kept(text, self._about.decoders.get(name))
+            return serialization.kept(text, self._data.decoders.get(name))
         except Exception as error:  # of the type's own code
             raise self._unread(f"result of {name!r}", error) from None
 
-    def _unread(self, what: str, error: Exception) -> CannotDecode:
-        """Why what is stored cannot be read."""
-        about = self._about
-        whose = "the compensation of step" if about.undo else "step"
-        told = error if isinstance(error, NameError) else mismatches.of(error)
-        text = f"{what}: {told}" if isinstance(told, NameError) else f"{what}{told}"
-        return CannotDecode(f"saga {about.saga!r}, {whose} {about.name!r}: {text}")
+    def _unread(self, value: str, error: Exception) -> CannotDecode:
+        """Return the error for a stored value that cannot be decoded.
+
+        Args:
+            value: The value's name, for the message.
+            error: The error of the decoder.
+        """
+        data = self._data
+        step = "the compensation of step" if data.undo else "step"
+        reason = f": {error}" if isinstance(error, NameError) else str(mismatches.of(error))
+        return CannotDecode(f"saga {data.saga!r}, {step} {data.name!r}: {value}{reason}")
 
     @property
     def result(self) -> Any:
@@ -252,40 +257,40 @@ class Task(Generic[I]):
         Raises:
             CannotDecode: The stored result does not fit the step's type.
         """
-        own = self._about.own
-        return None if own is None else self._kept(self.step, own)
+        own_result = self._data.own_result
+        return None if own_result is None else self._kept(self.step, own_result)
 
     @property
     def plain(self) -> dict[str, Any]:
-        """`input`, `item`, `results` and `result` as JSON values, for a worker elsewhere.
+        """`input`, `item`, `results`, `result` and the shape as JSON values.
 
-        With the shape of its saga.
+        A worker outside of the store gets them.
         """
-        about, texts, place = self._about, self._texts, self._about.place
-        names = place.visible(texts) if place else ((name, name) for name in texts)
+        data, texts, location = self._data, self._texts, self._data.location
+        names = location.visible(texts) if location else ((name, name) for name in texts)
         results = {name: serialization.read(texts[step]) for name, step in names}
         return {
             "declared_step": self.declared_step,
-            **(place.plain if place else NO_ITEM),
-            "shape": place.shape if place else None,
-            "input": serialization.read(about.input),
-            "results": results | dict(place.groups(texts)) if place else results,
-            "result": None if about.own is None else serialization.read(about.own),
+            **(location.plain if location else NO_ITEM),
+            "shape": location.shape if location else None,
+            "input": serialization.read(data.input),
+            "results": results | dict(location.groups(texts)) if location else results,
+            "result": None if data.own_result is None else serialization.read(data.own_result),
         }
 
     @property
     def texts(self) -> dict[str, Any]:
-        """All of the task as JSON texts, from which another node makes it again."""
-        about = self._about
-        told = {
-            "saga": about.saga,
-            "key": about.key,
-            "step": about.name,
-            "undo": about.undo,
-            "attempt": about.attempt,
-            "of": about.saga_token,
+        """The data of the task with JSON texts. Another node can make the task from it."""
+        data = self._data
+        names = {
+            "saga": data.saga,
+            "key": data.key,
+            "step": data.name,
+            "undo": data.undo,
+            "attempt": data.attempt,
+            "of": data.saga_token,
         }
-        return told | {"input": about.input, "results": self._texts, "result": about.own}
+        return names | {"input": data.input, "results": self._texts, "result": data.own_result}
 
     @overload
     def result_of(self, step: Selection[R]) -> R:
@@ -299,33 +304,34 @@ class Task(Generic[I]):
         """Return the result of a step that this one needs, directly or not.
 
         Args:
-            step: The step, or its name. Of a fan-out: a list, or a dict by the keys of its items;
-                `ship.each`: that of the same item; `hotel[room]`: that of an included saga's step.
+            step: The step, or its name. The result of a fan-out is a list, or a dict by the keys of
+                its items. `ship.each` is the step of the same item; `hotel[room]` is a step of an
+                included saga.
 
         Raises:
-            KeyError: This step does not need it, or it is not there for this input.
+            KeyError: This step does not need it, or it does not exist for this input.
             ResultNotSerializable: The result could not be stored.
             StepFailed: The item failed, and its failure was collected.
             CannotDecode: The stored result does not fit the step's type.
         """
-        place = self._about.place
-        if place is None:
+        location = self._data.location
+        if location is None:
             return self._result(step if isinstance(step, str) else step.path[0])
         if isinstance(step, Collection):
-            return of_names(place.gather(step, str), self._result)
-        return place.gather(step, self._result)
+            return of_names(location.gather(step, str), self._result)
+        return location.gather(step, self._result)
 
     def _result(self, name: str) -> Any:
-        """The result of one step, by its whole name."""
-        about = self._about
+        """Return the result of one step, by its full name."""
+        data = self._data
         text = self._texts.get(name)
         if text is None:
-            if about.undo and name == about.name and about.own is not None:
-                text = about.own
+            if data.undo and name == data.name and data.own_result is not None:
+                text = data.own_result
             else:
-                raise KeyError(f"step {about.name!r} does not need {name!r}. Add it to needs=")
+                raise KeyError(f"step {data.name!r} does not need {name!r}. Add it to needs=")
         try:
-            return serialization.returned(text, about.decoders.get(name), name)
+            return serialization.returned(text, data.decoders.get(name), name)
         except (ResultNotSerializable, StepFailed):
             raise
         except Exception as error:  # of the type's own code
@@ -335,15 +341,15 @@ class Task(Generic[I]):
 
     @property
     def has_item(self) -> bool:
-        """Whether its step has an item: it was declared with `for_each=`."""
-        place = self._about.place
-        return place is not None and place.spot.number is not None
+        """Whether its step was declared with `for_each=`, and so has an item."""
+        location = self._data.location
+        return location is not None and location.origin.number is not None
 
-    def _placed(self) -> Place:
-        place = self._about.place
-        if place is None or not self.has_item:
+    def _item_location(self) -> StepLocation:
+        location = self._data.location
+        if location is None or not self.has_item:
             raise RuntimeError(f"step {self.step!r} has no item. Declare it with for_each=")
-        return place
+        return location
 
     @property
     def item(self) -> Any:
@@ -353,9 +359,9 @@ class Task(Generic[I]):
             RuntimeError: The step has no item.
             CannotDecode: The stored item does not fit the type of the hint.
         """
-        place = self._placed()
+        location = self._item_location()
         try:
-            return place.item()
+            return location.item()
         except Exception as error:  # of the type's own code
             raise self._unread("item", error) from None
 
@@ -366,7 +372,7 @@ class Task(Generic[I]):
         Raises:
             RuntimeError: The step has no item.
         """
-        index = self._placed().index
+        index = self._item_location().index
         assert index is not None
         return index
 
@@ -376,25 +382,25 @@ class Task(Generic[I]):
 
         `ship` of `ship-0`; `hotel/room` of a step of an included saga.
         """
-        place = self._about.place
-        return self.step if place is None else place.spot.declared
+        location = self._data.location
+        return self.step if location is None else location.origin.declared
 
     @property
     def given(self) -> Any:
-        """What `given=` of `Saga.include` returns for this task.
+        """The result of `given=` of `Saga.include` for this task.
 
         None in a saga that is not included.
 
         Raises:
             Exception: Whatever that function raises.
         """
-        place = self._about.place
-        return None if place is None else place.given(self._about)
+        location = self._data.location
+        return None if location is None else location.given(self._data)
 
     @property
     def lacks_given(self) -> bool:
         """Whether the program does not have the function that computes `given`."""
-        return self._about.place is not None and self._about.place.lacks_given
+        return self._data.location is not None and self._data.location.lacks_given
 
     def __repr__(self) -> str:
         return f"<task {self.attempt_id} of {self.key!r}>"

@@ -1,4 +1,4 @@
-"""`About`: what a task is asked for, and `Told`: all of it at once."""
+"""`TaskData`: the data of a task, and `TaskSnapshot`: a copy of all of it."""
 
 from __future__ import annotations
 
@@ -11,15 +11,31 @@ from sagas.definition.control import Control
 from sagas.definition.decoders import Decoder
 
 if TYPE_CHECKING:
-    from sagas.definition.place import Place
+    from sagas.definition.place import StepLocation
 
 
-class About(Protocol):
-    """What a task is asked for: looked up only then, since most functions ask for little. Inputs
-    and results are JSON texts.
+class TaskData(Protocol):
+    """The data of a task. Inputs and results are JSON texts.
 
-    `saga_token` begins its tokens. `given`: the results of the steps that it needs, by name;
-    `own`: in a compensation that of its step.
+    The attributes may be computed at each access, since most functions read few of them.
+
+    Attributes:
+        saga: The saga's name.
+        key: The saga's key.
+        name: The step's name.
+        undo: Whether the task is of a compensation.
+        attempt: The number of the attempt, from 1.
+        saga_token: The saga's token, with which the idempotency key begins.
+        input: The saga's input.
+        needed_results: The results of the steps that this one needs, by name.
+        own_result: In a compensation the result of its step, else None.
+        hint: The decoder of the input, or None.
+        decoders: The decoders of results, by step.
+        deadline: When the saga is aborted, in seconds since 1970, or None.
+        traceparent: The W3C trace context, or None.
+        context: The context that the functions of the store share.
+        control: The cancellation and the progress of the function.
+        location: The location of the step, or None.
     """
 
     @property
@@ -51,11 +67,11 @@ class About(Protocol):
         ...
 
     @property
-    def given(self) -> Mapping[str, str]:
+    def needed_results(self) -> Mapping[str, str]:
         ...
 
     @property
-    def own(self) -> str | None:
+    def own_result(self) -> str | None:
         ...
 
     @property
@@ -83,13 +99,13 @@ class About(Protocol):
         ...
 
     @property
-    def place(self) -> Place | None:
-        """Where its step is in a saga whose steps come from its input; None in all others."""
+    def location(self) -> StepLocation | None:
+        """The location of its step if the saga's steps come from its input, else None."""
 
 
 @dataclasses.dataclass(slots=True)
-class Told:
-    """All of it at once, for a task of which nothing else is here. Nothing changes it."""
+class TaskSnapshot:
+    """A copy of a task's data, for a task without an attempt in this process."""
 
     saga: str
     key: str
@@ -98,34 +114,34 @@ class Told:
     attempt: int
     saga_token: str
     input: str
-    given: Mapping[str, str]
-    own: str | None
+    needed_results: Mapping[str, str]
+    own_result: str | None
     hint: Decoder | None = None
     decoders: Mapping[str, Decoder] = dataclasses.field(default_factory=dict)
     deadline: float | None = None
     context: Context = dataclasses.field(default_factory=lambda: Context(ELSEWHERE))
     control: Control = dataclasses.field(default_factory=Control)
     traceparent: str | None = None
-    place: Place | None = None
+    location: StepLocation | None = None
 
 
-def whole(about: About) -> Told:
-    """As it is now, whatever becomes of it."""
-    return Told(
-        about.saga,
-        about.key,
-        about.name,
-        about.undo,
-        about.attempt,
-        about.saga_token,
-        about.input,
-        about.given,
-        about.own,
-        about.hint,
-        about.decoders,
-        about.deadline,
-        about.context,
-        about.control,
-        about.traceparent,
-        about.place,
+def snapshot(data: TaskData) -> TaskSnapshot:
+    """Return a copy of the present data of a task."""
+    return TaskSnapshot(
+        data.saga,
+        data.key,
+        data.name,
+        data.undo,
+        data.attempt,
+        data.saga_token,
+        data.input,
+        data.needed_results,
+        data.own_result,
+        data.hint,
+        data.decoders,
+        data.deadline,
+        data.context,
+        data.control,
+        data.traceparent,
+        data.location,
     )

@@ -1,4 +1,4 @@
-"""When a schedule starts its sagas."""
+"""`Timing`: the times at which a schedule starts its sagas."""
 
 from __future__ import annotations
 
@@ -15,48 +15,48 @@ from sagas.definition.cron import Cron
 MOST_NAME = 128
 UTC = datetime.timezone.utc
 APART = 60.0
-"""Seconds between two times of an expression, at least."""
+"""Minimum seconds between two times of a cron expression."""
 LATE = 60.0
-"""Seconds that a time may be late and is not missed."""
+"""Seconds by which a time may be late without being missed."""
 
 
 class CatchUp(enum.StrEnum):
-    """What becomes of times that were missed, since no node ran."""
+    """The reaction to times that were missed because no node ran."""
 
     LAST = "last"
-    """The last one is started."""
+    """Start the saga of the last one."""
     ALL = "all"
-    """Each one is started, in order."""
+    """Start the saga of each one, in order."""
     SKIP = "skip"
-    """None is started."""
+    """Start none of their sagas."""
 
 
 class Overlap(enum.StrEnum):
-    """What becomes of a time while the saga of the time before is open."""
+    """The reaction to a time while the saga of the previous time is open."""
 
     ALLOW = "allow"
-    """It is started."""
+    """Start its saga."""
     SKIP = "skip"
-    """It is not started."""
+    """Do not start its saga."""
     QUEUE = "queue"
-    """It is started once that saga has ended."""
+    """Start its saga after the open one has ended."""
 
 
 MOST_MISSED = 100
-"""Missed times that are started at most, if nothing else is said."""
+"""Maximum number of missed times whose sagas are started (the default)."""
 
 
 @dataclasses.dataclass(frozen=True, slots=True)
 class Timing:
-    """Times by a cron expression, or in equal distances.
+    """The times of a cron expression, or times at equal intervals.
 
     Attributes:
         cron: The expression; the empty text if there is none.
-        every: Seconds between two times, which are multiples of that since 1970; 0 with `cron`.
+        every: Seconds of an interval; 0 with `cron`. The times are multiples of it since 1970.
         timezone: The time zone of the expression.
-        catch_up: What becomes of times that were missed.
-        most: How many missed times are started at most, the last ones.
-        overlap: What becomes of a time while the saga of the time before is open.
+        catch_up: The reaction to times that were missed.
+        most: Maximum number of missed times whose sagas are started: the last ones.
+        overlap: The reaction to a time while the saga of the previous time is open.
     """
 
     cron: str
@@ -68,14 +68,14 @@ class Timing:
 
     @property
     def policy(self) -> str:
-        """`catch_up`, `most` and `overlap` as they are stored. Defaults are left out."""
-        words = [self.catch_up.value]
-        words += [f"max={self.most}"] if self.most != MOST_MISSED else []
-        words += [f"overlap={self.overlap}"] if self.overlap is not Overlap.ALLOW else []
-        return " ".join(words)
+        """The stored text of `catch_up`, `most` and `overlap`, without defaults."""
+        parts = [self.catch_up.value]
+        parts += [f"max={self.most}"] if self.most != MOST_MISSED else []
+        parts += [f"overlap={self.overlap}"] if self.overlap is not Overlap.ALLOW else []
+        return " ".join(parts)
 
     def next_after(self, at: float) -> float:
-        """Return the first time behind another one, in seconds since 1970.
+        """Return the first time after another one, in seconds since 1970.
 
         Raises:
             InvalidSchedule: There is none, or this system does not have the time zone.
@@ -83,10 +83,10 @@ class Timing:
         if self.every:
             return (self._passed(at) + 1) * self.every
         start = datetime.datetime.fromtimestamp(at, UTC)
-        found = Cron.parse(self.cron).next_after(start, self._zone())
-        if found is None:
+        time = Cron.parse(self.cron).next_after(start, self._zone())
+        if time is None:
             raise InvalidSchedule(f"cron={self.cron!r}: this day never comes")
-        return found.timestamp()
+        return time.timestamp()
 
     def _zone(self) -> ZoneInfo:
         try:
@@ -98,12 +98,12 @@ class Timing:
             ) from error
 
     def due(self, next_at: float, now: float, most: int) -> tuple[list[float], float]:
-        """Return which times are to be started now, and the next one behind them.
+        """Return the times whose sagas are due now, and the first time after them.
 
         Args:
-            next_at: The first time that was not started.
-            now: Wall time in seconds.
-            most: How many times at most; with `CatchUp.ALL` others are still due behind them.
+            next_at: The first time whose saga was not started.
+            now: The present time in seconds since 1970.
+            most: Maximum number of times. With `CatchUp.ALL`, more times may be due after them.
         """
         if self.catch_up is not CatchUp.ALL:
             last = self._last(next_at, now)
@@ -116,8 +116,9 @@ class Timing:
         return times, at
 
     def first_of(self, next_at: float, now: float) -> float:
-        """Return the first of the last `self.most` times until now, or `next_at` if they are fewer:
-        there may be millions between.
+        """Return the first of the last `self.most` times, or `next_at` if it is later.
+
+        It does not list all times since `next_at`, which may be millions.
         """
         if self.every:
             return max(next_at, (self._passed(now) - self.most + 1) * self.every)
@@ -133,26 +134,27 @@ class Timing:
         return next_at
 
     def missed(self, next_at: float, now: float) -> int:
-        """Return how many times there are until now, of which `next_at` is the first; of more than
-        `self.most` these.
-        """
+        """Return the number of times from `next_at` until now, at most `self.most`."""
         count, at = 0, self.first_of(next_at, now)
         while at <= now:
             count, at = count + 1, self.next_after(at)
         return count
 
     def _passed(self, at: float) -> float:
-        """How many distances there are until then."""
-        whole = at // self.every
-        # a multiple is rounded, maybe to less than it is: then it is not counted yet
-        return whole + ((whole + 1) * self.every <= at)
+        """Return the number of intervals from 1970 until a time."""
+        intervals = at // self.every
+        # a multiple may be rounded down, so that it is not counted yet
+        return intervals + ((intervals + 1) * self.every <= at)
 
     def _last(self, first: float, now: float) -> float:
-        """The last time until now, of which the first is one: there may be millions between."""
+        """Return the last time from `first` until now.
+
+        It does not list all times between them, which may be millions.
+        """
         if self.every:
             return self._passed(now) * self.every
         low, high = first - 1, now
-        while high - low > APART / 2:  # the last one is behind `low`, and not behind `high`
+        while high - low > APART / 2:  # the last one is after `low`, and not after `high`
             middle = (low + high) / 2
             if self.next_after(middle) <= now:
                 low = middle
@@ -162,10 +164,10 @@ class Timing:
 
 
 def policy_of(stored: str) -> tuple[CatchUp, int, Overlap]:
-    """Return `catch_up`, `most` and `overlap` of what `Timing.policy` wrote."""
-    catch_up, *words = stored.split(" ")
-    more = dict(word.split("=") for word in words)
-    most, overlap = int(more.get("max", MOST_MISSED)), Overlap(more.get("overlap", "allow"))
+    """Return `catch_up`, `most` and `overlap` from the text of `Timing.policy`."""
+    catch_up, *parts = stored.split(" ")
+    options = dict(part.split("=") for part in parts)
+    most, overlap = int(options.get("max", MOST_MISSED)), Overlap(options.get("overlap", "allow"))
     return CatchUp(catch_up), most, overlap
 
 
@@ -177,10 +179,10 @@ def timing(
     most: Any = MOST_MISSED,
     overlap: Any = Overlap.ALLOW,
 ) -> Timing:
-    """Return when a schedule starts its sagas, by the arguments of `Store.schedule`.
+    """Return the timing for the arguments of `Store.schedule`, which it checks.
 
     Raises:
-        InvalidSchedule: They say nothing, or nothing that ever comes.
+        InvalidSchedule: An argument is not valid, or no time ever comes.
     """
     if (cron is None) == (every is None):
         raise InvalidSchedule(
@@ -190,12 +192,12 @@ def timing(
     if every is not None and (not isinstance(seconds, (int, float)) or not 1 <= seconds < 1e9):
         raise InvalidSchedule(f"every={shown(every)}: must be a timedelta of at least a second")
     try:
-        told = CatchUp(catch_up)
+        catch_up_policy = CatchUp(catch_up)
     except ValueError:
         names = ", ".join(CatchUp)
         raise InvalidSchedule(f"catch_up={shown(catch_up)}: must be one of {names}") from None
     try:
-        told_overlap = Overlap(overlap)
+        overlap_policy = Overlap(overlap)
     except ValueError:
         names = ", ".join(Overlap)
         raise InvalidSchedule(f"overlap={shown(overlap)}: must be one of {names}") from None
@@ -213,13 +215,14 @@ def timing(
             Cron.parse(cron)
         except (ValueError, AttributeError, TypeError) as error:
             raise InvalidSchedule(f"cron={shown(cron)}: {error}") from error
-    found = Timing(cron or "", float(seconds or 0), timezone, told, most, told_overlap)
-    found.next_after(0.0)
-    return found
+    interval = float(seconds or 0)
+    checked = Timing(cron or "", interval, timezone, catch_up_policy, most, overlap_policy)
+    checked.next_after(0.0)
+    return checked
 
 
 def check_name(name: Any) -> None:
-    """Raises `InvalidSchedule` where it is no name of a schedule."""
+    """Raise `InvalidSchedule` if a name is not valid for a schedule."""
     is_text = isinstance(name, str) and 0 < len(name) <= MOST_NAME and name.isprintable()
     if not is_text or "@" in name or BELOW in name:
         raise InvalidSchedule(
@@ -229,5 +232,5 @@ def check_name(name: Any) -> None:
 
 
 def key_of(name: str, at: float) -> str:
-    """The key of the saga that a schedule starts at a time."""
+    """Return the key of the saga that a schedule starts at a time."""
     return f"{name}@{datetime.datetime.fromtimestamp(at, UTC):%Y-%m-%dT%H:%M:%SZ}"

@@ -1,8 +1,8 @@
 """Idempotency keys and attempt ids: one format and its parser.
 
-- A saga: `SHARD-NUMBER`, by its shard's name and its number there.
-- An effect, the idempotency key: `SHARD-NUMBER-STEP-run`, or `-undo` of a compensation.
-- An attempt: `SHARD-NUMBER-STEP-run-ATTEMPT`.
+- The token of a saga: `SHARD-NUMBER`, the shard's name and the saga's number in the shard.
+- The idempotency key of an effect: `SHARD-NUMBER-STEP-run`, or `-undo` for a compensation.
+- The id of an attempt: `SHARD-NUMBER-STEP-run-ATTEMPT`.
 """
 
 from __future__ import annotations
@@ -16,32 +16,38 @@ ATTEMPT_ID = re.compile(
 
 
 def saga_token(shard: str, number: int) -> str:
-    """Name a saga."""
+    """Return the token of a saga."""
     return f"{shard}-{number}"
 
 
 def idempotency_key(saga: str, step: str, kind: str) -> str:
-    """Name an effect: the same over all attempts. `saga`: the saga's token."""
+    """Return the idempotency key of an effect, which is the same for all attempts.
+
+    Args:
+        saga: The saga's token.
+        step: The step's name.
+        kind: `run`, or `undo` for the compensation.
+    """
     return f"{saga}-{step}-{kind}"
 
 
 def attempt_id(key: str, attempt: int) -> str:
-    """Name an attempt by its idempotency key."""
+    """Return the id of an attempt, given its idempotency key."""
     return f"{key}-{attempt}"
 
 
 def saga_of(key: str, step: str, kind: str) -> str:
-    """Return the saga's token in an idempotency key of one of its steps."""
+    """Return the saga's token, given the idempotency key of one of its steps."""
     return key.removesuffix(f"-{step}-{kind}")
 
 
 def shard_of(saga: str) -> str:
-    """Return the shard's name in a saga's token."""
+    """Return the shard's name, given a saga's token."""
     return saga.rpartition("-")[0]
 
 
 class AttemptId(NamedTuple):
-    """What an attempt's name says."""
+    """The parts of an attempt's id."""
 
     shard: str
     number: int
@@ -51,9 +57,9 @@ class AttemptId(NamedTuple):
 
 
 def parse(text: str) -> AttemptId | None:
-    """Read an attempt's name. None where it is none."""
-    found = ATTEMPT_ID.match(text)
-    if found is None:
+    """Return the parts of an attempt's id, or None if the text is not one."""
+    match = ATTEMPT_ID.match(text)
+    if match is None:
         return None
-    shard, number, step, kind, attempt = found.groups()
+    shard, number, step, kind, attempt = match.groups()
     return AttemptId(shard, int(number), step, kind, int(attempt))

@@ -1,7 +1,7 @@
-"""The one door to tracing: W3C trace contexts, and spans by OpenTelemetry.
+"""Tracing: W3C trace contexts, and spans of OpenTelemetry.
 
-Of `opentelemetry-api` only names are used that each of its releases from 1.0 on has. Where it is
-missing, trace contexts are stored and handed on all the same, and nothing else is done.
+It uses only those names of `opentelemetry-api` that all of its releases since 1.0 have. If the
+package is not installed, trace contexts are still stored and passed on, but there are no spans.
 """
 
 from __future__ import annotations
@@ -19,17 +19,17 @@ from sagas.definition.task import Task
 
 TRACEPARENT = re.compile(r"([0-9a-f]{2})-([0-9a-f]{32})-([0-9a-f]{16})-([0-9a-f]{2})(-.*)?\Z", re.S)
 KNOWN_FLAGS = 3
-"""The flags of the standard: sampled, and random trace id. Others are not handed on."""
+"""The flags of the standard: sampled, and random trace id. Other flags are removed."""
 MOST_LINKS = 10_000
-"""Actions whose last span is remembered, for links."""
+"""Maximum number of effects whose last span is remembered for links."""
 
 
 def read(text: str) -> str | None:
-    """Return a `traceparent` header in the form of version 00; None where it is not valid."""
-    found = TRACEPARENT.match(text.strip(" \t"))
-    if found is None:
+    """Return a `traceparent` header in version 00, or None if it is not valid."""
+    match = TRACEPARENT.match(text.strip(" \t"))
+    if match is None:
         return None
-    version, trace, span, flags, more = found.groups()
+    version, trace, span, flags, more = match.groups()
     if version == "ff" or (version == "00" and more) or not (int(trace, 16) and int(span, 16)):
         return None
     return _written(trace, span, int(flags, 16))
@@ -40,7 +40,7 @@ def _written(trace: str, span: str, flags: int) -> str:
 
 
 def checked(traceparent: str | None) -> str | None:
-    """Return a caller's `traceparent`, or None for None.
+    """Return the argument `traceparent` in the form of version 00; None for None.
 
     Raises:
         TypeError: It is not a text.
@@ -50,30 +50,30 @@ def checked(traceparent: str | None) -> str | None:
         return None
     if not isinstance(traceparent, str):
         raise TypeError(f"traceparent={traceparent!r}: must be a text")
-    found = read(traceparent)
-    if found is None:
+    header = read(traceparent)
+    if header is None:
         raise ValueError(
             f"traceparent={traceparent[:80]!r}: must be a W3C trace context, for example "
             "00-0af7651916cd43dd8448eb211c80319c-b7ad6b7169203331-01"
         )
-    return found
+    return header
 
 
-def of_start(tracer: Tracer | None, given: str | None) -> str | None:
-    """Return the trace context that a saga is started in: as it is given, or of the current span.
+def of_start(tracer: Tracer | None, traceparent: str | None) -> str | None:
+    """Return the trace context of a start: the argument, else of the current span.
 
     Raises:
-        TypeError: What is given is not a text.
-        ValueError: What is given is not valid.
+        TypeError: The argument is not a text.
+        ValueError: The argument is not valid.
     """
-    found = checked(given)
-    return tracer.current() if found is None and tracer else found
+    header = checked(traceparent)
+    return tracer.current() if header is None and tracer else header
 
 
-def headers(tracer: Tracer | None, given: str | None) -> dict[str, str]:
-    """Return the headers of a request that starts a saga in that context. Raises as `of_start`."""
-    found = of_start(tracer, given)
-    return {} if found is None else {"traceparent": found}
+def headers(tracer: Tracer | None, traceparent: str | None) -> dict[str, str]:
+    """Return the headers of a request that starts a saga. Raises as `of_start`."""
+    header = of_start(tracer, traceparent)
+    return {} if header is None else {"traceparent": header}
 
 
 class AttemptSpan:
@@ -83,8 +83,12 @@ class AttemptSpan:
         self._trace, self._span = trace, span
 
     def ended(self, outcome: str, fault: str, error: BaseException | None = None) -> None:
-        """Say how the attempt ended. `outcome`: as `OutcomeKind` has it; `fault`: why it did not
-        succeed, for people, or the empty text.
+        """Set the outcome of the attempt on its span.
+
+        Args:
+            outcome: A value of `OutcomeKind`.
+            fault: Why the attempt did not succeed, for people; the empty text if it succeeded.
+            error: The exception that the function raised, or None.
         """
         span, trace = self._span, self._trace
         span.set_attribute("sagas.outcome", outcome)
@@ -100,7 +104,7 @@ class Tracer:
     """Spans of attempts."""
 
     def __init__(self, trace: Any, version: str) -> None:
-        """Make one over the module `opentelemetry.trace`."""
+        """Create a tracer with the module `opentelemetry.trace`."""
         self._trace, self._tracer = trace, trace.get_tracer("sagas", version)
         self._lock, self._last = threading.Lock(), OrderedDict[str, Any]()
         self._has_failed = False
@@ -123,9 +127,9 @@ class Tracer:
             self._end(span)
 
     def _start(self, task: Task[Any], function: Callable[..., Any]) -> Any:
-        """Start the span; what an exporter raises there is logged, and never reaches a saga."""
+        """Start the span. Errors of exporters are logged, and never reach a saga."""
         action = "undo" if task.is_compensation else "run"
-        told = {
+        attributes = {
             "sagas.saga": task.saga,
             "sagas.key": task.key,
             "sagas.step": task.step,
@@ -134,11 +138,11 @@ class Tracer:
             "sagas.attempt_id": task.attempt_id,
         }
         if name := getattr(function, "__qualname__", ""):
-            told["code.function.name"] = f"{getattr(function, '__module__', '?')}.{name}"
+            attributes["code.function.name"] = f"{getattr(function, '__module__', '?')}.{name}"
         name = f"{action} {task.saga}/{task.step}"
-        words: dict[str, Any] = {"attributes": told, "links": self._links(task)}
+        options: dict[str, Any] = {"attributes": attributes, "links": self._links(task)}
         try:
-            span = self._tracer.start_span(name, self._parent(task.traceparent), **words)
+            span = self._tracer.start_span(name, self._parent(task.traceparent), **options)
         except Exception as error:
             self._failed(error)
             return self._trace.INVALID_SPAN
@@ -161,27 +165,28 @@ class Tracer:
         self._has_failed = True
 
     def _links(self, task: Task[Any]) -> list[Any]:
-        """Links to the attempt before, and of a compensation to what it undoes, as far as this
-        program called them.
+        """Return links to the previous attempt, and from a compensation to its action.
+
+        It knows only the attempts of this program.
         """
         keys = dict.fromkeys((task.idempotency_key, task.original_idempotency_key))
         with self._lock:
-            found = [self._last.get(key) for key in keys]
-        return [self._trace.Link(one) for one in found if one is not None and one.is_valid]
+            spans = [self._last.get(key) for key in keys]
+        return [self._trace.Link(span) for span in spans if span is not None and span.is_valid]
 
     def _parent(self, traceparent: str | None) -> Any:
-        """The context that a span is started in: of who started the saga, or none."""
+        """Return the parent context of a span: that of the saga's start, or an empty one."""
         trace = self._trace
         if traceparent is None:
             return trace.set_span_in_context(trace.INVALID_SPAN)
         _, trace_id, span_id, flags = traceparent.split("-")
-        words = {"is_remote": True, "trace_flags": trace.TraceFlags(int(flags, 16))}
-        context = trace.SpanContext(int(trace_id, 16), int(span_id, 16), **words)
+        options = {"is_remote": True, "trace_flags": trace.TraceFlags(int(flags, 16))}
+        context = trace.SpanContext(int(trace_id, 16), int(span_id, 16), **options)
         return trace.set_span_in_context(trace.NonRecordingSpan(context))
 
 
 def tracer() -> Tracer | None:
-    """Return what makes spans; None where `opentelemetry-api` is not installed."""
+    """Return a tracer, or None if `opentelemetry-api` is not installed."""
     try:
         trace = importlib.import_module("opentelemetry.trace")
     except ImportError:

@@ -1,10 +1,7 @@
 """Checks of an input against its type hints, at the start of a saga.
 
-Whether a value, as JSON has it, is of the type that a hint says, field by field: looked at when a
-saga is started.
-
-A decoder (values.py) makes what it can, and hands the rest on: a dataclass takes a text for a
-number. Here that is a fault.
+A check compares a JSON value with a type hint, field by field. It is stricter than the decoder of
+the hint (`decoders.py`): a dataclass accepts a text for a number, and a check does not.
 """
 
 from __future__ import annotations
@@ -17,10 +14,10 @@ from collections.abc import Callable, Sequence
 from typing import Any
 
 from sagas.definition import mismatches
-from sagas.definition.mismatches import Misfit
+from sagas.definition.mismatches import Mismatch
 
 Check = Callable[[Any], None]
-"""Raises `Misfit`."""
+"""Raises `Mismatch`."""
 NAMES: dict[Any, str] = {
     str: "a text",
     int: "an integer",
@@ -34,26 +31,26 @@ LISTS = (list, tuple, set, frozenset)
 
 
 def check(hint: Any) -> Check | None:
-    """What looks at a value of this type; None where there is nothing to look at."""
+    """Return the check of a type hint, or None if every value passes."""
     hint = bare(hint)
-    origin, words = typing.get_origin(hint), typing.get_args(hint)
+    origin, arguments = typing.get_origin(hint), typing.get_args(hint)
     if hint in NAMES:
         return _plain(hint)
     if origin is typing.Literal:
-        return _literal(words)
+        return _literal(arguments)
     if origin in (typing.Union, types.UnionType):
-        return _union([check(word) for word in words])
+        return _union([check(argument) for argument in arguments])
     if origin in LISTS:
-        return _items(origin, words)
+        return _items(origin, arguments)
     if origin is dict:
-        return _entries(check(words[1]))
+        return _entries(check(arguments[1]))
     if dataclasses.is_dataclass(origin or hint):
         return _fields(origin or hint, hint)
-    return None  # an enum or a time: what makes one refuses what is none
+    return None  # an enum or a time, for example: their decoders check the value
 
 
 def bare(hint: Any) -> Any:
-    """A type without what else is said of it; of `List` the class, `list`."""
+    """Return a hint without annotations and new names; for `List` the class `list`."""
     while True:
         if typing.get_origin(hint) is typing.Annotated:
             hint = typing.get_args(hint)[0]
@@ -68,120 +65,122 @@ def bare(hint: Any) -> Any:
 
 
 def _is_alias(hint: Any) -> bool:
-    """Whether it is a name of `typing` for a class: `List`, and not `List[int]`."""
-    is_whole = typing.get_args(hint) or isinstance(hint, (type, types.GenericAlias))
-    return typing.get_origin(hint) is not None and not is_whole and hint != typing.Tuple[()]
+    """Return whether a hint is a bare name of `typing`: `List`, not `List[int]`."""
+    is_complete = typing.get_args(hint) or isinstance(hint, (type, types.GenericAlias))
+    return typing.get_origin(hint) is not None and not is_complete and hint != typing.Tuple[()]
 
 
 def _plain(hint: Any) -> Check:
-    def look(value: Any) -> None:
-        kinds = (int, float) if hint is float else hint
-        if not isinstance(value, kinds) or (isinstance(value, bool) and hint is not bool):
-            raise Misfit(f": must be {NAMES[hint]}, not {name(value)}")
+    def check_value(value: Any) -> None:
+        accepted = (int, float) if hint is float else hint
+        if not isinstance(value, accepted) or (isinstance(value, bool) and hint is not bool):
+            raise Mismatch(f": must be {NAMES[hint]}, not {name(value)}")
 
-    return look
+    return check_value
 
 
 def name(value: Any) -> str:
-    """What a value is in JSON, for a message."""
+    """Return the name of a value's JSON type, for a message."""
     return NAMES.get(type(value), type(value).__name__)
 
 
-def _literal(words: Sequence[Any]) -> Check:
-    def look(value: Any) -> None:
-        if not any(type(value) is type(word) and value == word for word in words):
-            raise Misfit(f": must be one of {', '.join(map(repr, words))}")
+def _literal(options: Sequence[Any]) -> Check:
+    def check_value(value: Any) -> None:
+        if not any(type(value) is type(option) and value == option for option in options):
+            raise Mismatch(f": must be one of {', '.join(map(repr, options))}")
 
-    return look
+    return check_value
 
 
 def _union(parts: Sequence[Check | None]) -> Check | None:
-    known = [part for part in parts if part is not None]
-    if len(known) < len(parts):  # what makes a value of the others decides
+    checks = [part for part in parts if part is not None]
+    if len(checks) < len(parts):  # the decoders of the others decide
         return None
 
-    def look(value: Any) -> None:
-        faults = []
-        for part in known:
+    def check_value(value: Any) -> None:
+        errors = []
+        for part in checks:
             try:
                 return part(value)
-            except Misfit as fault:
-                faults.append(fault)
-        deepest = max(faults, key=lambda fault: len(fault.path))
-        raise deepest if deepest.path else Misfit(": matches none of its types")
+            except Mismatch as error:
+                errors.append(error)
+        deepest = max(errors, key=lambda error: len(error.path))
+        raise deepest if deepest.path else Mismatch(": matches none of its types")
 
-    return look
+    return check_value
 
 
-def _items(origin: Any, words: Sequence[Any]) -> Check:
-    is_each = origin is not tuple or (len(words) == 2 and words[1] is Ellipsis)
-    parts = [check(word) for word in (words[:1] if is_each else words)]
+def _items(origin: Any, hints: Sequence[Any]) -> Check:
+    is_each = origin is not tuple or (len(hints) == 2 and hints[1] is Ellipsis)
+    parts = [check(hint) for hint in (hints[:1] if is_each else hints)]
 
-    def look(value: Any) -> None:
+    def check_value(value: Any) -> None:
         if not isinstance(value, list):
-            raise Misfit(f": must be a list, not {name(value)}")
+            raise Mismatch(f": must be a list, not {name(value)}")
         if not is_each and len(value) != len(parts):
-            raise Misfit(f": must be a list of {len(parts)}, not of {len(value)}")
-        for place, item in enumerate(value):
-            _look(parts[0 if is_each else place], item, f"[{place}]")
+            raise Mismatch(f": must be a list of {len(parts)}, not of {len(value)}")
+        for index, item in enumerate(value):
+            _check_part(parts[0 if is_each else index], item, f"[{index}]")
 
-    return look
+    return check_value
 
 
-def _look(part: Check | None, value: Any, at: str) -> None:
+def _check_part(part: Check | None, value: Any, at: str) -> None:
     if part is not None:
         try:
             part(value)
-        except Misfit as fault:
-            raise fault.within(at) from None
+        except Mismatch as error:
+            raise error.within(at) from None
 
 
 def _entries(part: Check | None) -> Check:
-    def look(value: Any) -> None:
+    def check_value(value: Any) -> None:
         if not isinstance(value, dict):
-            raise Misfit(f": must be an object, not {name(value)}")
-        for word, item in value.items():
-            _look(part, item, mismatches.part(word))
+            raise Mismatch(f": must be an object, not {name(value)}")
+        for key, item in value.items():
+            _check_part(part, item, mismatches.part(key))
 
-    return look
+    return check_value
 
 
 def _fields(hint: Any, whole: Any) -> Check:
     parts: dict[str, Check | None] = {}
 
-    def look(value: Any) -> None:
+    def check_value(value: Any) -> None:
         if not isinstance(value, dict):
-            raise Misfit(f": {hint.__name__} requires an object")
-        if not parts:  # at the first value, since a class may name itself
-            told = field_hints(whole)
+            raise Mismatch(f": {hint.__name__} requires an object")
+        if not parts:  # not before the first value, since a class may name itself
+            hints = field_hints(whole)
             fields = [field for field in dataclasses.fields(hint) if field.init]
-            parts.update({field.name: _field(told[field.name], field.default) for field in fields})
-        for word, part in parts.items():
-            if word in value:
-                _look(part, value[word], mismatches.part(word))
+            parts.update({field.name: _field(hints[field.name], field.default) for field in fields})
+        for key, part in parts.items():
+            if key in value:
+                _check_part(part, value[key], mismatches.part(key))
 
-    return look
+    return check_value
 
 
 def _field(hint: Any, default: Any) -> Check | None:
-    """Of a field whose default is None that is meant, too: `note: str = None`."""
+    """Return the check of a field, which accepts null if the default is None."""
     part = check(hint)
     if default is not None or part is None:
         return part
-    known = part
-    return lambda value: None if value is None else known(value)
+    check_value = part
+    return lambda value: None if value is None else check_value(value)
 
 
 def field_hints(whole: Any) -> dict[str, Any]:
-    """The hints of a dataclass's fields. `whole` may be one of a generic class, `Box[Order]`: each
-    variable is what it stands for in the class that declares the field.
+    """Return the type hints of a dataclass's fields, with type variables filled.
+
+    Args:
+        whole: The class, or a generic class with arguments, for example `Box[Order]`.
     """
     kind = typing.get_origin(whole) or whole
-    given: dict[type, dict[Any, Any]] = {}
-    _set_variables(whole, given)
+    arguments: dict[type, dict[Any, Any]] = {}
+    _set_variables(whole, arguments)
     return {
         name: _filled(
-            hint, next((given.get(one, {}) for one in kind.__mro__ if _has(one, name)), {})
+            hint, next((arguments.get(base, {}) for base in kind.__mro__ if _has(base, name)), {})
         )
         for name, hint in typing.get_type_hints(kind).items()
     }
@@ -191,21 +190,23 @@ def _has(kind: type, name: str) -> bool:
     return name in inspect.get_annotations(kind)
 
 
-def _set_variables(whole: Any, given: dict[type, dict[Any, Any]]) -> None:
-    """What the variables of a class stand for, and those of the classes that it inherits from."""
+def _set_variables(whole: Any, arguments: dict[type, dict[Any, Any]]) -> None:
+    """Add the arguments of a class's type variables, and of those of its base classes."""
     kind = typing.get_origin(whole) or whole
-    if kind in given:
+    if kind in arguments:
         return
-    given[kind] = dict(zip(getattr(kind, "__parameters__", ()), typing.get_args(whole)))
+    arguments[kind] = dict(zip(getattr(kind, "__parameters__", ()), typing.get_args(whole)))
     for base in kind.__dict__.get("__orig_bases__", kind.__bases__):
         if typing.get_origin(base) not in (typing.Generic, typing.Protocol):
-            _set_variables(_filled(base, given[kind]), given)
+            _set_variables(_filled(base, arguments[kind]), arguments)
 
 
-def _filled(hint: Any, given: dict[Any, Any]) -> Any:
+def _filled(hint: Any, arguments: dict[Any, Any]) -> Any:
     if isinstance(hint, typing.TypeVar):
-        return given.get(hint, Any)
-    names = getattr(hint, "__parameters__", ()) if typing.get_origin(hint) else ()
-    if not all(isinstance(name, typing.TypeVar) for name in names):
-        return Any  # one stands for many types
-    return hint[tuple(given.get(name, Any) for name in names)] if names and given else hint
+        return arguments.get(hint, Any)
+    variables = getattr(hint, "__parameters__", ()) if typing.get_origin(hint) else ()
+    if not all(isinstance(variable, typing.TypeVar) for variable in variables):
+        return Any  # a variable for many types
+    if not variables or not arguments:
+        return hint
+    return hint[tuple(arguments.get(variable, Any) for variable in variables)]

@@ -1,4 +1,4 @@
-"""Definitions of the sagas that undo completed children, as texts."""
+"""Texts of definitions of the sagas that undo completed children."""
 
 from __future__ import annotations
 
@@ -17,9 +17,9 @@ if TYPE_CHECKING:
 MOST_NAME = 32
 ENDING = "-undo"
 UNDOES = re.compile(r"^# undoes (\S+)$", re.M)
-"""In the head: the name of the child."""
+"""The line of the head with the name of the child."""
 SEES = re.compile(r'^name = "(.*)"\n# sees(.*)$', re.M)
-"""After the name of a step: the steps of the child whose results its compensation may read."""
+"""The lines with a step's name, and with the steps whose results its compensation may read."""
 
 
 @dataclasses.dataclass(frozen=True, slots=True)
@@ -29,9 +29,9 @@ class Compensation:
     Attributes:
         name: The child's step that it undoes.
         needs: The steps whose compensations come first.
-        cost: What the compensation costs.
-        skip: What it costs to leave in place what the step did.
-        tries: How many attempts the compensation has.
+        cost: The cost of the compensation.
+        skip: The cost of leaving the effect of the step in place.
+        tries: The maximum number of attempts of the compensation.
         sees: The steps of the child whose results the compensation may read.
     """
 
@@ -44,7 +44,7 @@ class Compensation:
 
 
 def name_of(child: str) -> str:
-    """Return the name of the saga that undoes a completed child, by the child's."""
+    """Return the name of the saga that undoes the child with this name."""
     if len(child) + len(ENDING) <= MOST_NAME:
         return f"{child}{ENDING}"
     digest = hashlib.sha256(child.encode()).hexdigest()[:6]
@@ -52,26 +52,27 @@ def name_of(child: str) -> str:
 
 
 def child_of(text: str) -> str | None:
-    """Return the name of the child that sagas of a definition undo; None if they undo none."""
-    found = UNDOES.search(text)
-    return found[1] if found else None
+    """Return the name of the child that a definition's sagas undo, or None."""
+    match = UNDOES.search(text)
+    return match[1] if match else None
 
 
 def sees_of(text: str) -> dict[str, tuple[str, ...]]:
-    """Return which results the compensation of each step may read; of no step if the definition
-    does not say that.
+    """Return the steps whose results each compensation may read.
+
+    The dict is empty for the definition of an old release, which does not list them.
     """
     return {name: tuple(seen.split()) for name, seen in SEES.findall(text)}
 
 
 def planned(child: Sequence[ListedStep], declared: Mapping[str, Step[Any]]) -> list[Compensation]:
-    """Return what undoes a completed child: its last step first.
+    """Return the compensations that undo a completed child, last step first.
 
-    A step that cannot be undone stays, and so does what it needs.
+    A step that cannot be undone keeps its effect, and so do the steps that it needs.
 
     Args:
         child: The steps of the definition that the child ran with.
-        declared: The steps of the child as the program declares them today, by name.
+        declared: The steps of the child as this program declares them, by name.
     """
     below = _below(child)
     fixed = {step.name for step in child if step.undo == "never"}
@@ -89,7 +90,7 @@ def planned(child: Sequence[ListedStep], declared: Mapping[str, Step[Any]]) -> l
             0 if _starts_child(declared.get(step.name)) else step.undo,
             step.keep,
             step.undo_tries,
-            tuple(one.name for one in child if one.name in below[step.name]),
+            tuple(need.name for need in child if need.name in below[step.name]),
         )
         for step in reversed(child)
         if step.name in undone
@@ -97,8 +98,9 @@ def planned(child: Sequence[ListedStep], declared: Mapping[str, Step[Any]]) -> l
 
 
 def _is_empty(listed: ListedStep, declared: Step[Any] | None) -> bool:
-    """Whether a step has nothing to undo: nothing is declared for that, and was not when the child
-    was started.
+    """Return whether a step has nothing to undo.
+
+    It has no compensation in this program, and had none when the child started.
     """
     if declared is None or listed.is_compensated:
         return False
@@ -110,41 +112,41 @@ def _starts_child(declared: Step[Any] | None) -> bool:
 
 
 def _above(child: Iterable[ListedStep]) -> dict[str, list[str]]:
-    """Of each step those that need it directly."""
-    found: dict[str, list[str]] = {step.name: [] for step in child}
+    """Return, for each step, the steps that need it directly."""
+    above: dict[str, list[str]] = {step.name: [] for step in child}
     for step in child:
         for need in step.needs:
-            found[need].append(step.name)
-    return found
+            above[need].append(step.name)
+    return above
 
 
 def _below(child: Iterable[ListedStep]) -> dict[str, set[str]]:
-    """Of each step those that it needs, directly or not."""
+    """Return, for each step, the steps that it needs, directly or not."""
     needs = {step.name: step.needs for step in child}
-    found: dict[str, set[str]] = {}
+    below: dict[str, set[str]] = {}
     for name in needs:
         seen, left = set[str](), [*needs[name]]
         while left:
-            if (one := left.pop()) not in seen:
-                seen.add(one)
-                left += needs[one]
-        found[name] = seen
-    return found
+            if (need := left.pop()) not in seen:
+                seen.add(need)
+                left += needs[need]
+        below[name] = seen
+    return below
 
 
 def _first_of(above: Mapping[str, list[str]], name: str, among: set[str]) -> set[str]:
-    """Those of some steps that need one, without another of them in between."""
-    found, seen, left = set[str](), set[str](), [*above[name]]
+    """Return the nearest steps among some that need the named step, directly or not."""
+    nearest, seen, left = set[str](), set[str](), [*above[name]]
     while left:
-        one = left.pop()
-        if one in seen:
+        step = left.pop()
+        if step in seen:
             continue
-        seen.add(one)
-        if one in among:
-            found.add(one)
+        seen.add(step)
+        if step in among:
+            nearest.add(step)
         else:
-            left += above[one]
-    return found
+            left += above[step]
+    return nearest
 
 
 def write(child: str, version: int, steps: Iterable[Compensation]) -> str:
@@ -153,7 +155,7 @@ def write(child: str, version: int, steps: Iterable[Compensation]) -> str:
     Args:
         child: The child's name.
         version: The child's version.
-        steps: What undoes it.
+        steps: The compensations that undo it.
     """
     lines = [f"# version {version}"] if version != 1 else []
     lines += [f"# undoes {child}", "format = 2", f'name = "{name_of(child)}"']
@@ -168,7 +170,7 @@ def write(child: str, version: int, steps: Iterable[Compensation]) -> str:
 
 
 def _cost(word: str, cost: Cost) -> list[str]:
-    """The line of a cost; none of 0, which is the default."""
+    """Return the line of a cost in a list, which is empty for the default 0."""
     if isinstance(cost, str):
         return [f'{word} = "{cost}"']
     return [f"{word} = {cost}"] if cost else []

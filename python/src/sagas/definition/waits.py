@@ -1,4 +1,4 @@
-"""Steps that wait: for a time, or for a person's decision."""
+"""Steps that wait for a time, or for the decision of a person."""
 
 from __future__ import annotations
 
@@ -16,11 +16,11 @@ if TYPE_CHECKING:
     from sagas.definition.parts import ForEach, Need
 
 MOST_WITHIN = 1e11
-"""Seconds."""
+"""Limit of the timeout of an approval, in seconds."""
 
 
 class WaitSteps(ChildSteps):
-    """What `Saga` has for steps that wait."""
+    """The part of `Saga` that declares steps that wait."""
 
     def wait(
         self,
@@ -38,15 +38,16 @@ class WaitSteps(ChildSteps):
         for_each: ForEach | None = None,
         when: Callable[[Any], Any] | None = None,
     ) -> Declare:
-        """Declare a function that is called when a time has come, by `@saga.wait(...)`.
+        """Declare a function that is called at a time, by `@saga.wait(...)`.
 
-        Until then the step takes no slot. A saga that is undone meanwhile does not wait for it.
+        Until then the step takes no slot. If the saga is undone before the time, it does not wait
+        for it.
 
         Args:
             until: A timedelta from when the needs are committed, a datetime with a time zone, or a
                 plain function of the task that returns either, called in a thread.
             undo: As of `step` (default: 0). `NEVER`: its function's effect cannot be undone.
-            tries: As of `step` (default: 9). Being undone while it waits uses one.
+            tries: As of `step` (default: 9). An undo during the wait uses one of them.
 
         See `Saga.step` for `name`, `needs`, `skip`, `keep`, `timeout`, `backoff`, `concurrency`,
         `for_each`, `when`.
@@ -114,12 +115,13 @@ class WaitSteps(ChildSteps):
         """Declare a step that a person decides, by `@saga.approval`.
 
         The function asks for the decision, for example by mail, and returns None. `Store.complete`
-        or `Store.fail` gives it. Or the function decides: it returns `Approved` or `Rejected`.
+        or `Store.fail` reports the decision. The function can also return it at once, as
+        `Approved` or `Rejected`.
 
         Args:
-            undo: As of `step` (default: 0). `NEVER`: the approval cannot be taken back.
+            undo: As of `step` (default: 0). `NEVER`: the approval cannot be revoked.
             timeout: Seconds, or a timedelta, after which the step has failed (default: none).
-            tries: As of `step` (default: 9). Being undone while it waits uses one.
+            tries: As of `step` (default: 9). An undo during the wait uses one of them.
             call_timeout: As `timeout` of `step`: for the function itself (default: none).
 
         See `Saga.step` for `function`, `name`, `needs`, `skip`, `backoff`, `for_each`, `when`.
@@ -158,11 +160,12 @@ class WaitSteps(ChildSteps):
 
 
 def check_until(step: Step[Any], until: object) -> None:
+    """Raise `DefinitionError` if the time of a wait is not valid."""
     if isinstance(until, datetime.datetime):
         if until.tzinfo is None:
             raise of_step(
                 step,
-                f"until={until!r}: it has no time zone. Give one, for example "
+                f"until={until!r}: it has no time zone. Set one, for example "
                 "datetime.timezone.utc",
             )
     elif not isinstance(until, datetime.timedelta) and (
@@ -176,7 +179,11 @@ def check_until(step: Step[Any], until: object) -> None:
 
 
 def approval_timeout(step: Step[Any], timeout: object) -> datetime.timedelta | None:
-    """How long an approval waits."""
+    """Return the timeout of an approval as a timedelta.
+
+    Raises:
+        DefinitionError: It is not valid.
+    """
     time = (
         datetime.timedelta(seconds=timeout)
         if isinstance(timeout, (int, float))
@@ -192,5 +199,5 @@ def approval_timeout(step: Step[Any], timeout: object) -> datetime.timedelta | N
 
 
 def _saga(saga: Any) -> Any:
-    """What is a saga by now."""
+    """Return the object as the saga that it is: `Saga` inherits from `WaitSteps`."""
     return saga

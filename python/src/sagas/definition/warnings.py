@@ -6,7 +6,7 @@ from collections.abc import Iterator
 from typing import TYPE_CHECKING, Any
 
 from sagas.definition import decoders, listed_steps, undo_text
-from sagas.definition.validation import MOST_TOLD, check_saga, place
+from sagas.definition.validation import MAX_LISTED, check_saga, location_of
 
 if TYPE_CHECKING:
     from sagas.definition.saga import Saga
@@ -14,9 +14,9 @@ if TYPE_CHECKING:
 
 
 def warnings(saga: Saga) -> list[str]:
-    """What is sound and probably not meant, each by file and line."""
+    """Return the warnings about a saga, each with the file and the line."""
     check_saga(saga)
-    if saga.is_shaped:  # what else may be meant otherwise depends on the input
+    if saga.is_shaped:  # the other warnings depend on the input
         return [*_unread(saga), *_short(saga), *_left_out(saga), *_undoing_nothing(saga)]
     stays = _stays(saga)
     return [
@@ -29,40 +29,43 @@ def warnings(saga: Saga) -> list[str]:
 
 
 def _left_out(saga: Saga) -> Iterator[str]:
-    """Fan-outs of which a failure leaves out what has not begun, so that timing decides."""
+    """Yield a warning for each fan-out that a failure may end early."""
     for step in saga.steps:
         run, skip = step.declared_cost("run"), step.declared_cost("skip")
         is_known = isinstance(run, int) and isinstance(skip, int)
         is_fan_out = step.for_each is not None and not step.is_collected
         if is_fan_out and is_known and skip <= run:  # type: ignore[operator]
             yield (
-                f"{step.where}: saga {saga.name!r}, step {step.name!r}: if something fails, items "
-                f"that have not begun are left out, because skip={skip} is not more than "
-                f"run={run}. How many that are depends on timing. Set skip= to more to have all "
-                "items done, or need sagas.collect(...) to go on with those that succeed"
+                f"{step.where}: saga {saga.name!r}, step {step.name!r}: if a step fails, items "
+                f"that have not started are skipped, because skip={skip} is not more than "
+                f"run={run}. Their number depends on timing. Set a higher skip= to run all items, "
+                "or need sagas.collect(...) to continue with those that succeed"
             )
 
 
 def _short(saga: Saga) -> Iterator[str]:
-    """Pauses that are shorter than they are said to be, since nobody said what is the longest."""
+    """Yield a warning for each initial pause that is longer than the default maximum."""
     for step in saga.all_steps:
-        for what, manner in (("function", step.run), ("compensation", step.undo)):
-            first, most = manner.backoff.initial, manner.backoff.maximum
-            if manner.tries > 1 and first > most:
+        for role, manner in (("function", step.run), ("compensation", step.undo)):
+            initial, maximum = manner.backoff.initial, manner.backoff.maximum
+            if manner.tries > 1 and initial > maximum:
                 yield (
                     f"{step.where}: saga {saga.name!r}, step {step.name!r}: the pauses of its "
-                    f"{what} are {most} s, not {first} s, because that is the default maximum. "
-                    f"Set sagas.Backoff(initial={first}, maximum={first})"
+                    f"{role} are {maximum} s, not {initial} s, because that is the default "
+                    f"maximum. Set sagas.Backoff(initial={initial}, maximum={initial})"
                 )
 
 
 def _unread(saga: Saga) -> Iterator[str]:
-    """Type hints that cannot be read, of names that are there for the checker alone."""
+    """Yield a warning for each function whose type hints cannot be read.
+
+    For example, only a type checker imports a name.
+    """
     for step in saga.all_steps:
         for function in (step.run.function, step.undo.function):
             unread = decoders.unread(function) if function else None
             if unread:
-                where = f"{place(function)}: saga {saga.name!r}, step {step.name!r}"
+                where = f"{location_of(function)}: saga {saga.name!r}, step {step.name!r}"
                 yield (
                     f"{where}: its type hints cannot be read, so its values stay plain JSON: "
                     f"{unread}"
@@ -70,7 +73,7 @@ def _unread(saga: Saga) -> Iterator[str]:
 
 
 def _undoing_nothing(saga: Saga) -> Iterator[str]:
-    """Steps whose children cannot be undone at all, though a cost says that they can."""
+    """Yield a warning for each step with a cost `undo` whose child cannot be undone."""
     from sagas.definition import children
 
     for step, child in children.children_of(saga):
@@ -78,18 +81,19 @@ def _undoing_nothing(saga: Saga) -> Iterator[str]:
         if not isinstance(undo, int) or not step.undo.implied or child.is_shaped:
             continue
         listed = listed_steps.of(child.toml())
-        stays = [f"{one.name!r}" for one in listed if one.undo == "never"]
-        if stays and not undo_text.planned(listed, {one.name: one for one in child.steps}):
+        stays = [f"{listed_step.name!r}" for listed_step in listed if listed_step.undo == "never"]
+        declared = {child_step.name: child_step for child_step in child.steps}
+        if stays and not undo_text.planned(listed, declared):
             yield (
                 f"{step.where}: saga {saga.name!r}, step {step.name!r}: undo={undo}, but nothing "
                 f"of its child saga {child.name!r} can be undone, because "
-                f"{' and '.join(stays[:MOST_TOLD])} cannot be. A plan may choose that cost, and "
-                "then leaves all in place. Set undo=sagas.NEVER"
+                f"{' and '.join(stays[:MAX_LISTED])} cannot be. A plan may choose that cost, and "
+                "still leave all effects in place. Set undo=sagas.NEVER"
             )
 
 
 def _in_order(saga: Saga) -> Iterator[Step[Any]]:
-    """The steps, each behind those that it needs."""
+    """Yield the steps, each after those that it needs."""
     done: set[str] = set()
     left = list(saga.steps)
     while left:
@@ -100,21 +104,22 @@ def _in_order(saga: Saga) -> Iterator[Step[Any]]:
 
 
 def _stays(saga: Saga) -> dict[str, bool]:
-    """Of each step whether it is never undone, once it is done: to keep it is always allowed,
-    and always cheaper.
+    """Return, for each step, whether it is never undone after it has committed.
+
+    Then it cannot be undone, or keeping it is always allowed and always costs less.
     """
     stays: dict[str, bool] = {}
     for step in _in_order(saga):
         undo, keep = step.cost("undo"), step.cost("keep")
-        grounded = all(stays[need] for need in step.needs)
+        needs_stay = all(stays[need] for need in step.needs)
         stays[step.name] = not isinstance(undo, int) or (
-            grounded and isinstance(keep, int) and undo > keep
+            needs_stay and isinstance(keep, int) and undo > keep
         )
     return stays
 
 
 def _never_called(saga: Saga, stays: dict[str, bool]) -> Iterator[str]:
-    """Steps that are never undone, though they have a compensation."""
+    """Yield a warning for each step with a compensation that is never called."""
     for step in _in_order(saga):
         undo, keep = step.cost("undo"), step.cost("keep")
         if isinstance(undo, int) and stays[step.name]:
@@ -131,15 +136,15 @@ def _never_called(saga: Saga, stays: dict[str, bool]) -> Iterator[str]:
 
 
 def _holding(saga: Saga, stays: dict[str, bool]) -> Iterator[str]:
-    """Steps without a compensation that keep what they need from being undone, and do not say
-    that this is meant.
+    """Yield a warning for each step that keeps needed steps from being undone.
 
-    None of the last step of all: once it is done, nothing is left that may fail. And none of
-    what another step that it needs keeps so already.
+    It has no compensation: after it commits, the steps that it needs can never be undone. The
+    warning is left out if the declaration has `undo=`, for a step that needs all others (nothing
+    can fail after it), and for steps that another needed step fixes already.
     """
     by_name = {step.name: step for step in saga.steps}
     below: dict[str, set[str]] = {}
-    fixed: dict[str, set[str]] = {}  # what the steps that it needs keep so
+    fixed: dict[str, set[str]] = {}  # the steps that its needed steps fix
     for step in _in_order(saga):
         needs = step.needs
         below[step.name] = set(needs).union(*(below[need] for need in needs))
@@ -159,11 +164,11 @@ def _holding(saga: Saga, stays: dict[str, bool]) -> Iterator[str]:
             and step._costs["undo"] is None
             and len(below[step.name]) + 1 < len(saga.steps)
         ):
-            told = [f"{other.name!r}" for other in saga.steps if other.name in held]
-            more = [f"{len(told) - MOST_TOLD} more"] if told[MOST_TOLD:] else []
+            names = [f"{other.name!r}" for other in saga.steps if other.name in held]
+            more = [f"{len(names) - MAX_LISTED} more"] if names[MAX_LISTED:] else []
             yield (
                 f"{step.where}: saga {saga.name!r}, step {step.name!r} has no compensation, "
-                f"so {' and '.join(told[:MOST_TOLD] + more)}, which it needs, can never be "
+                f"so {' and '.join(names[:MAX_LISTED] + more)}, which it needs, can never be "
                 "undone after it commits. Set undo=0 if there is nothing to undo, or "
                 "undo=NEVER to confirm"
             )

@@ -16,7 +16,7 @@ from sagas.core.history import MISSES, end_of, was_called
 from sagas.core.results import DefinitionCount, SagaResult, Summary, UnknownAttempt
 from sagas.definition import tokens
 from sagas.definition.capacity import SHARD_CAPACITY
-from sagas.definition.compiled import Kind, version_of
+from sagas.definition.compiled import CompiledDefinition, version_of
 from sagas.definition.labels import TOKEN
 from sagas.definition.payloads import unescaped
 from sagas.inspection import names as names_module
@@ -302,7 +302,9 @@ def chain_of(names: list[str], end: str | None) -> list[str]:
     return [names[step] for step in answer.get("chain", ())]
 
 
-def stuck_results(kind_of: Callable[[str], Kind], most: int) -> Question[list[SagaResult]]:
+def stuck_results(
+    kind_of: Callable[[str], CompiledDefinition], most: int
+) -> Question[list[SagaResult]]:
     """As `stuck`, with all that is kept of the end of each."""
     rows = yield Query(
         f"""

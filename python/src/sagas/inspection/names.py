@@ -43,7 +43,7 @@ class Names:
     def declared(self, digest: str) -> list[str]:
         """The names with which a definition's steps were declared: `hotel/room`."""
         if digest not in self._declared:
-            spots = Groups.read(self.text(digest)).spots
+            spots = Groups.read(self.text(digest)).origins
             self._declared[digest] = [spot.declared for spot in spots] or self.of(digest)
         return self._declared[digest]
 

@@ -4,11 +4,11 @@ from __future__ import annotations
 
 from collections.abc import Iterator, Sequence
 
-from sagas.definition.layout import Spot
+from sagas.definition.layout import StepOrigin
 from sagas.definition.shape_values import ShapeValues
 
 
-def of(spots: Sequence[Spot], names: Sequence[str], shape: str | None) -> dict[str, str]:
+def of(spots: Sequence[StepOrigin], names: Sequence[str], shape: str | None) -> dict[str, str]:
     """Return, by the names of steps of items, the index of the item, and its key if it came from a
     dict. `shape`: as it is stored. If it is encoded, the keys are not known.
     """
@@ -17,7 +17,7 @@ def of(spots: Sequence[Spot], names: Sequence[str], shape: str | None) -> dict[s
     return {name: "; ".join(parts) for name, parts in told if parts}
 
 
-def _parts(spot: Spot, values: ShapeValues) -> Iterator[str]:
+def _parts(spot: StepOrigin, values: ShapeValues) -> Iterator[str]:
     """The item of each inclusion, and that of the step."""
     for depth, (name, number) in enumerate((*spot.scope, (spot.name, spot.number))):
         if number is None:

@@ -352,7 +352,7 @@ class Calls:
         attempts = []
         for attempt in self.running:
             control = attempt.extras.control if attempt.extras else None
-            if control and attempt.state is RUNNING and control.news():
+            if control and attempt.state is RUNNING and control.take_progress():
                 attempts.append(attempt)
         return attempts
 

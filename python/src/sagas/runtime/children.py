@@ -27,7 +27,7 @@ from sagas.definition import children as child_keys
 from sagas.definition import tokens
 from sagas.definition.arguments import BELOW
 from sagas.definition.capacity import SHARD_CAPACITY
-from sagas.definition.compiled import Kind
+from sagas.definition.compiled import CompiledDefinition
 from sagas.definition.labels import TOKEN
 from sagas.definition.saga import Saga
 from sagas.definition.start_options import StartOptions, deadline_at
@@ -56,7 +56,7 @@ class ChildEnd(NamedTuple):
 
     end: SagaResult
     id: int
-    kind: Kind
+    kind: CompiledDefinition
     text: str
     results: Mapping[int, str]
 
@@ -64,7 +64,7 @@ class ChildEnd(NamedTuple):
 class SagaOperations(Protocol):
     """Starts, finds and aborts sagas by their keys, on any node."""
 
-    async def start(self, saga: Saga | Kind, key: str, input: Any, options: StartOptions) -> bool:
+    async def start(self, saga: Saga | CompiledDefinition, key: str, input: Any, options: StartOptions) -> bool:
         """Start a saga; return False if the key is used.
 
         A store that accepts no new sagas starts it too.
@@ -233,7 +233,7 @@ class Children:
                 )
         return None
 
-    async def _new(self, attempt: Attempt) -> tuple[Saga | Kind | None, Any]:
+    async def _new(self, attempt: Attempt) -> tuple[Saga | CompiledDefinition | None, Any]:
         """Return the definition and the input of the child to start.
 
         The definition is None if there is nothing to undo. A saga that undoes a child is made from
@@ -301,7 +301,7 @@ class Children:
         """Return whether a saga has the key."""
         return bool(await self._coordinator.store.read(PARENT, key))
 
-    async def _options(self, attempt: Attempt, saga: Saga | Kind) -> StartOptions:
+    async def _options(self, attempt: Attempt, saga: Saga | CompiledDefinition) -> StartOptions:
         """Return labels, trace context and deadline of a child.
 
         Labels and trace context are those of the parent. The deadline is the earlier one of parent

@@ -18,7 +18,7 @@ from sagas.core.batch import Batch, Start
 from sagas.core.model import SagaInstance
 from sagas.definition import undo_sagas
 from sagas.definition.saga import Saga
-from sagas.definition.shelf import Fitted, Shelf
+from sagas.definition.shelf import Fitted, DefinitionRegistry
 from sagas.definition.start_options import StartOptions
 from sagas.runtime.commit_queue import CommitQueue
 from sagas.runtime.declared_calls import DefinitionCaller
@@ -73,7 +73,7 @@ class StartReader:
         self,
         coordinator: CoordinatorForStarts,
         store: Database,
-        definitions: Shelf,
+        definitions: DefinitionRegistry,
         sagas: Instances,
         commits: CommitQueue,
         doubt: StartDoubt,

@@ -19,7 +19,7 @@ from sagas.core.batch import Batch, LogRow
 from sagas.core.limits import Slots
 from sagas.core.shard import ShardDriver
 from sagas.core.undo_check import CompletedChild
-from sagas.definition.shelf import Shelf
+from sagas.definition.shelf import DefinitionRegistry
 from sagas.definition.tracing import Tracer
 from sagas.runtime import decode_check, remote_steps
 from sagas.runtime.client_starts import StartReader
@@ -67,7 +67,7 @@ class Coordinator:
     def __init__(
         self,
         store: Database,
-        registry: Shelf,
+        registry: DefinitionRegistry,
         *,
         program: str,
         concurrency: int,

@@ -8,7 +8,7 @@ from typing import TypeVar
 from sagas.core.declared_values import Question
 from sagas.core.model import Attempt
 from sagas.definition.saga import Saga
-from sagas.definition.shelf import Fitted, Shelf
+from sagas.definition.shelf import Fitted, DefinitionRegistry
 from sagas.runtime.function_threads import FunctionThreads
 
 T = TypeVar("T")
@@ -53,7 +53,7 @@ class DefinitionCaller:
         extras.returned |= answers
         return True
 
-    async def fit(self, registry: Shelf, saga: Saga, text: str) -> Fitted:
+    async def fit(self, registry: DefinitionRegistry, saga: Saga, text: str) -> Fitted:
         """Return the definition of a saga with an input."""
         fitted = registry.fit(saga, text)
         if fitted is None:

@@ -15,7 +15,7 @@ from sagas.core.batch import Loaded
 from sagas.core.model import RUNNING
 from sagas.core.shard import ShardDriver
 from sagas.definition.blobs import Reference
-from sagas.definition.compiled import Kind
+from sagas.definition.compiled import CompiledDefinition
 from sagas.definition.payloads import ABSENT
 from sagas.runtime import stored_values
 from sagas.runtime.retries import until_answered
@@ -36,7 +36,7 @@ class CheckedShard(Protocol):
 
 
 async def unreadable_sagas(
-    kinds: Sequence[Kind], rows: Loaded, store: Database
+    kinds: Sequence[CompiledDefinition], rows: Loaded, store: Database
 ) -> AsyncIterator[str]:
     """Yield the first unreadable value of each open saga of a shard.
 

@@ -255,7 +255,7 @@ class Dispatcher:
         except outcomes.Unawaited:
             return self._suspended(attempt, function, began, task, _awaited_value(value, context))
         if inside and task.leave() is not None:
-            return self._suspended(attempt, function, began, task, awaitables.whole(value))
+            return self._suspended(attempt, function, began, task, awaitables.awaited(value))
         self._succeeded.append(attempt)
         if len(self._succeeded) >= self._batch_limit:
             self._flush()
@@ -306,7 +306,7 @@ async def _raised(error: BaseException) -> Any:
 
 async def _awaited_value(value: Any, context: contextvars.Context) -> Any:
     """Return the value of an awaitable that a function returned, in its context."""
-    return await _Continuation(_CoroutineDriver(), None, context, awaitables.whole(value))
+    return await _Continuation(_CoroutineDriver(), None, context, awaitables.awaited(value))
 
 
 async def _whole_result(rest: _Continuation) -> Any:

@@ -9,7 +9,7 @@ from sagas.base.errors import Moved, SagasError
 from sagas.core import early_reports
 from sagas.core.early_reports import EarlyReport, Refusal
 from sagas.core.model import SagaInstance
-from sagas.definition.compiled import Word
+from sagas.definition.compiled import ActionKey
 from sagas.runtime.executor_host import CoordinatorForExecutor
 
 
@@ -43,7 +43,7 @@ class EarlyReports:
             runner.keep(effects)
         return future
 
-    def waiting(self, saga: SagaInstance, word: Word) -> asyncio.Future[None] | None:
+    def waiting(self, saga: SagaInstance, word: ActionKey) -> asyncio.Future[None] | None:
         """Return the future of a report of this step that is being stored, or None."""
         for report, future in self._waiting.items():
             if isinstance(report, EarlyReport) and report.saga is saga and report.word == word:

@@ -18,12 +18,12 @@ from sagas.core.model import Attempt
 from sagas.core.offers import task_name, task_of
 from sagas.core.suspensions import Lease
 from sagas.definition.blobs import BlobUnavailable
-from sagas.definition.compiled import Kind
+from sagas.definition.compiled import CompiledDefinition
 from sagas.definition.control import Progress
 from sagas.definition import compensation_task, report_undos, shape_validation, undo_text
 from sagas.definition.shape_values import ShapeValues
 from sagas.definition.task import Task
-from sagas.definition.task_data import Told
+from sagas.definition.task_data import TaskSnapshot
 from sagas.runtime import given_values
 from sagas.runtime.external_reports import ExternalReports
 from sagas.runtime.leased_tasks import Heartbeat, LeasedTask, Queue, Word
@@ -354,12 +354,12 @@ class ExternalQueue(ExternalReports):
             return None
         return LeasedTask(claim.attempt, lease, now + claim.seconds, task, given_text)
 
-    async def _task(self, claim: Claim) -> tuple[Kind, Task[Any]]:
+    async def _task(self, claim: Claim) -> tuple[CompiledDefinition, Task[Any]]:
         """Return definition and task of an attempt that another node executes."""
         read, undo = self.coordinator.store.read, claim.action == "undo"
         rows = await read(OF_SAGA, claim.id)
         ((key, text, deadline, traceparent, definition, shape),) = rows
-        kind: Kind = self.coordinator.registry.kind(definition)
+        kind: CompiledDefinition = self.coordinator.registry.kind(definition)
         decode, text = kind.payloads.decode, kind.payloads.decode(text)
         results: dict[int, str] = {
             step: decode(value or "null") for step, value in await read(RESULTS, claim.id)
@@ -367,9 +367,9 @@ class ExternalQueue(ExternalReports):
         token, _, number = claim.attempt.rpartition("-")
         name = kind.names[claim.step]
         values = ShapeValues() if shape is None else ShapeValues.read(decode(shape))
-        location = kind.place(name, values, text)
+        location = kind.location(name, values, text)
         hint = kind.actions[claim.action][claim.step].hint
-        data = Told(
+        data = TaskSnapshot(
             kind.name,
             key,
             name,
@@ -384,7 +384,7 @@ class ExternalQueue(ExternalReports):
             deadline,
             kind.actions[claim.action][claim.step].context,
             traceparent=traceparent,
-            place=location,
+            location=location,
         )
         return kind, Task(data)
 

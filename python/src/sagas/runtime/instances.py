@@ -8,7 +8,7 @@ from collections.abc import Callable
 from sagas.base.errors import SagasError
 from sagas.core.effects import Abort
 from sagas.core.model import SagaInstance
-from sagas.definition.compiled import Kind
+from sagas.definition.compiled import CompiledDefinition
 from sagas.definition.start_options import StartOptions
 from sagas.runtime.waiters import Waiters
 
@@ -38,7 +38,7 @@ class Instances:
         self._empty = asyncio.Event()
         self._left: SagasError | None = None  # why open sagas are not executed any more
 
-    def add(self, key: str, text: str, kind: Kind, options: StartOptions) -> SagaInstance:
+    def add(self, key: str, text: str, kind: CompiledDefinition, options: StartOptions) -> SagaInstance:
         """Add a saga, which has its key from now on.
 
         Its index in the definitions is set when it is assigned to a shard.

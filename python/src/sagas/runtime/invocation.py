@@ -160,7 +160,7 @@ async def _in_thread(
         return await _in_time(value, timer.when() - loop.time(), task, manner)
     if error is None:
         return outcomes.succeeded(
-            await awaitables.whole(value) if inspect.isawaitable(value) else value, task
+            await awaitables.awaited(value) if inspect.isawaitable(value) else value, task
         )
     if overdue and not isinstance(error, (Fail, CannotDecode)):
         return outcomes.unknown(

@@ -11,8 +11,8 @@ from sagas.core.batch import SagaRow
 from sagas.core.model import SagaInstance
 from sagas.core.shard import ShardDriver, ShardIdentity
 from sagas.core.shard_definitions import ShardDefinitions
-from sagas.definition.compiled import Kind
-from sagas.definition.shelf import DefinitionSet, Shelf
+from sagas.definition.compiled import CompiledDefinition
+from sagas.definition.shelf import DefinitionSet, DefinitionRegistry
 from sagas.runtime.instances import Instances
 from sagas.runtime.shard_runner import ShardRunner
 from sagas.storage.interface import Database
@@ -47,7 +47,7 @@ class Placement:
     def __init__(
         self,
         store: Database,
-        definitions: Shelf,
+        definitions: DefinitionRegistry,
         sagas: Instances,
         loop: asyncio.AbstractEventLoop,
         shards: ShardsForPlacement,
@@ -118,12 +118,12 @@ class Placement:
         runner.driver.open(saga)
         return runner
 
-    def _takes(self, runner: ShardRunner, kind: Kind) -> bool:
+    def _takes(self, runner: ShardRunner, kind: CompiledDefinition) -> bool:
         """Return whether a shard has room for one more saga of this definition."""
         has_room = runner.driver.identity.definitions.has_room(kind)
         return has_room and runner.driver.has_room(self._definitions.room)
 
-    def _create(self, definitions: DefinitionSet, kind: Kind) -> ShardRunner:
+    def _create(self, definitions: DefinitionSet, kind: CompiledDefinition) -> ShardRunner:
         """Create a shard. It has at least one definition, because an audit needs one."""
         before = self.current.get(definitions.digest)
         number, name = self._store.new_shard(), secrets.token_hex(8)

@@ -20,7 +20,7 @@ from sagas.runtime.retries import until_answered
 from sagas.storage.interface import Database
 
 if TYPE_CHECKING:
-    from sagas.definition.compiled import Kind
+    from sagas.definition.compiled import CompiledDefinition
     from sagas.definition.saga import Saga
 
 INPUT = "SELECT input FROM sagas WHERE key = ?"
@@ -28,7 +28,7 @@ INPUT = "SELECT input FROM sagas WHERE key = ?"
 
 def conflict(
     key: str,
-    kind: Kind | Saga,
+    kind: CompiledDefinition | Saga,
     text: str,
     stored_name: str,
     stored_input: str,
@@ -59,7 +59,7 @@ def conflict(
             return KeyConflict(f"key {key!r} belongs to a saga with another input. Use another key")
         stored_input = stored.decode(stored_input)
     if stored_input != text and (differ := input_equality.differences(kind, stored_input, text)):
-        paths = mismatches.told(differ)
+        paths = mismatches.joined_paths(differ)
         return KeyConflict(
             f"key {key!r} belongs to a saga with another input, which differs at {paths}. "
             "Use another key"
@@ -70,7 +70,7 @@ def conflict(
 async def conflict_with_stored(
     store: Database,
     key: str,
-    kind: Kind | Saga,
+    kind: CompiledDefinition | Saga,
     text: str,
     stored_name: str,
     stored_input: str,

@@ -17,8 +17,8 @@ from sagas.core.model import SagaInstance
 from sagas.core.shard import ShardDriver, ShardIdentity
 from sagas.core.shard_definitions import ShardDefinitions
 from sagas.core.states import ShardState
-from sagas.definition.compiled import Kind
-from sagas.definition.shelf import Shelf
+from sagas.definition.compiled import CompiledDefinition
+from sagas.definition.shelf import DefinitionRegistry
 from sagas.engine.pool import EnginePool
 from sagas.engine.process import EngineProcess
 from sagas.runtime import decode_check
@@ -54,7 +54,7 @@ class Shards:
     def __init__(
         self,
         store: Database,
-        definitions: Shelf,
+        definitions: DefinitionRegistry,
         program: str,
         engines: int,
         sagas: Instances,
@@ -128,7 +128,7 @@ class Shards:
             adopted.append(runner)
         return adopted
 
-    def _kinds(self, texts: list[str]) -> list[Kind]:
+    def _kinds(self, texts: list[str]) -> list[CompiledDefinition]:
         """Return the definitions of a shard, up to the first invalid one.
 
         Sagas of later ones are then found to be damaged.

@@ -93,7 +93,7 @@ class ValueReader:
             return
         self.count += 1
         instance = attempt.instance
-        steps = [number for number, _ in attempt.action.given] + [attempt.step]
+        steps = [number for number, _ in attempt.action.needed_results] + [attempt.step]
         stored = await until_answered(
             lambda: of(self._coordinator.store, instance.id, steps), with_blobs=False
         )

@@ -63,7 +63,7 @@ def as_raised(error: psycopg.Error) -> Exception:
 
 async def _called(function: Function, task: Task[Any]) -> Any:
     value = await function(task)
-    return value if type(value) in PLAIN else await awaitables.whole(value)
+    return value if type(value) in PLAIN else await awaitables.awaited(value)
 
 
 def text_of(attempt: Attempt, value: Any) -> str:
@@ -357,7 +357,7 @@ class Transactions:
             try:
                 task.enter(link)
                 link.begun = False
-                value = awaitables.whole_now(function(task))
+                value = awaitables.plain_result(function(task))
                 if link.begun:
                     check_whole(link)
                     text = text_of(record.attempt, value)

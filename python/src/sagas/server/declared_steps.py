@@ -6,9 +6,9 @@ import dataclasses
 from collections.abc import Iterator
 from typing import Any, Union
 
-from sagas.definition.compiled import Kind
+from sagas.definition.compiled import CompiledDefinition
 from sagas.definition.declaration import COSTS
-from sagas.definition.layout import Scope, Spot
+from sagas.definition.layout import Scope, StepOrigin
 from sagas.definition.parts import Inclusion
 from sagas.definition.saga import Saga
 from sagas.definition.shape_validation import need_name
@@ -31,7 +31,7 @@ class DeclaredStep:
         conditional: Whether it, or the saga that has it, is there only for some inputs.
     """
 
-    spot: Spot
+    origin: StepOrigin
     step: Step[Any]
     needs: list[str]
     for_each: bool
@@ -40,7 +40,7 @@ class DeclaredStep:
     @property
     def name(self) -> str:
         """The declared name: `hotel/room`."""
-        return self.spot.declared
+        return self.origin.declared
 
     @property
     def costs(self) -> dict[str, Told]:
@@ -63,7 +63,7 @@ def _cost(step: Step[Any], word: str) -> Told:
 def approvals(saga: Saga, definition: str) -> set[str]:
     """The names of a definition's steps that are approvals, also of items and of included sagas.
     `saga`: what it is a definition of."""
-    kind = Kind(definition, saga)
+    kind = CompiledDefinition(definition, saga)
     steps = zip(kind.names, kind.steps)
     return {name for name, step in steps if step is not None and step.kind == "approval"}
 
@@ -89,6 +89,6 @@ def _within(
             ends[part.name] = [one.name for one in inner if one.name not in needed]
             yield from inner
         else:
-            one = DeclaredStep(Spot(scope, part.name), part, needs, is_each, is_some)
+            one = DeclaredStep(StepOrigin(scope, part.name), part, needs, is_each, is_some)
             ends[part.name] = [one.name]
             yield one

@@ -33,7 +33,7 @@ class Unfolding:
     def __init__(self, groups: Groups, asked: str | None, base: str) -> None:
         self.groups, self._base = groups, base
         names = names_in(asked)
-        self.names = frozenset(groups.found) if ALL in names else groups.known(names)
+        self.names = frozenset(groups.by_name) if ALL in names else groups.known(names)
 
     def link(self, group: Group) -> str:
         """The page with a group unfolded, or folded with all that is in it."""
@@ -47,7 +47,7 @@ class Unfolding:
     @property
     def all(self) -> str | None:
         """The page with all groups unfolded; None if they are, or there are none."""
-        if self.names == frozenset(self.groups.found):
+        if self.names == frozenset(self.groups.by_name):
             return None
         return f"{self._base}?{urlencode({'unfold': ALL}, safe=ALL)}#{PLACE}"
 

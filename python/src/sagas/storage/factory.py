@@ -9,7 +9,7 @@ from typing import Any
 from sagas.base.errors import DefinitionError, InvalidStore
 from sagas.definition import definition_text
 from sagas.definition.compiled import digest_of
-from sagas.definition.shelf import Shelf
+from sagas.definition.shelf import DefinitionRegistry
 from sagas.storage.interface import Database
 from sagas.storage.record_file import record_path
 from sagas.storage.sqlite.storage import Sqlite
@@ -70,7 +70,7 @@ def missing(error: ImportError) -> InvalidStore:
 
 def make(
     name: str,
-    definitions: Shelf,
+    definitions: DefinitionRegistry,
     node: str | None,
     lease: float,
     max_connections: int,
@@ -120,7 +120,7 @@ def make(
         max_connections=max_connections,
         sagas=[*compiled_names, *kinds],
         kinds=kinds,
-        version=definitions.shelf,
+        version=definitions.digest,
         transactions=transactions,
         record=record_path(record),
         encodes=definitions.payloads.codec is not None,

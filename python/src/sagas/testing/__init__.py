@@ -1,4 +1,4 @@
-"""A whole saga in memory, in milliseconds, for tests of sagas."""
+"""Simulations for tests: whole sagas run in memory, in milliseconds."""
 
 from sagas.testing.schedule import schedule_times
 from sagas.testing.simulator import run, run_async

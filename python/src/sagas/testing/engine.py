@@ -1,4 +1,4 @@
-"""The engine of a simulation."""
+"""`Engine`: the engine process of a simulation."""
 
 from __future__ import annotations
 
@@ -10,14 +10,14 @@ from sagas.base.errors import EngineError
 
 
 class Engine:
-    """`sagas drive` over one definition, without a log. Use it by `with`."""
+    """A process `sagas drive` for one definition, for use by `with`."""
 
     def __init__(self, definition: str) -> None:
         self._texts = program.Texts([definition])
         try:
-            words = [program.path(), "drive", *self._texts.paths]
+            command = [program.path(), "drive", *self._texts.paths]
             self._process = subprocess.Popen(
-                words,
+                command,
                 stdin=subprocess.PIPE,
                 stdout=subprocess.PIPE,
                 pass_fds=self._texts.files,
@@ -42,7 +42,7 @@ class Engine:
         """Return the replies to some requests.
 
         Raises:
-            EngineError: The program ended by itself.
+            EngineError: The process ended unexpectedly.
         """
         assert self._process.stdin and self._process.stdout
         self._process.stdin.write("".join(f"{line}\n" for line in lines).encode())

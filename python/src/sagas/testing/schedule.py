@@ -1,4 +1,4 @@
-"""The times of a schedule, without a store."""
+"""`schedule_times`: the times of a schedule, without a store."""
 
 from __future__ import annotations
 
@@ -21,8 +21,8 @@ def schedule_times(
         cron: As of `sagas.Store.schedule`.
         every: As of `sagas.Store.schedule`.
         timezone: As of `sagas.Store.schedule`.
-        after: An instant with a time zone: the times are later.
-        count: How many times (default: 5).
+        after: A datetime with a time zone. All returned times are later.
+        count: Number of times (default: 5).
 
     Returns:
         The times, in UTC.
@@ -40,8 +40,8 @@ def schedule_times(
         2026-03-28 01:00:00+00:00
         2026-03-29 01:00:00+00:00
     """
-    when, at, found = timing(cron, every, timezone, "last"), after.timestamp(), []
+    schedule, at, times = timing(cron, every, timezone, "last"), after.timestamp(), []
     for _ in range(count):
-        at = when.next_after(at)
-        found.append(datetime.datetime.fromtimestamp(at, UTC))
-    return found
+        at = schedule.next_after(at)
+        times.append(datetime.datetime.fromtimestamp(at, UTC))
+    return times

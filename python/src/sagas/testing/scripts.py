@@ -1,7 +1,6 @@
-"""A test's script: which attempts fail or have unknown outcomes, and what is answered.
+"""Scripts of tests: failing attempts, unknown outcomes and answers.
 
-What a test says that is to happen to the attempts of a saga, and what is wrong with what it says
-(`sagas.testing`).
+The functions check the arguments of `sagas.testing.run`, and convert them for a simulation.
 """
 
 from __future__ import annotations
@@ -21,7 +20,7 @@ from sagas.definition.selection import Selection
 from sagas.definition.step import Step
 
 Attempts = Union[int, Iterable[int], Exception, type[Exception]]
-"""Which attempts: the first so many, just those of a list, or all of them, by this exception."""
+"""The attempts: the first N, those of a list, or all of them with an exception."""
 
 V = TypeVar("V")
 Script = Union[
@@ -29,44 +28,46 @@ Script = Union[
 ]
 Answers = Union[Mapping[str, Any], Mapping[Step[Any], Any], Mapping[Selection[Any], Any]]
 Rule = Callable[[int], Exception | None]
-TOLD = "the test says so"
+SCRIPTED = "the test says so"
 FORMS = (
     "a number of attempts (1), a list of attempts ([2]), or an exception for all "
     '(sagas.Fail("sold out"))'
 )
 
 
-def said_of(attempt: Attempt, said: Mapping[str, V]) -> V | None:
-    """What is said of a step, by its name; else what is said of it as it was declared."""
-    return said.get(attempt.name, said.get(attempt.declared_name))
+def for_step(attempt: Attempt, by_step: Mapping[str, V]) -> V | None:
+    """Return the entry for an attempt's step, by its name, else by its declared name."""
+    return by_step.get(attempt.name, by_step.get(attempt.declared_name))
 
 
-def part_of(saga: Saga, child: str | None, said: Mapping[Any, Any] | None) -> Any:
-    """What a test says of a saga's own steps, or of those of a child: `stay/room`, or the step
-    `room` itself.
+def part_of(saga: Saga, child: str | None, argument: Mapping[Any, Any] | None) -> Any:
+    """Return the entries of an argument for a saga's own steps, or for a child.
+
+    A test names a step of a child as `stay/room`, or by the step `room` itself.
 
     Args:
         saga: The saga.
         child: The name of the step that starts the child, or None for the saga's own steps.
-        said: What the test says, by step. What is no dict is left as it is.
+        argument: The argument of the test, by step. It is returned unchanged if it is not a dict.
     """
-    if not isinstance(said, Mapping):
-        return said
-    found = {}
-    for step, value in said.items():
+    if not isinstance(argument, Mapping):
+        return argument
+    entries = {}
+    for step, value in argument.items():
         heads, rest = _heads(saga, step)
         if child in heads or (child is None and not heads):
-            found[rest] = value
-    return found
+            entries[rest] = value
+    return entries
 
 
 def _heads(saga: Saga, step: object) -> tuple[list[str], object]:
-    """The steps of a saga that start the child of which a step is, and how the child calls it; none
-    where it is the saga's own.
+    """Return the steps that start a step's child, and the step in the child.
+
+    The list is empty for a step of the saga itself.
     """
     if isinstance(step, str) and "/" in step:
         head, _, rest = step.partition("/")
-        names = [one.name for one, _ in children.children_of(saga)]
+        names = [starter.name for starter, _ in children.children_of(saga)]
         if head not in names and shape_validation.step_named(saga, step):
             return [], step
         if head not in names:
@@ -75,8 +76,8 @@ def _heads(saga: Saga, step: object) -> tuple[list[str], object]:
         return [head], rest
     if isinstance(step, Step) and step.saga is not saga:
         heads = [
-            one.name
-            for one, child in children.children_of(saga)
+            starter.name
+            for starter, child in children.children_of(saga)
             if step.saga is child or step.saga in children.descendants(child)
         ]
         return heads, step
@@ -84,114 +85,138 @@ def _heads(saga: Saga, step: object) -> tuple[list[str], object]:
 
 
 def name_of(saga: Saga, step: object) -> str:
-    """A step's name; an unknown one is a fault of the test."""
+    """Return the name of a step in an argument of a test.
+
+    Raises:
+        TypeError: It is neither a step nor a name.
+        KeyError: The saga has no such step.
+    """
     name = "/".join(step.path) if isinstance(step, Selection) else step
     if not isinstance(name, str):
         raise TypeError(f"{shown(step)}: must be a step of saga {saga.name!r}, or its name")
     if shape_validation.step_named(saga, name) is None:
-        names = [one.path for one in shape_validation.patterns(saga)]
+        names = [pattern.path for pattern in shape_validation.patterns(saga)]
         raise KeyError(f"saga {saga.name!r} has no step {name!r}{validation.meant(name, names)}")
     return name
 
 
-def check_there(saga: Saga, layout: Layout, named: Iterable[str]) -> None:
-    """Raise `KeyError` where a test names an item that the input does not give. A declared step
-    means all of its items, also if there are none.
+def check_items(saga: Saga, layout: Layout, names: Iterable[str]) -> None:
+    """Check that the input has the items that a test names.
+
+    The name of a declared step means all of its items, which may be none.
+
+    Raises:
+        KeyError: The input does not have an item.
     """
-    for name in named:
-        declared = next(one.path for one in shape_validation.patterns(saga) if one.is_of(name))
-        if name == declared or name in layout.spots:
+    for name in names:
+        patterns = shape_validation.patterns(saga)
+        declared = next(pattern.path for pattern in patterns if pattern.is_of(name))
+        if name == declared or name in layout.origins:
             continue
-        there = [step for step, spot in layout.spots.items() if spot.declared == declared]
-        said = f"it has {', '.join(there[:3])}{' and others' * (len(there) > 3)}"
+        steps = [step for step, origin in layout.origins.items() if origin.declared == declared]
+        items = f"{', '.join(steps[:3])}{' and others' * (len(steps) > 3)}" if steps else "none"
         raise KeyError(
-            f"saga {saga.name!r} has no step {name!r} for this input: of step {declared!r} "
-            f"{said if there else 'there is none'}. Name one of these, or {declared!r} for each"
+            f"saga {saga.name!r} has no step {name!r} for this input: the items of step "
+            f"{declared!r} are {items}. Name one of these, or {declared!r} for all of them"
         )
 
 
 def _step(saga: Saga, name: str) -> Step[Any]:
-    """The step that has a name."""
+    """Return the declared step of a name."""
     step = shape_validation.step_named(saga, name)
     assert step
     return step
 
 
-def answers_of(saga: Saga, answers: Answers | None, word: str = "answers") -> dict[str, Any]:
-    """What is answered, by step; `word` is how the test says it."""
+def answers_of(saga: Saga, answers: Answers | None, argument: str = "answers") -> dict[str, Any]:
+    """Return the answers by the names of the steps.
+
+    Args:
+        saga: The saga.
+        answers: The answers by step.
+        argument: The argument's name, for messages.
+    """
     if answers is not None and not isinstance(answers, Mapping):
         raise TypeError(
-            f"{word}={shown(answers)}: must be a dict of answers by step: "
-            f'{word}={{"{saga.parts[-1].name}": "yes"}}'
+            f"{argument}={shown(answers)}: must be a dict of answers by step: "
+            f'{argument}={{"{saga.parts[-1].name}": "yes"}}'
         )
     return {name_of(saga, step): answer for step, answer in (answers or {}).items()}
 
 
 def early_of(saga: Saga, early: Answers | None) -> dict[str, Outcome]:
-    """What is reported before the steps begin, by step; a failure by an exception."""
-    found = {}
+    """Return the outcomes that are reported before the steps start, by step.
+
+    An exception means a failure.
+    """
+    reports = {}
     for name, answer in answers_of(saga, early, "early").items():
         step = _step(saga, name)
         if step.kind != "approval" and not step.run.external:
             raise ValueError(
-                f"early: step {name!r} is neither an approval nor external, so nobody reports it. "
-                "Remove this"
+                f"early: step {name!r} is neither an approval nor external, so no report "
+                "completes it. Remove this"
             )
         if isinstance(answer, Exception):
             text = f"{type(answer).__name__}: {answer}"
-            found[name] = outcomes.failure(text, final=True)
+            reports[name] = outcomes.failure(text, final=True)
         else:
             text = serialization.write_value(answer, f"early[{name!r}]")
-            found[name] = Outcome(OutcomeKind.SUCCEEDED, text)
-    return found
+            reports[name] = Outcome(OutcomeKind.SUCCEEDED, text)
+    return reports
 
 
-def script(saga: Saga, word: str, said: Script | None) -> dict[str, Rule]:
-    """What is to happen to attempts, by step; `word` is how the test says it: `fail`,
-    `fail_undo`, `unknown` or `unknown_undo`.
+def script(saga: Saga, argument: str, attempts: Script | None) -> dict[str, Rule]:
+    """Return the rules of an argument, by the names of the steps.
+
+    Args:
+        saga: The saga.
+        argument: The argument's name: `fail`, `fail_undo`, `unknown` or `unknown_undo`.
+        attempts: The attempts by step.
     """
-    if said is not None and not isinstance(said, Mapping):
+    if attempts is not None and not isinstance(attempts, Mapping):
         raise TypeError(
-            f"{word}={shown(said)}: must be a dict of attempts by step: "
-            f'{word}={{"{saga.parts[-1].name}": 1}}'
+            f"{argument}={shown(attempts)}: must be a dict of attempts by step: "
+            f'{argument}={{"{saga.parts[-1].name}": 1}}'
         )
     return {
-        name_of(saga, step): _rule(saga, word, name_of(saga, step), attempts)
-        for step, attempts in (said or {}).items()
+        name_of(saga, step): _rule(saga, argument, name_of(saga, step), some)
+        for step, some in (attempts or {}).items()
     }
 
 
-def _rule(saga: Saga, word: str, name: str, attempts: Any) -> Rule:
-    if word.endswith("_undo"):
-        _check_compensation(saga, word, name)
+def _rule(saga: Saga, argument: str, name: str, attempts: Any) -> Rule:
+    """Return the function that returns the exception for an attempt, or None."""
+    if argument.endswith("_undo"):
+        _check_compensation(saga, argument, name)
     if isinstance(attempts, type) and issubclass(attempts, Exception):
         attempts = attempts()
     if isinstance(attempts, Exception):
         each = attempts
         return lambda attempt: each
-    said = f"{word}={{{name!r}: {shown(attempts)}}}"
+    entry = f"{argument}={{{name!r}: {shown(attempts)}}}"
     if isinstance(attempts, (str, bytes, type)) or not (
         validation.is_count(attempts) or isinstance(attempts, Iterable)
     ):
-        raise TypeError(f"{said}: must be {FORMS}")
+        raise TypeError(f"{entry}: must be {FORMS}")
     is_number = isinstance(attempts, int)
     chosen = range(1, attempts + 1) if is_number else [*attempts]
-    looked_at = [attempts + 1] if is_number else chosen  # a number may be a very large one
-    if not all(validation.is_count(attempt) and attempt > 0 for attempt in looked_at):
-        raise ValueError(f"{said}: attempts are numbered from 1. It must be {FORMS}")
-    told = RuntimeError(TOLD)
-    return lambda attempt: told if attempt in chosen else None
+    checked = [attempts + 1] if is_number else chosen  # the number may be very large
+    if not all(validation.is_count(attempt) and attempt > 0 for attempt in checked):
+        raise ValueError(f"{entry}: attempts are numbered from 1. It must be {FORMS}")
+    error = RuntimeError(SCRIPTED)
+    return lambda attempt: error if attempt in chosen else None
 
 
-def _check_compensation(saga: Saga, word: str, name: str) -> None:
+def _check_compensation(saga: Saga, argument: str, name: str) -> None:
     step = _step(saga, name)
     if not step.has_compensation:
         raise ValueError(
-            f"{word}: step {name!r} has no compensation, so it is never undone. Declare "
+            f"{argument}: step {name!r} has no compensation, so it is never undone. Declare "
             f"one with @{name}.compensation, or remove this"
         )
     if step.undo.implied and step.child is None:
         raise ValueError(
-            f"{word}: step {name!r} has no compensation, and undoing it does nothing, "
+            f"{argument}: step {name!r} has no compensation, and undoing it does nothing, "
             "which cannot fail. Remove this"
         )

@@ -1,7 +1,8 @@
-"""Drives one saga in memory: `ShardDriver`, `AttemptMachine` and a heap of what is due.
+"""`Simulation`: one saga in memory, with a clock and a heap of due events.
 
-What a store does with an event loop, a database and its timers is done here at once, by a heap of
-what is due and a clock that advances to it. Nothing is decided here.
+It uses the `ShardDriver` and the `AttemptMachine` of a store. A store has an event loop, a database
+and timers. A simulation has a heap of due events instead, and a clock that advances to the next
+one. It makes no decisions itself.
 """
 
 from __future__ import annotations
@@ -29,11 +30,11 @@ from sagas.core.shard_definitions import ShardDefinitions
 from sagas.core.states import Action, OutcomeKind, Suspension, saga_phase, step_state
 from sagas.core.suspensions import SuspensionRow
 from sagas.definition import children, serialization
-from sagas.definition.compiled import Kind
+from sagas.definition.compiled import CompiledDefinition
 from sagas.definition.start_options import StartOptions
 from sagas.runtime import invocation
 from sagas.testing.engine import Engine
-from sagas.testing.scripts import Rule, said_of
+from sagas.testing.scripts import Rule, for_step
 from sagas.testing.trial import Call, Clock, Trial
 
 MOST_CALLS = 10_000
@@ -42,17 +43,17 @@ FAILURES = (OutcomeKind.FAILED, OutcomeKind.FAILED_PERMANENTLY)
 
 @dataclasses.dataclass(frozen=True, slots=True)
 class Scenario:
-    """What a test says is to happen.
+    """The events that a test determines for one saga.
 
     Attributes:
-        rules: For each of `failed` and `unknown`, and of `run` and `undo`: the steps' rules.
-        answers: What is answered, by step.
-        abort: The step after which the saga is aborted.
-        connection: What `task.connection` is.
-        deadline: When the saga is aborted, by the clock of the simulation.
-        early: What is reported before the steps begin, by step.
-        children: What is to happen to the children, by step.
-        concurrency: How many functions are called at once; None for as many as there are.
+        rules: The rules by step, for each of `failed` and `unknown`, and of `run` and `undo`.
+        answers: The answers, by step.
+        abort: The step after whose commit the saga is aborted, or None.
+        connection: The value of `task.connection`.
+        deadline: When the saga is aborted, by the clock of the simulation, or None.
+        early: The outcomes that are reported before the steps start, by step.
+        children: The scenarios of the children, by step.
+        concurrency: Maximum concurrent calls of functions; None for no limit.
     """
 
     rules: Mapping[tuple[str, str], Mapping[str, Rule]]
@@ -65,9 +66,7 @@ class Scenario:
     concurrency: int | None = None
 
     def undoing(self) -> Scenario:
-        """Return what is to happen to the saga that undoes this one: the compensations are its
-        steps.
-        """
+        """Return the scenario of the saga that undoes this one by compensations."""
         rules = {(outcome, "run"): self.rules[outcome, "undo"] for outcome, _ in self.rules}
         rules |= {(outcome, "undo"): {} for outcome, _ in self.rules}
         below = {step: scenario.undoing() for step, scenario in self.children.items()}
@@ -76,37 +75,45 @@ class Scenario:
         )
 
     def rule(self, outcome: str, attempt: Attempt, count: int) -> Exception | None:
-        """Return the exception by which the `count`-th of an action is to end so, if it is."""
-        rule = said_of(attempt, self.rules[outcome, attempt.kind])
+        """Return the exception with which an attempt is to end, or None.
+
+        Args:
+            outcome: `failed` or `unknown`.
+            attempt: The attempt.
+            count: The number of the attempt, or of the call, from 1.
+        """
+        rule = for_step(attempt, self.rules[outcome, attempt.kind])
         return rule(count) if rule else None
 
 
 class Due(enum.Enum):
-    """What is due of an attempt."""
+    """The kinds of due events of an attempt."""
 
     CALL = enum.auto()
+    """Its function is called."""
     TIMER = enum.auto()
+    """Its timer expires."""
     ANSWER = enum.auto()
-    """A person, or another program, says how it ended."""
+    """A person, or another program, reports its outcome."""
     CHILD = enum.auto()
-    """A child saga is run."""
+    """Its child saga runs."""
 
 
 class Children(Protocol):
-    """Runs the children of a simulation."""
+    """The children of a simulation."""
 
     async def run(self, attempt: Attempt, scenario: Scenario) -> Outcome:
-        """Run the child of an attempt to its end; return what that comes to."""
+        """Run the child of an attempt to its end, and return the outcome of the attempt."""
 
 
 class Simulation:
-    """One saga, from its start to its end."""
+    """A simulation of one saga, from its start to its end."""
 
     def __init__(
         self,
         key: str,
         text: str,
-        kind: Kind,
+        kind: CompiledDefinition,
         scenario: Scenario,
         clock: Clock,
         children: Children,
@@ -119,33 +126,33 @@ class Simulation:
         self._driver, self._machine = ShardDriver.created(identity), AttemptMachine()
         options = StartOptions(deadline=scenario.deadline, shape=shape)
         self._saga = SagaInstance(key, text, kind, 0, options)
-        self._began = clock()
+        self._started_at = clock()
         self._due: list[tuple[float, int, Due, Attempt]] = []
         self._order = 0
         self._returns: Counter[tuple[int, str]] = Counter()
         self._calls: list[Call] = []
         self._noted: Outcome | None = None
-        self._is_late = False
-        self._fault: Exception | None = None  # of the test, found in a step's function
+        self._is_overdue = False
+        self._fault: Exception | None = None  # an error of the test that a function met
 
     @property
     def saga(self) -> SagaInstance:
-        """The saga as it stands."""
+        """The saga in its present state."""
         return self._saga
 
     async def play(self, engine: Engine) -> Trial:
-        """Run it."""
+        """Run the saga to its end, and return its result."""
         self._driver.open(self._saga)
         for name, outcome in self._scenario.early.items():
-            for step, own in enumerate(self._kind.names):
-                if name in (own, self._kind.declared_name(step)):
-                    word = (step, Action.RUN.value)
-                    early_reports.EarlyReport(self._saga, word, outcome).keep()
+            for step, step_name in enumerate(self._kind.names):
+                if name in (step_name, self._kind.declared_name(step)):
+                    key = (step, Action.RUN.value)
+                    early_reports.EarlyReport(self._saga, key, outcome).keep()
         self._turn(engine)
         while self._due:
             deadline = self._saga.options.deadline
-            if deadline is not None and self._due[0][0] >= deadline and not self._is_late:
-                self._is_late = True
+            if deadline is not None and self._due[0][0] >= deadline and not self._is_overdue:
+                self._is_overdue = True
                 self._clock.advance(max(0.0, deadline - self._clock()))
                 self._driver.abort(Abort(self._saga))
                 self._turn(engine)
@@ -153,11 +160,11 @@ class Simulation:
             at, _, due, attempt = heapq.heappop(self._due)
             if self._is_due(at, due, attempt):
                 self._clock.advance(max(0.0, at - self._clock()))
-                await self._meet(due, attempt)
+                await self._handle(due, attempt)
                 self._turn(engine)
         return self._trial(engine)
 
-    # -- what is due
+    # -- due events
 
     def _put(self, at: float, due: Due, attempt: Attempt) -> None:
         self._order += 1
@@ -165,23 +172,23 @@ class Simulation:
 
     @staticmethod
     def _is_due(at: float, due: Due, attempt: Attempt) -> bool:
-        """Whether it is due still: a saga that drains gives attempts up."""
+        """Return whether an event is still due: a saga that drains cancels attempts."""
         if due is Due.CALL:
             return attempt.state is RUNNING
         is_timed = due is not Due.TIMER or attempt.until is None or attempt.until <= at
         return attempt.state is SUSPENDED and is_timed
 
-    async def _meet(self, due: Due, attempt: Attempt) -> None:
+    async def _handle(self, due: Due, attempt: Attempt) -> None:
         now = self._clock()
         if due is Due.TIMER:
             self._do(attempt, self._machine.timer(attempt, now))
         elif due is Due.ANSWER:
-            told = attempt.reason is Suspension.EXTERNAL and self._scenario.rule(
+            error = attempt.reason is Suspension.EXTERNAL and self._scenario.rule(
                 "failed", attempt, attempt.attempt + attempt.failures
             )
-            outcome = outcomes.raised(told, attempt.manner) if told else self._answer(attempt)
-            reports = self._machine.ended if told else self._machine.finish
-            self._do(attempt, reports(attempt, outcome, now))
+            outcome = outcomes.raised(error, attempt.manner) if error else self._answer(attempt)
+            report = self._machine.ended if error else self._machine.finish
+            self._do(attempt, report(attempt, outcome, now))
         elif due is Due.CHILD:
             outcome = await self._child(attempt)
             self._do(attempt, self._machine.ended(attempt, outcome, self._clock()))
@@ -194,27 +201,27 @@ class Simulation:
     # -- a turn of the shard
 
     def _turn(self, engine: Engine) -> None:
-        """Ask the engine until nothing is due."""
+        """Send requests to the engine until there are none left."""
         driver = self._driver
         while lines := driver.requests(self._free(), self._clock()):
-            found = driver.replies(engine.ask(lines), "", self._clock())
-            while isinstance(found, list):
-                found = driver.replies(engine.ask(found), "", self._clock())
-            self._commit(found)
+            result = driver.replies(engine.ask(lines), "", self._clock())
+            while isinstance(result, list):  # more requests
+                result = driver.replies(engine.ask(result), "", self._clock())
+            self._commit(result)
 
     def _free(self) -> int:
-        """How many tasks may be claimed."""
-        most = self._scenario.concurrency
-        if most is None:
+        """Return how many tasks may be claimed."""
+        maximum = self._scenario.concurrency
+        if maximum is None:
             return MOST_CLAIMS
-        return most - sum(one.state is RUNNING for one in self._saga.busy.values())
+        return maximum - sum(attempt.state is RUNNING for attempt in self._saga.busy.values())
 
     def _drain(self, saga: SagaInstance) -> None:
         for attempt, decision in self._machine.drain(saga, self._clock()):
             self._do(attempt, decision)
 
     def _commit(self, effects: Effects) -> None:
-        """All that is to be made durable is so at once."""
+        """Apply effects as if the store had committed them."""
         self._driver.writes(effects)
         self._driver.committed(effects)
         for attempt in effects.reported:
@@ -232,7 +239,7 @@ class Simulation:
             self._do(attempt, self._machine.begin(attempt, self._clock()))
 
     def _do(self, attempt: Attempt, decision: Decision) -> None:
-        """Do what was decided about an attempt."""
+        """Carry out a decision about an attempt."""
         if decision.do is Do.CALL:
             attempt.queue()
             attempt.start()
@@ -271,9 +278,9 @@ class Simulation:
             self._put(self._clock(), Due.ANSWER, attempt)
 
     def _wait(self, attempt: Attempt) -> None:
-        """Until its time; an approval is answered at once, if the test says how."""
-        is_told = said_of(attempt, dict.fromkeys(self._scenario.answers, True))
-        if attempt.reason is Suspension.APPROVAL and is_told:
+        """Let an attempt wait for its time, or for the answer of the test to an approval."""
+        has_answer = for_step(attempt, dict.fromkeys(self._scenario.answers, True))
+        if attempt.reason is Suspension.APPROVAL and has_answer:
             self._put(self._clock(), Due.ANSWER, attempt)
         elif attempt.until is not None:
             self._put(max(self._clock(), attempt.until), Due.TIMER, attempt)
@@ -281,11 +288,11 @@ class Simulation:
     # -- a call
 
     async def _child(self, attempt: Attempt) -> Outcome:
-        """What its child comes to, or what the test says of it."""
+        """Return the outcome of a child, or the failure that the test determines."""
         self._followed.discard(attempt)
-        told = self._scenario.rule("failed", attempt, attempt.attempt + attempt.failures)
-        if told is not None:
-            return outcomes.raised(told, attempt.manner)
+        error = self._scenario.rule("failed", attempt, attempt.attempt + attempt.failures)
+        if error is not None:
+            return outcomes.raised(error, attempt.manner)
         if self._saga.aborted and not attempt.undo:
             return outcomes.failure("its child saga was not started: the saga was aborted")
         scenario = self._scenario.children[attempt.declared.name]
@@ -293,17 +300,17 @@ class Simulation:
         return await self._children.run(attempt, scenario)
 
     async def _outcome(self, attempt: Attempt) -> Outcome:
-        """What a call comes to, or what the test says of it."""
+        """Return the outcome of a call, or the one that the test determines."""
         count = attempt.attempt + attempt.failures
-        told = self._scenario.rule("failed", attempt, count)
-        if told is not None:
-            return outcomes.raised(told, attempt.manner)
+        error = self._scenario.rule("failed", attempt, count)
+        if error is not None:
+            return outcomes.raised(error, attempt.manner)
         outcome = await self._call(attempt)
         if outcome.kind is not OutcomeKind.SUCCEEDED:
             return outcome
         self._returns[attempt.word] += 1
-        told = self._scenario.rule("unknown", attempt, self._returns[attempt.word])
-        return outcome if told is None else outcomes.unknown(str(told))
+        error = self._scenario.rule("unknown", attempt, self._returns[attempt.word])
+        return outcome if error is None else outcomes.unknown(str(error))
 
     async def _call(self, attempt: Attempt) -> Outcome:
         task, manner = attempt.task(), attempt.manner
@@ -320,14 +327,14 @@ class Simulation:
         return outcome
 
     def _connection(self) -> Any:
-        """Return what a step with `transaction=True` gets."""
+        """Return the connection for a step with `transaction=True`."""
         if self._scenario.connection is None:
             self._fault = RuntimeError("sagas.testing has no database. Set connection=...")
             raise self._fault
         return self._scenario.connection
 
     def _answer(self, attempt: Attempt) -> Outcome:
-        """What a person, or another program, says."""
+        """Return the outcome that a person, or another program, reports."""
         answers, name = self._scenario.answers, attempt.name
         if name not in answers:
             name = self._kind.declared_name(attempt.step)
@@ -336,9 +343,9 @@ class Simulation:
             if attempt.is_child and (attempt.undo or undoes) and attempt.outcome:
                 return attempt.outcome  # a person has answered in the saga that undoes it
         if name not in answers:
-            whose = f"{'the compensation of ' if attempt.undo else ''}step {name!r}"
-            how = f"Set answers={{{name!r}: ...}}"
-            raise LookupError(f"{whose} {self._waits(attempt)}. {how}")
+            step = f"{'the compensation of ' if attempt.undo else ''}step {name!r}"
+            remedy = f"Set answers={{{name!r}: ...}}"
+            raise LookupError(f"{step} {self._waits(attempt)}. {remedy}")
         answer = answers[name]
         try:
             if callable(answer):
@@ -354,22 +361,22 @@ class Simulation:
     @staticmethod
     def _waits(attempt: Attempt) -> str:
         if attempt.reason is Suspension.EXHAUSTED:
-            return "failed, its attempts are used up, and a person is asked (on_exhausted='ask')"
+            return "has used up its attempts, and waits for an answer (on_exhausted='ask')"
         return "waits for an answer"
 
-    # -- what is told
+    # -- the result
 
     def _note(self, attempt: Attempt, outcome: Outcome) -> None:
         if outcome is self._noted:
             return
         self._noted = outcome
         if len(self._calls) >= MOST_CALLS:
-            why = "Is an outcome never known? Set max_unknown"
-            raise RuntimeError(f"the saga makes more than {MOST_CALLS:,} calls. {why}")
+            remedy = "If an outcome stays unknown, set max_unknown"
+            raise RuntimeError(f"the saga makes more than {MOST_CALLS:,} calls. {remedy}")
         value: Any = outcome.value
         if outcome.kind is not OutcomeKind.UNKNOWN:
-            told = json.loads(value)
-            value = told["error"] if outcome.kind in FAILURES else told
+            reported = json.loads(value)
+            value = reported["error"] if outcome.kind in FAILURES else reported
         self._calls.append(
             Call(
                 attempt.name,
@@ -386,22 +393,22 @@ class Simulation:
         )
 
     def _trial(self, engine: Engine) -> Trial:
-        told = json.loads(engine.ask([protocol.show_line(0)])[0])
+        reply = json.loads(engine.ask([protocol.show_line(0)])[0])
         names, answer = self._kind.names, self._saga.answer or {}
-        stands = [n for n, state in enumerate(told["states"]) if step_state(state) in STANDS]
+        committed = [n for n, state in enumerate(reply["states"]) if step_state(state) in STANDS]
         return Trial(
-            phase=saga_phase(told["phase"], answer.get("kind") == "plan", None).value,
-            states={name: step_state(text).value for name, text in zip(names, told["states"])},
+            phase=saga_phase(reply["phase"], answer.get("kind") == "plan", None).value,
+            states={name: step_state(text).value for name, text in zip(names, reply["states"])},
             results={
                 names[step]: serialization.fitting(
                     self._kind.payloads.decode(self._saga.results[step]),
                     self._kind.decoders.get(names[step]),
                 )
-                for step in stands
+                for step in committed
             },
             cost=answer.get("cost"),
             blocking_steps=[names[step] for step in answer.get("chain", ())],
-            aborted=told["aborted"],
+            aborted=reply["aborted"],
             calls=self._calls,
             seconds=self._spent(),
             saga=self._kind.name,
@@ -410,4 +417,4 @@ class Simulation:
         )
 
     def _spent(self) -> float:
-        return round(self._clock() - self._began, 6)
+        return round(self._clock() - self._started_at, 6)

@@ -1,11 +1,12 @@
 """`sagas.testing.run` and `run_async`.
 
     trial = sagas.testing.run(trip, {"flight": "LH400"}, fail={"hotel": 3})
-    assert trial.states == {"flight": "committed", "car": "committed", "hotel": "failed", "tour":
-    "waiting"}
+    assert trial.states == {
+        "flight": "committed", "car": "committed", "hotel": "failed", "tour": "waiting"
+    }
     assert [call.step for call in trial.undone] == []
 
-The program `sagas` decides, attempts live as in a store, and the steps' own functions are called.
+The program `sagas` decides, attempts behave as in a store, and the steps' own functions are called.
 """
 
 from __future__ import annotations
@@ -49,43 +50,43 @@ def run(
     """Run a whole saga in memory, from its start to its end, in milliseconds.
 
     The program `sagas` decides, and the steps' own functions are called. Waits, backoffs and
-    approvals take no time: the clock advances to them. Child sagas are run, too, one after another.
-    Name a step by itself or by its name; a step of a child as `stay/room`, by the step that starts
-    the child.
+    approvals take no time: the clock advances to them. Child sagas run, too, one after another.
+    Name a step by the step itself or by its name. Name a step of a child as `stay/room`, with the
+    step that starts the child.
 
     Args:
         saga: The definition.
         input: The saga's input (default: None).
         key: The saga's key (default: `"test"`).
         fail: Attempts that fail without a call. `{"tour": 3}`: the first three; `{"tour": [2]}`:
-            only the second; `{"tour": sagas.Fail("sold out")}`: each of them, by this exception.
+            only the second; `{"tour": sagas.Fail("sold out")}`: each of them, with this exception.
         fail_undo: The same for compensations.
         unknown: Calls whose outcome is lost, counted as in `fail`: the function is called, and the
             attempt repeats with the same idempotency key.
         unknown_undo: The same for compensations.
-        answers: What a person, or another program, answers, by step: for approvals, external steps
-            and unknown outcomes. A value completes the step; an exception fails it; a function of
-            the task returns or raises either.
-        early: What is reported before the step begins, by step: for approvals and external steps.
-            A value completes the step, and an exception fails it; its function is not called.
-        abort: The saga is aborted when this step has committed.
+        answers: The answers of a person, or of another program, by step: for approvals, external
+            steps and unknown outcomes. A value completes the step; an exception fails it; a
+            function of the task returns or raises either.
+        early: Reports before the step starts, by step: for approvals and external steps. A value
+            completes the step, and an exception fails it; its function is not called.
+        abort: The step after whose commit the saga is aborted (default: none).
         clock: A `Clock`, for functions that ask for the time (default: a new one).
         connection: `task.connection` of steps with `transaction=True`. You commit it or roll it
             back.
         context: `task.context`, for example a fake; or a function, as for `sagas.open`.
         deadline: As of `Store.start`, by the clock of the simulation.
         codec: As for `sagas.open`.
-        concurrency: Maximum number of functions that are called at once, as of `sagas.open`
-            (default: no limit). With one, what has not begun when a step fails does not begin.
+        concurrency: Maximum concurrent calls of functions, as for `sagas.open` (default: no limit).
+            With a limit, steps that have not started when a step fails do not start.
 
     Returns:
         A `Trial`.
 
     Raises:
         DefinitionError: The definition is not valid.
-        KeyError: A step that is named does not exist, or is not there for this input.
+        KeyError: A step that is named does not exist, or does not exist for this input.
         TypeError: A script or the answers do not have one of these forms.
-        ValueError: A script cannot happen, for example a compensation that does not exist.
+        ValueError: A script is impossible, for example if a compensation does not exist.
         InvalidInput: The first steps cannot read the input.
         NotSerializable: The input is not JSON.
         ResultNotSerializable: A result is not JSON.
@@ -151,12 +152,14 @@ async def run_async(
     """Run a whole saga in memory, in a running event loop. See `testing.run`."""
     validation.check_given(saga)
     saga.check()
-    said = Said(fail, fail_undo, unknown, unknown_undo, answers, early, abort)
+    script_arguments = ScriptArguments(
+        fail, fail_undo, unknown, unknown_undo, answers, early, abort
+    )
     clock, shared = clock or Clock(), Context()
     at = deadline_at(saga.deadline if deadline is None else deadline, clock())
     if concurrency is not None:
         arguments.count("concurrency", concurrency)
-    scenario = _scenario(saga, said, connection)
+    scenario = _scenario(saga, script_arguments, connection)
     scenario = dataclasses.replace(scenario, deadline=at, concurrency=concurrency)
     family = Family(clock, shared, payloads.checked(codec))
     lifespan = Lifespan(context, shared)
@@ -168,8 +171,8 @@ async def run_async(
     return dataclasses.replace(trial, children=family.trials)
 
 
-class Said(NamedTuple):
-    """What a test says is to happen, as it says it."""
+class ScriptArguments(NamedTuple):
+    """The arguments of `run` that determine events, unchanged."""
 
     fail: Script | None
     fail_undo: Script | None
@@ -179,19 +182,19 @@ class Said(NamedTuple):
     early: Answers | None
     abort: str | Selection[Any] | None
 
-    def part(self, saga: Saga, child: str | None) -> Said:
-        """What of it is of a saga's own steps, or of those of a child."""
+    def part(self, saga: Saga, child: str | None) -> ScriptArguments:
+        """Return the entries for a saga's own steps, or for those of a child."""
         fail, fail_undo, unknown, unknown_undo, answers, early = (
-            part_of(saga, child, one) for one in self[:6]
+            part_of(saga, child, argument) for argument in self[:6]
         )
         stops = part_of(saga, child, {self.abort: True}) if self.abort else {}
         abort = next(iter(stops), None)
-        return Said(fail, fail_undo, unknown, unknown_undo, answers, early, abort)
+        return ScriptArguments(fail, fail_undo, unknown, unknown_undo, answers, early, abort)
 
 
-def _scenario(saga: Saga, said: Said, connection: Any) -> Scenario:
-    """What is to happen to a saga, and to its children."""
-    own = said.part(saga, None)
+def _scenario(saga: Saga, script_arguments: ScriptArguments, connection: Any) -> Scenario:
+    """Return the scenario of a saga, with those of its children."""
+    own = script_arguments.part(saga, None)
     rules = {
         ("failed", "run"): script(saga, "fail", own.fail),
         ("failed", "undo"): script(saga, "fail_undo", own.fail_undo),
@@ -200,7 +203,7 @@ def _scenario(saga: Saga, said: Said, connection: Any) -> Scenario:
     }
     stop = name_of(saga, own.abort) if own.abort else None
     below = {
-        step.name: _scenario(child, said.part(saga, step.name), connection)
+        step.name: _scenario(child, script_arguments.part(saga, step.name), connection)
         for step, child in children.children_of(saga)
     }
     answers, early = answers_of(saga, own.answers), early_of(saga, own.early)

@@ -13,12 +13,12 @@ from sagas.definition.fan import FIXED, Fan
 
 
 class Clock:
-    """Keep a time that advances only when something waits for it.
+    """Keep a time that advances only when the simulation waits for it.
 
     Call it for seconds since 1970, as `time.time`.
 
     Args:
-        at: Where it begins (default: the year 2000, in UTC).
+        at: The initial time (default: the year 2000, in UTC).
     """
 
     def __init__(self, at: datetime.datetime | None = None) -> None:
@@ -42,16 +42,16 @@ class Clock:
 
 @dataclasses.dataclass(frozen=True, slots=True)
 class Call:
-    """Describe a call of a step's function, or one that the test let fail.
+    """Describe a call of a step's function, or an attempt that the test let fail.
 
     Attributes:
         step: The step's name.
         undo: Whether it was the compensation.
         attempt: The attempt's number, from 1.
         attempt_id: As `Task.attempt_id`.
-        at: Seconds since the saga began.
+        at: Seconds since the saga started.
         outcome: `done`, `failed`, `final` or `unknown`.
-        value: The result, or the text of what was raised.
+        value: The result, or the text of the exception.
         progress: What the function reported last by `Task.progress`, or None.
     """
 
@@ -67,21 +67,21 @@ class Call:
 
 @dataclasses.dataclass(frozen=True, slots=True)
 class Trial(Answering):
-    """Tell how a saga ended in a test. Made by `run`.
+    """Hold the result of a saga in a test. Made by `run`.
 
     Attributes:
         phase: How it ended, as of `SagaResult`.
         states: The state of each step.
         results: The results of the committed steps.
-        cost: Of the last plan; None if there was none.
+        cost: The cost of the last plan; None if there was none.
         blocking_steps: If it is stuck, the steps that show why no plan was feasible.
         aborted: Whether it was aborted.
         calls: The calls, in order.
         seconds: How long it would have taken.
         saga: The saga's name.
         key: The saga's key.
-        children: How its children ended, and theirs, and the sagas that undid them, by key.
-        fan: Which steps stand for a declared one.
+        children: The results of its descendants, and of the sagas that undid them, by key.
+        fan: The steps of each declared step.
     """
 
     phase: str
@@ -99,13 +99,13 @@ class Trial(Answering):
 
     @property
     def errors(self) -> dict[str, str]:
-        """What the failed and undo_failed steps raised last, by step."""
-        told = {
+        """The last errors of the failed and undo_failed steps, by step."""
+        errors = {
             call.step: str(call.value) for call in self.calls if call.outcome in (FAILED, PERMANENT)
         }
         return {
             step: text
-            for step, text in told.items()
+            for step, text in errors.items()
             if self.states[step] in ("failed", "undo_failed")
         }
 

@@ -82,7 +82,7 @@ async def one(call: Call) -> Response:
 async def steps_told(call: Call, saga: Saga, at: dict[str, AtStep]) -> dict[str, Any]:
     """What the page has of the steps."""
     declared = declared_steps.of(saga)
-    groups = Groups([one.spot for one in declared])
+    groups = Groups([one.origin for one in declared])
     unfolding = Unfolding(groups, call.query["unfold"], f"/ui/definitions/{saga.name}")
     steps = rows_of(call, saga, declared, at, unfolding)
     picture = functools.partial(drawn, saga, declared, steps)

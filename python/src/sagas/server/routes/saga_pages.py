@@ -67,7 +67,7 @@ def told_of(
     groups, base = Groups.read(view.definition), address_of(view.key)
     unfolding = Unfolding(groups, unfold, base)
     choices = {choice.step: choice for choice in view.plan.choices} if view.plan else {}
-    items = step_items.of(groups.spots, [step.name for step in view.steps], view.shape)
+    items = step_items.of(groups.origins, [step.name for step in view.steps], view.shape)
     table = StepTable(unfolding, view.steps, tolds, choices, items)
     titles = table.titles()
     svg = functools.partial(

@@ -107,7 +107,7 @@ class PostgreSQLWorkerSession:
                 connection = self._function_connection()
                 task.enter(connection)
                 connection.begun = False
-                value = awaitables.whole_now(function(task))
+                value = awaitables.plain_result(function(task))
                 recorded = connection.execute(RECORD, record(connection, value), prepare=False)
                 if not recorded.fetchall():
                     raise Settled(order.token)
@@ -129,7 +129,7 @@ class PostgreSQLWorkerSession:
                 connection = await self._new_connection()
                 task.enter(connection)
                 connection.begun = False
-                value = await awaitables.whole(await function(task))
+                value = await awaitables.awaited(await function(task))
                 recorded = await connection.execute(
                     RECORD, record(connection, value), prepare=False
                 )
