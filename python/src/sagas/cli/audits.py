@@ -56,24 +56,24 @@ class Events:
         counts: dict[tuple[int, int, str], int] = {}
         running: dict[tuple[int, int], Attempt] = {}
         for event in json.loads(f"[{','.join(text.splitlines())}]"):
-            word, id = event["event"], self.first + event["saga"]
-            if word == "open":
+            name, id = event["event"], self.first + event["saga"]
+            if name == "open":
                 self.places[id] = event["def"]
-            elif word in STARTS:
-                key = id, event["step"], "undo" if STARTS[word] else "run"
+            elif name in STARTS:
+                key = id, event["step"], "undo" if STARTS[name] else "run"
                 counts[key] = counts.get(key, 0) + 1
                 running[key[:2]] = *key, counts[key]
-            elif word in EVENT_STATES:
-                self.attempts[running.pop((id, event["step"]))] = word
+            elif name in EVENT_STATES:
+                self.attempts[running.pop((id, event["step"]))] = name
         self.under_way = {*running.values()}
 
-    def ask(self, given: program.Texts) -> None:
+    def ask(self, texts: program.Texts) -> None:
         """Asks the engine how each saga stands behind these events. Raises `Trouble`."""
         if not self.places:
             return
-        log, *definitions = given.paths
-        asked = "".join(f"{protocol.show_line(id - self.first)}\n" for id in self.places)
-        done = ran(["drive", "--lines", "--from", log, *definitions], given, asked)
+        log, *definitions = texts.paths
+        requests = "".join(f"{protocol.show_line(id - self.first)}\n" for id in self.places)
+        done = ran(["drive", "--lines", "--from", log, *definitions], texts, requests)
         replies = [line for line in done.stdout.splitlines() if line.startswith(protocol.REPLY)]
         if done.returncode != GOOD or len(replies) != len(self.places):
             raise Trouble(f"sagas drive: {(done.stderr or done.stdout).strip()}", CANNOT)
@@ -91,16 +91,16 @@ def standing(reply: str) -> Standing:
 
 
 def ran(
-    words: list[str], given: program.Texts, asked: str = ""
+    arguments: list[str], texts: program.Texts, requests: str = ""
 ) -> subprocess.CompletedProcess[str]:
     """Runs the program over texts that it was given."""
     return subprocess.run(
-        [program.path(), *words],
-        input=asked,
+        [program.path(), *arguments],
+        input=requests,
         capture_output=True,
         text=True,
         check=False,
-        pass_fds=given.files,
+        pass_fds=texts.files,
     )
 
 
@@ -123,43 +123,43 @@ def judge(store: Snapshot, log: int) -> Judged:
     """Verifies the events of a shard, and then compares its rows with them. Raises `Trouble`."""
     texts = [text for _, text in store.rows(queries.TEXTS, log, log)]
     lines, _ = queries.joined(store.rows(queries.LINES, log))
-    with contextlib.closing(program.Texts([protocol.HEADER + lines, *texts])) as given:
-        done = ran(["audit", *given.paths], given)
-        found = Judged((done.stdout or done.stderr).strip(), done.returncode == GOOD)
-        if not found.is_allowed:
-            return found
+    with contextlib.closing(program.Texts([protocol.HEADER + lines, *texts])) as opened:
+        done = ran(["audit", *opened.paths], opened)
+        result = Judged((done.stdout or done.stderr).strip(), done.returncode == GOOD)
+        if not result.is_allowed:
+            return result
         events = Events(log, lines)
-        events.ask(given)
+        events.ask(opened)
     rows = store.rows(SAGAS, *queries.bounds(log))
     keys: dict[int, str] = {id: key for id, key, *_ in rows}
-    found.differences += compare_sagas(rows, events)
-    found.differences += [
+    result.differences += compare_sagas(rows, events)
+    result.differences += [
         f"saga {id}: events, and no row" for id in events.places if id not in keys
     ]
-    found.differences += compare_attempts(store, log, events, keys, texts)
-    return found
+    result.differences += compare_attempts(store, log, events, keys, texts)
+    return result
 
 
 def compare_sagas(rows: Sequence[Row], events: Events) -> list[str]:
     """Where the rows of sagas differ from the events: definition, phase and outcome."""
-    found = []
-    for id, key, place, phase, outcome, recovered, undo_failed in rows:
+    differences = []
+    for id, key, index, phase, outcome, recovered, undo_failed in rows:
         if id not in events.places:
-            found.append(f"{key}: a row, and no events")
+            differences.append(f"{key}: a row, and no events")
             continue
-        if place != events.places[id]:
-            found.append(f"{key}: the row has definition {place}, the events {events.places[id]}")
+        if index != events.places[id]:
+            differences.append(f"{key}: the row has definition {index}, the events {events.places[id]}")
         row = phase, parsed(outcome), bool(recovered), bool(undo_failed)
-        told = events.standings[id]
-        if row != told:
+        standing_of_events = events.standings[id]
+        if row != standing_of_events:
             says = f"{key}: the row says {phase_of(row)}"
-            is_other_phase = phase_of(row) != phase_of(told)
-            found.append(
-                f"{says}, the events say {phase_of(told)}"
+            is_other_phase = phase_of(row) != phase_of(standing_of_events)
+            differences.append(
+                f"{says}, the events say {phase_of(standing_of_events)}"
                 if is_other_phase
                 else f"{says} with another outcome than the events"
             )
-    return found
+    return differences
 
 
 def parsed(outcome: str | None) -> Any:
@@ -170,9 +170,9 @@ def parsed(outcome: str | None) -> Any:
         return outcome
 
 
-def phase_of(one: Standing) -> str:
+def phase_of(saga: Standing) -> str:
     """The phase of a saga, in the words of `list`."""
-    phase, _, recovered, _ = one
+    phase, _, recovered, _ = saga
     is_known = phase in (None, EnginePhase.ENDED, EnginePhase.STUCK)
     return saga_phase(phase, recovered, None).value if is_known else repr(phase)
 
@@ -189,70 +189,70 @@ def compare_attempts(
     if rows == events.attempts:
         return []
     names = [step_names(text) for text in texts]
-    found = []
+    differences = []
     for attempt in sorted(rows.keys() | events.attempts.keys(), key=in_order):
-        row, told = rows.get(attempt), events.attempts.get(attempt)
-        if row != told:
+        row, event_of_log = rows.get(attempt), events.attempts.get(attempt)
+        if row != event_of_log:
             id, step, action, count = attempt
             listed = dict(enumerate(names[events.places[id]] if id in events.places else ()))
-            where = f"{keys.get(id, f'saga {id}')}: {listed.get(step, step)}, {action} {count}"
-            found.append(
-                f"{where}: the row says {row or 'nothing'}, the events {told or 'nothing'}"
+            location = f"{keys.get(id, f'saga {id}')}: {listed.get(step, step)}, {action} {count}"
+            differences.append(
+                f"{location}: the row says {row or 'nothing'}, the events {event_of_log or 'nothing'}"
             )
-    return found
+    return differences
 
 
 def in_order(attempt: Attempt) -> tuple[int, list[str]]:
     """For the order of attempts, also of rows that somebody has spoilt."""
-    return attempt[0], [str(word).zfill(4) for word in attempt[1:]]
+    return attempt[0], [str(part).zfill(4) for part in attempt[1:]]
 
 
-def audit(path: str, words: argparse.Namespace) -> int:
+def audit(path: str, options: argparse.Namespace) -> int:
     """Verify every event of every shard, and compare the events with the rows.
 
     The rows must have the same definition, phase and outcome of each saga, and the same end of each
     attempt. Inputs, results and errors are only in the rows.
     """
-    told = []
+    reports = []
     with Snapshot(path) as store:
         logs = store.rows(SHARDS)
         progress = Progress("shards", len(logs))
         for done, (log, name, closed) in enumerate(logs, 1):
-            one = judge(store, log)
-            told.append(
+            result = judge(store, log)
+            reports.append(
                 {
                     "shard": log,
                     "name": name,
                     "closed": bool(closed),
-                    "good": one.is_good,
-                    "audit": one.said,
-                    "differences": one.differences,
+                    "good": result.is_good,
+                    "audit": result.said,
+                    "differences": result.differences,
                 }
             )
             progress.at(done)
-    if words.json:
-        show_json(told)
+    if options.json:
+        show_json(reports)
     else:
-        show(told)
-    return GOOD if all(one["good"] for one in told) else NO
+        show(reports)
+    return GOOD if all(result["good"] for result in reports) else NO
 
 
-def show(told: list[dict[str, Any]]) -> None:
+def show(reports: list[dict[str, Any]]) -> None:
     """Prints what was found, for a person."""
     heads = ["SHARD", "NAME", "CLOSED", "GOOD", "AUDIT"]
     rows = [
         (
-            one["shard"],
-            one["name"],
-            "yes" if one["closed"] else "no",
-            "yes" if one["good"] else "NO",
-            one["audit"],
+            report["shard"],
+            report["name"],
+            "yes" if report["closed"] else "no",
+            "yes" if report["good"] else "NO",
+            report["audit"],
         )
-        for one in told
+        for report in reports
     ]
     print(table(heads, rows))
-    for one in told:
-        for line in one["differences"][:MOST_SHOWN]:
-            print(escaped(f"shard {one['shard']}: {line}"))
-        if (more := len(one["differences"]) - MOST_SHOWN) > 0:
-            print(f"shard {one['shard']}: {number(more, 'more difference')}; --json has all")
+    for report in reports:
+        for line in report["differences"][:MOST_SHOWN]:
+            print(escaped(f"shard {report['shard']}: {line}"))
+        if (more := len(report["differences"]) - MOST_SHOWN) > 0:
+            print(f"shard {report['shard']}: {number(more, 'more difference')}; --json has all")

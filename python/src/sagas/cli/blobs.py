@@ -18,19 +18,19 @@ SECRET = "SELECT value FROM secrets WHERE name = 'leases'"
 
 def words_of_blobs(part: argparse.ArgumentParser) -> argparse.ArgumentParser:
     """Add the option; return the parser."""
-    told = "the values: a directory, or a blob store of a module"
-    part.add_argument("--blobs", metavar="DIR|MODULE:NAME", required=True, help=told)
+    help_text = "the values: a directory, or a blob store of a module"
+    part.add_argument("--blobs", metavar="DIR|MODULE:NAME", required=True, help=help_text)
     return part
 
 
-def own_blobs(path: str, words: argparse.Namespace) -> int:
+def own_blobs(path: str, options: argparse.Namespace) -> int:
     """Make the values in a blob store those of this store.
 
     For a store that was restored or copied, and replaces the other one: stop that one first, or
     give it a blob store of its own. From then on this store deletes values to which it has no row.
     """
     try:
-        store = blobs_of(words.blobs)
+        store = blobs_of(options.blobs)
         check(store, LEAST)
     except (ValueError, TypeError) as error:
         raise Trouble(str(error), 2) from error
@@ -40,8 +40,8 @@ def own_blobs(path: str, words: argparse.Namespace) -> int:
         raise Trouble(f"{name}: no program has opened this store with a blob store", CANNOT)
     blobs = Blobs(store, LEAST, PLAIN, name)
     asyncio.run(blobs.mark(path, bytes.fromhex(rows[0][0])).take())
-    if words.json:
-        show_json({"store": name, "blobs": words.blobs})
+    if options.json:
+        show_json({"store": name, "blobs": options.blobs})
     else:
-        print(f"the values in {words.blobs} are those of {name}")
+        print(f"the values in {options.blobs} are those of {name}")
     return GOOD

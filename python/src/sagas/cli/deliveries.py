@@ -27,32 +27,32 @@ def words_of_deliveries(part: argparse.ArgumentParser) -> None:
     words_of_limit(part, "deliveries, the newest first")
 
 
-def deliveries(path: str, words: argparse.Namespace) -> int:
+def deliveries(path: str, options: argparse.Namespace) -> int:
     """List the deliveries of webhooks, or have one posted again.
 
     A service that has the webhook posts it within seconds, with all its attempts.
     """
-    if (words.change is None) != (words.id is None):
+    if (options.change is None) != (options.id is None):
         raise Trouble("deliveries redeliver: give the id of the delivery", 2)
-    if words.change:
+    if options.change:
         with contextlib.closing(admin.connect(path, "rw")) as link:
-            if not link.ask(REDELIVER.replace(":id", "?"), words.id):
-                raise Trouble(f"no delivery has the id {words.id!r}")
-        told = {"id": words.id, "state": DeliveryState.PENDING.value}
-        show_json(told) if words.json else print(f"{words.id}: {told['state']}")
+            if not link.ask(REDELIVER.replace(":id", "?"), options.id):
+                raise Trouble(f"no delivery has the id {options.id!r}")
+        change = {"id": options.id, "state": DeliveryState.PENDING.value}
+        show_json(change) if options.json else print(f"{options.id}: {change['state']}")
         return GOOD
     with Snapshot(path) as store:
-        found = store.ask(questions.listed(words.state, words.webhook, words.limit or lists.ALL))
-    if words.json:
-        show_json([dataclasses.asdict(one) for one in found])
+        listed = store.ask(questions.listed(options.state, options.webhook, options.limit or lists.ALL))
+    if options.json:
+        show_json([dataclasses.asdict(delivery) for delivery in listed])
         return GOOD
-    rows = [row_of(one) for one in found]
+    rows = [row_of(delivery) for delivery in listed]
     print(table(["ID", "WEBHOOK", "TYPE", "KEY", "AT", "STATE", "ATTEMPTS", "ANSWER"], rows))
     return GOOD
 
 
-def row_of(one: Delivery) -> tuple[object, ...]:
+def row_of(delivery: Delivery) -> tuple[object, ...]:
     """A delivery as a person reads it."""
-    answer = short(one.error) if one.error else one.status or ""
-    at = moment(one.at)
-    return one.id, one.webhook, one.type, one.key, at, one.state, one.attempts, str(answer)
+    answer = short(delivery.error) if delivery.error else delivery.status or ""
+    at = moment(delivery.at)
+    return delivery.id, delivery.webhook, delivery.type, delivery.key, at, delivery.state, delivery.attempts, str(answer)

@@ -60,7 +60,7 @@ def show_json(value: object) -> None:
         text.encode(sys.stdout.encoding or "utf-8")
     except UnicodeEncodeError:
         text = json.dumps(value, indent=1)
-    print(UNPRINTED.sub(lambda found: f"\\u{ord(found[0]):04x}", text))
+    print(UNPRINTED.sub(lambda match: f"\\u{ord(match[0]):04x}", text))
 
 
 def lines(text: str) -> str:
@@ -70,8 +70,8 @@ def lines(text: str) -> str:
 
 def complain(text: str) -> None:
     """Says in one line on standard error what is wrong."""
-    told = " ".join(filter(None, map(str.strip, text.split("\n"))))
-    print(f"sagas store: {escaped(told)}", file=sys.stderr)
+    line = " ".join(filter(None, map(str.strip, text.split("\n"))))
+    print(f"sagas store: {escaped(line)}", file=sys.stderr)
 
 
 def escape() -> None:

@@ -77,14 +77,14 @@ def read(name: str) -> dict[str, Any]:
             for node, run, version, since, lease, logs, open in link.ask(NODES)
         ]
         left = []
-        for log, word, open, texts in link.ask(LEFT):
+        for log, log_name, open, texts in link.ask(LEFT):
             kinds = sorted(
                 {
                     f"{name_of(text)} (version {version_of(text)})"
                     for text in json.loads(texts or "[]")
                 }
             )
-            left.append({"shard": log, "name": word, "sagas": kinds, "open": open})
+            left.append({"shard": log, "name": log_name, "sagas": kinds, "open": open})
         damaged = [dict(zip(("shard", "name", "open", "reason"), row)) for row in link.ask(DAMAGED)]
         return {
             "nodes": nodes,
@@ -120,22 +120,22 @@ def init(name: str, role: str | None) -> str:
         from sagas.storage.postgresql import connections, schema
     except ImportError as error:
         raise factory.missing(error) from error
-    where = connections.named(name)
-    with connections.faults(where):
+    database = connections.named(name)
+    with connections.faults(database):
         link = connections.connect_now(name)
         try:
-            before = schema.migrate(link, where)
+            before = schema.migrate(link, database)
             if role:
                 schema.allow(link, role)
         finally:
             link.close()
     now = schema.VERSION
-    told = (
+    message = (
         f"tables of version {now}"
         if before == now
         else f"tables of version {now}, {before or 'none'} before"
     )
-    return f"{where}: {told}{f'; {role} may use them' if role else ''}"
+    return f"{database}: {message}{f'; {role} may use them' if role else ''}"
 
 
 def words_of_role(part: argparse.ArgumentParser) -> None:

@@ -54,22 +54,22 @@ def read(paths: list[str]) -> Records:
     """The records of programs. A last line that is not whole is left out: its program may be
     writing it. Raises `Trouble`.
     """
-    found = Records()
+    records = Records()
     for path in paths:
         try:
             text = pathlib.Path(path).read_text(encoding="utf-8", errors="replace")
         except OSError as error:
             raise Trouble(f"{path}: {error.strerror}. Name the file of a record", CANNOT) from error
-        for place, line in enumerate(text[: text.rfind("\n") + 1].splitlines(), 1):
+        for number_of_line, line in enumerate(text[: text.rfind("\n") + 1].splitlines(), 1):
             try:
-                found.add(line)
+                records.add(line)
             except BadLine as error:
                 raise Trouble(
-                    f"{path}, line {place}: {error}. Name a file that a program wrote by "
+                    f"{path}, line {number_of_line}: {error}. Name a file that a program wrote by "
                     "SAGAS_RECORD",
                     CANNOT,
                 ) from error
-    return found
+    return records
 
 
 def save(path: pathlib.Path, text: str) -> None:
@@ -100,12 +100,12 @@ class Judge:
         """Each shard of the store, and each one that was recorded."""
         names: dict[int, str] = {shard: name for shard, name in self._store.rows(SHARDS)}
         numbers = sorted({*names, *self._records.shards()})
-        progress, found = Progress("shards", len(numbers)), []
+        progress, checked = Progress("shards", len(numbers)), []
         for done, shard in enumerate(numbers, 1):
             if shard in names or not self._records.is_closed(shard):  # else it was deleted
-                found.append(self._shard(shard, names.get(shard, "")))
+                checked.append(self._shard(shard, names.get(shard, "")))
             progress.at(done)
-        return found
+        return checked
 
     def _shard(self, shard: int, name: str) -> Judged:
         takeovers = [
@@ -131,15 +131,15 @@ class Judge:
         """Return the chunks of a shard, and for each of its sagas the number of events of the shard
         up to the last one of that saga.
         """
-        found, at, events, digest = list[Chunk](), dict[int, int](), 0, 0
+        chunks, at, events, digest = list[Chunk](), dict[int, int](), 0, 0
         for epoch, first, text in self._store.rows(CHUNKS, shard):
             digest = zlib.crc32(text.encode(), digest)
             for line in text.splitlines():
                 events += 1
-                if told := EVENT.search(line):
-                    at[int(told[1])] = events
-            found.append(Chunk(epoch, first, first + text.count("\n"), number(digest)))
-        return found, at
+                if match := EVENT.search(line):
+                    at[int(match[1])] = events
+            chunks.append(Chunk(epoch, first, first + text.count("\n"), number(digest)))
+        return chunks, at
 
 
 def gaps_of(chunks: Sequence[Chunk]) -> list[str]:
@@ -159,58 +159,58 @@ def judged(text: str) -> tuple[bool, str]:
     it gives no answer.
     """
     done = program.run("audit", [text], options=["--fleet"])
-    said = (done.stdout or done.stderr).strip()
+    answer = (done.stdout or done.stderr).strip()
     if done.returncode not in (GOOD, NO):
-        raise Trouble(f"sagas audit --fleet: {said}", CANNOT)
-    return done.returncode == GOOD, said
+        raise Trouble(f"sagas audit --fleet: {answer}", CANNOT)
+    return done.returncode == GOOD, answer
 
 
-def record(path: str, words: argparse.Namespace) -> int:
+def record(path: str, options: argparse.Namespace) -> int:
     """Check what nodes and clients recorded, with the commits and takeovers of the database.
 
     Without files, only commits and takeovers are checked.
     """
     is_database(path)
-    records = read(words.files)  # before the store is read, which has all of it by then
+    records = read(options.files)  # before the store is read, which has all of it by then
     with Snapshot(path) as store:
-        found = Judge(store, records, words.sync, words.save).all()
-    if words.json:
-        show_json([shown(one) for one in found])
+        checked = Judge(store, records, options.sync, options.save).all()
+    if options.json:
+        show_json([shown(shard) for shard in checked])
     else:
         heads = ["SHARD", "NAME", "EVENTS", "GOOD", "AUDIT"]
-        print(table(heads, [cells(one) for one in found]))
-        for line in [line for one in found for line in lost(one)]:
+        print(table(heads, [cells(shard) for shard in checked]))
+        for line in [line for shard in checked for line in lost(shard)]:
             print(escaped(line))
-    return GOOD if all(one.is_whole for one in found) else NO
+    return GOOD if all(shard.is_whole for shard in checked) else NO
 
 
-def cells(one: Judged) -> tuple[object, ...]:
+def cells(shard: Judged) -> tuple[object, ...]:
     """A row of the table."""
-    return one.shard, one.name, one.events, "yes" if one.good else "NO", one.answer
+    return shard.shard, shard.name, shard.events, "yes" if shard.good else "NO", shard.answer
 
 
-def shown(one: Judged) -> dict[str, Any]:
+def shown(shard: Judged) -> dict[str, Any]:
     """A shard for programs."""
-    told: dict[str, Any] = json.loads(json.dumps(dataclasses.asdict(one)))
-    told["losses"] = [
+    fields: dict[str, Any] = json.loads(json.dumps(dataclasses.asdict(shard)))
+    fields["losses"] = [
         {"chunks": loss.had, "told": [telling._asdict() for telling in loss.told]}
-        for loss in one.losses
+        for loss in shard.losses
     ]
-    return told
+    return fields
 
 
-def lost(one: Judged) -> list[str]:
+def lost(shard: Judged) -> list[str]:
     """Return where a shard has gaps, and what of it was acknowledged and does not exist any
     more."""
-    found = [f"shard {one.shard}: gap: {gap}" for gap in one.gaps]
-    for loss in one.losses:
+    lines = [f"shard {shard.shard}: gap: {gap}" for gap in shard.gaps]
+    for loss in shard.losses:
         last = max(telling.chunks for telling in loss.told)
         edges = ", ".join(sorted({telling.edge for telling in loss.told}))
-        found.append(
-            f"shard {one.shard}: lost: a server took over with {loss.had} commits, and what was "
+        lines.append(
+            f"shard {shard.shard}: lost: a server took over with {loss.had} commits, and what was "
             f"acknowledged ({edges}) rests on {last}"
         )
-    if one.ends_lost:
-        ids = ", ".join(map(str, one.ends_lost[:8]))
-        found.append(f"shard {one.shard}: lost: the acknowledged ends of the sagas {ids}")
-    return found
+    if shard.ends_lost:
+        ids = ", ".join(map(str, shard.ends_lost[:8]))
+        lines.append(f"shard {shard.shard}: lost: the acknowledged ends of the sagas {ids}")
+    return lines

@@ -32,16 +32,16 @@ class Snapshot(StoreReader):
     def __exit__(self, *_: object) -> None:
         self.close()
 
-    def rows(self, query: str, *words: Any) -> list[Row]:
+    def rows(self, query: str, *parameters: Any) -> list[Row]:
         """The rows of a query."""
-        return self.link.ask(query, *words)
+        return self.link.ask(query, *parameters)
 
     def saga(self, key: str) -> SagaView:
         """All of a saga. Raises `Trouble` where no saga has the key."""
-        found = self.ask(saga.view(key, self.read))
-        if found is None:
+        view = self.ask(saga.view(key, self.read))
+        if view is None:
             raise self.link.absent(key)
-        return found
+        return view
 
     def close(self) -> None:
         self.link.close()

@@ -81,28 +81,28 @@ def ending(name: str) -> str:
     """An example of a command, and each exit status that it can have."""
     store = "postgresql:///shop" if name in ("init", "nodes", "record") else "shop.db"
     usage = "invalid arguments" + ("" if store == "shop.db" else ", or the store is a file")
-    told = {0: "done", 1: REFUSED.get(name), 2: usage, 4: CANNOT_USE, 130: "interrupted"}
-    lines = [f"  {status:<3}  {what}" for status, what in told.items() if what]
+    statuses = {0: "done", 1: REFUSED.get(name), 2: usage, 4: CANNOT_USE, 130: "interrupted"}
+    lines = [f"  {status:<3}  {meaning}" for status, meaning in statuses.items() if meaning]
     example = f"Example:\n  sagas store {store} {EXAMPLES.get(name, name)}"
     return "\n".join([example, "", "Exit status:", *lines])
 
 
 def parser() -> argparse.ArgumentParser:
     """The words of the command."""
-    told = (
+    description = (
         "Look at the sagas of a store, and change them, also while a program has it "
         "open. Times are in UTC."
     )
-    top = argparse.ArgumentParser(prog="sagas store", description=told)
+    top = argparse.ArgumentParser(prog="sagas store", description=description)
     top.add_argument("path", metavar="STORE", help="the store's file, or the URL of its database")
     parts = top.add_subparsers(dest="command", required=True, metavar="COMMAND")
 
     def add(name: str, command: Command, key: bool = False) -> argparse.ArgumentParser:
-        told = inspect.getdoc(command) or ""
+        description = inspect.getdoc(command) or ""
         part = parts.add_parser(
             name,
-            help=told.partition("\n")[0].rstrip("."),
-            description=told,
+            help=description.partition("\n")[0].rstrip("."),
+            description=description,
             epilog=ending(name),
             formatter_class=argparse.RawDescriptionHelpFormatter,
         )
@@ -212,7 +212,7 @@ def add_asks(add: Add) -> None:
     part.add_argument("--note", required=True, metavar="TEXT", help="what was done about it")
 
 
-def add_steps(part: argparse.ArgumentParser, what: str) -> None:
+def add_steps(part: argparse.ArgumentParser, verb: str) -> None:
     """The step that is meant, or all of a filter, and the options of a report."""
     part.add_argument("key", metavar="KEY", nargs="?", help="the saga's key")
     part.add_argument("step", metavar="STEP", nargs="?", help="the step's name")
@@ -222,7 +222,7 @@ def add_steps(part: argparse.ArgumentParser, what: str) -> None:
     words_of_filter(part, "with --all: ")
     part.add_argument("--step", metavar="NAME", dest="only", help="with --all: only this step")
     part.add_argument(
-        "--yes", action="store_true", help=f"with --all: {what} them (default: only count them)"
+        "--yes", action="store_true", help=f"with --all: {verb} them (default: only count them)"
     )
     part.add_argument("--undo", action="store_true", help="mean the step's compensation")
     add_note(part)
@@ -270,14 +270,14 @@ def add_timeout(part: argparse.ArgumentParser) -> None:
     )
 
 
-def main(words: list[str] | None = None) -> int:
+def main(arguments: list[str] | None = None) -> int:
     """Runs `sagas store` with the words behind it, and gives the status: 0 good, 1 no, 2 usage,
     4 a file, 130 interrupted.
     """
     escape()
-    given = parser().parse_args(words)
+    options = parser().parse_args(arguments)
     try:
-        status = status_of(given)
+        status = status_of(options)
         sys.stdout.flush()  # at exit, nobody would say that it failed
         return status
     except BrokenPipeError:  # as of `| head`, which has what it wants
@@ -285,16 +285,16 @@ def main(words: list[str] | None = None) -> int:
         return CANNOT
     except OSError as error:
         drop_output()
-        what = error.filename or "cannot write the output or a temporary file"
-        complain(f"{what}: {error.strerror or error}")
+        location = error.filename or "cannot write the output or a temporary file"
+        complain(f"{location}: {error.strerror or error}")
         return CANNOT
 
 
-def status_of(given: argparse.Namespace) -> int:
+def status_of(options: argparse.Namespace) -> int:
     """Runs the command, and says why it was refused. Raises `OSError`."""
-    command: Command = given.do
+    command: Command = options.do
     try:
-        return command(given.path, given)
+        return command(options.path, options)
     except Trouble as trouble:
         complain(str(trouble))
         return trouble.status

@@ -17,55 +17,55 @@ BEGUN = ("running", "undoing")
 """The states of a step of which an attempt has begun."""
 
 
-def known(view: SagaView, told: Iterable[ActiveAttempt], now: float) -> SagaView:
+def known(view: SagaView, active: Iterable[ActiveAttempt], now: float) -> SagaView:
     """A saga with what its node says of what has begun. A worker whose lease has run out has
     nothing any more.
     """
-    begun = {(one.step, one.undo): one for one in view.stretches if one.ended is None}
-    found: dict[tuple[str, bool], Waits] = {
-        (one.step, one.undo): one
-        for one in view.held
-        if one.why != "external" or (one.until or 0.0) > now
+    begun = {(entry.step, entry.undo): entry for entry in view.stretches if entry.ended is None}
+    waiting: dict[tuple[str, bool], Waits] = {
+        (entry.step, entry.undo): entry
+        for entry in view.held
+        if entry.why != "external" or (entry.until or 0.0) > now
     }
     gone: dict[tuple[str, bool], Waits] = {
-        (one.step, one.undo): one for one in view.held if (one.step, one.undo) not in found
+        (entry.step, entry.undo): entry for entry in view.held if (entry.step, entry.undo) not in waiting
     }
-    running = {at for at, one in found.items() if one.why == "external"}
-    for one in told:
-        at = one.step, one.undo
+    running = {at for at, entry in waiting.items() if entry.why == "external"}
+    for entry in active:
+        at = entry.step, entry.undo
         stretch = begun.get(at)
-        if stretch is None or stretch.attempt != one.attempt:  # it went on meanwhile
+        if stretch is None or stretch.attempt != entry.attempt:  # it went on meanwhile
             continue
-        if not one.waits:
+        if not entry.waits:
             running.add(at)
-            found.pop(at, None)  # for what it waited before
-        elif at in found and found[at].why == "external" and one.waits in ("external", "worker"):
+            waiting.pop(at, None)  # for what it waited before
+        elif at in waiting and waiting[at].why == "external" and entry.waits in ("external", "worker"):
             pass  # another node gave it out
-        elif one.waits != "external" and (at not in found or found[at].why != one.waits):
-            found[at] = _waits(view, one, stretch.began, gone.pop(at, None))
+        elif entry.waits != "external" and (at not in waiting or waiting[at].why != entry.waits):
+            waiting[at] = _waits(view, entry, stretch.began, gone.pop(at, None))
     for at, lease in gone.items():
-        found[at] = dataclasses.replace(lease, why="worker", until=None, said=_lease_of(lease))
-    held = sorted(found.values(), key=lambda one: float(one.since))
+        waiting[at] = dataclasses.replace(lease, why="worker", until=None, said=_lease_of(lease))
+    held = sorted(waiting.values(), key=lambda entry: float(entry.since))
     return dataclasses.replace(view, held=held, running=frozenset(running))
 
 
-def _waits(view: SagaView, one: ActiveAttempt, since: float, lease: Waits | None) -> Waits:
+def _waits(view: SagaView, attempt: ActiveAttempt, since: float, lease: Waits | None) -> Waits:
     """An attempt that waits, of which the store has no row, or the row of a lease that has run
     out.
     """
-    said, count = (_lease_of(lease), lease.count) if lease else (None, 0)
+    detail, count = (_lease_of(lease), lease.count) if lease else (None, 0)
     return Waits(
         view.id,
         view.key,
         view.saga,
-        one.step,
-        one.undo,
-        one.attempt,
-        one.waits,
+        attempt.step,
+        attempt.undo,
+        attempt.attempt,
+        attempt.waits,
         count,
         since,
-        one.until,
-        said,
+        attempt.until,
+        detail,
     )
 
 

@@ -110,7 +110,7 @@ class Group:
 
 def entries(
     kind: str,
-    of: Filter = NOTHING,
+    sagas: Filter = NOTHING,
     step: str | None = None,
     undo: bool | None = None,
     *,
@@ -118,39 +118,39 @@ def entries(
     newest: bool = False,
     most: int = 100,
 ) -> Question[list[Entry]]:
-    """A page of one of `KINDS`, by the starts of the sagas. `of`: without a phase; `step`: of the
+    """A page of one of `KINDS`, by the starts of the sagas. `sagas`: without a phase; `step`: of the
     steps with this name, or that are declared with it; `undo`: of a `step`, whether its
     compensation is meant; None: both are."""
-    text, place = BY_KIND[kind]
-    wheres, words = _among(of)
+    text, step_column = BY_KIND[kind]
+    conditions, parameters = _among(sagas)
     if after is not None:
         sign, (at, id, _) = "<" if newest else ">", after
-        wheres.append(f"(+s.at, s.id) {sign}= (?, ?) AND (s.id <> ? OR {place} > ?)")
-        words += [at, id, *after[1:]]
+        conditions.append(f"(+s.at, s.id) {sign}= (?, ?) AND (s.id <> ? OR {step_column} > ?)")
+        parameters += [at, id, *after[1:]]
     down = " DESC" if newest else ""  # few are sorted: a + keeps from the index of all
-    order = f"ORDER BY +s.at{down}, s.id{down}{'' if place == '-1' else ', ' + place}"
+    order = f"ORDER BY +s.at{down}, s.id{down}{'' if step_column == '-1' else ', ' + step_column}"
     wanted = most if step is None else MOST_GROUPED
-    query = " AND ".join([text, *wheres]) + f" {order} LIMIT ?"
-    rows = yield Query(query, (*words, wanted))
+    query = " AND ".join([text, *conditions]) + f" {order} LIMIT ?"
+    rows = yield Query(query, (*parameters, wanted))
     names = yield from names_module.of_digests(row[5] for row in rows)
     is_whole = kind == AttentionReason.DAMAGED  # a step has no part in it
-    some = [row for row in rows if is_whole or row[5] in names]
+    listed = [row for row in rows if is_whole or row[5] in names]
     if step is not None:
-        some = [row for row in some if row[2] >= 0 and names.is_of(step, row[5], row[2])]
-    found = [_entry(kind, names, *row) for row in some]
+        listed = [row for row in listed if row[2] >= 0 and names.is_of(step, row[5], row[2])]
+    result = [_entry(kind, names, *row) for row in listed]
     if kind == AttentionReason.UNUSED_REPORT:
-        by = yield from unused_reports.reporters(one.key for one in found)
-        told = ((one, by.get((one.key, one.step or ""))) for one in found)
-        found = [dataclasses.replace(one, by=who) for one, who in told]
+        by = yield from unused_reports.reporters(entry.key for entry in result)
+        reported = ((entry, by.get((entry.key, entry.step or ""))) for entry in result)
+        result = [dataclasses.replace(entry, by=reporter) for entry, reporter in reported]
     if step is None:
-        return found
-    return [one for one in found if undo in (None, one.undo)][:most]
+        return result
+    return [entry for entry in result if undo in (None, entry.undo)][:most]
 
 
-def _among(of: Filter) -> tuple[list[str], list[Any]]:
+def _among(sagas: Filter) -> tuple[list[str], list[Any]]:
     """A condition on the sagas of a filter, and its words. Few sagas need a person."""
-    where, words = of.where(of_few=True)
-    return [where], words
+    condition, parameters = sagas.where(of_few=True)
+    return [condition], parameters
 
 
 def _entry(
@@ -158,7 +158,7 @@ def _entry(
     names: Names,
     started: float,
     id: int,
-    place: int,
+    step_index: int,
     key: str,
     saga: str,
     digest: str,
@@ -173,14 +173,14 @@ def _entry(
         detail = str((json.loads(detail) or {}).get("error", ""))
     if detail is not None and kind == AttentionReason.UNUSED_REPORT:
         detail = unescaped(detail)
-    step = None if place < 0 else steps[place]
+    step = None if step_index < 0 else steps[step_index]
     undo = action == "undo"
-    return Entry(kind, started, id, place, key, saga, step, undo, blocking, detail, *times)
+    return Entry(kind, started, id, step_index, key, saga, step, undo, blocking, detail, *times)
 
 
 def count(
     kind: str,
-    of: Filter = NOTHING,
+    sagas: Filter = NOTHING,
     step: str | None = None,
     undo: bool | None = None,
     *,
@@ -188,18 +188,18 @@ def count(
 ) -> Question[int]:
     """How many there are of a kind; `undo`: as of `entries`; `by_saga`: of how many sagas."""
     if step is not None:
-        return len((yield from entries(kind, of, step, undo, most=MOST_GROUPED)))
-    wheres, words = _among(of)
-    text = " AND ".join([BY_KIND[kind][0], *wheres])
-    what = "DISTINCT c.id" if by_saga else "*"
-    rows = yield Query(f"SELECT count({what}) FROM ({text}) c", (*words,))
+        return len((yield from entries(kind, sagas, step, undo, most=MOST_GROUPED)))
+    conditions, parameters = _among(sagas)
+    text = " AND ".join([BY_KIND[kind][0], *conditions])
+    counted = "DISTINCT c.id" if by_saga else "*"
+    rows = yield Query(f"SELECT count({counted}) FROM ({text}) c", (*parameters,))
     return int(rows[0][0])
 
 
-def groups(some: Iterable[Entry]) -> list[Group]:
+def groups(listed: Iterable[Entry]) -> list[Group]:
     """Entries by definition and cause: in the order of the first of each."""
-    found: dict[tuple[str, str], Group] = {}
-    for one in some:
-        at = one.saga, one.cause
-        found.setdefault(at, Group(*at, [])).entries.append(one)
-    return list(found.values())
+    result: dict[tuple[str, str], Group] = {}
+    for entry in listed:
+        at = entry.saga, entry.cause
+        result.setdefault(at, Group(*at, [])).entries.append(entry)
+    return list(result.values())

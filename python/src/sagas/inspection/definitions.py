@@ -13,7 +13,7 @@ from sagas.inspection.question import Query, Question
 from sagas.storage.filters import Scope
 from sagas.storage.queries import PHASES
 
-MOST, MOST_FAILED = 5000, 2000
+MOST_COSTS, MOST_FAILED = 5000, 2000
 """Sagas that were recovered last: of so many the costs are added, and the failures looked up."""
 DAY = 86400.0
 DAYS = 14
@@ -66,23 +66,23 @@ class AtStep:
 
 def at_steps(name: str, scope: Scope) -> Question[dict[str, AtStep]]:
     """By the names with which the steps were declared."""
-    rows, (where, words) = [], scope.where()
+    rows, (condition, parameters) = [], scope.where()
     for text in (HELD, OFFERED, *WITH_FAILURES):
-        rows += yield Query(text.format(scope=where), (name, *words))
+        rows += yield Query(text.format(scope=condition), (name, *parameters))
     names = yield from names_module.of_digests(digest for digest, *_ in rows)
-    found = dict[str, Counter[str]]()
-    for digest, step, what, count in rows:
+    tallies = dict[str, Counter[str]]()
+    for digest, step, category, count in rows:
         if digest in names:  # else it was let go meanwhile
             named = names.declared(digest)[step]
-            found.setdefault(named, Counter())[what] += count
-    return {step: AtStep(**counts) for step, counts in found.items()}
+            tallies.setdefault(named, Counter())[category] += count
+    return {step: AtStep(**counts) for step, counts in tallies.items()}
 
 
 def costs(name: str, now: float, scope: Scope) -> Question[list[tuple[float, int, int]]]:
     """What recoveries cost lately: of each day its begin, how many ended, and their cost."""
     first = (now // DAY - DAYS + 1) * DAY
-    where, words = scope.where()
-    rows = yield Query(COSTS.format(scope=where), (name, *words, first, MOST))
+    condition, parameters = scope.where()
+    rows = yield Query(COSTS.format(scope=condition), (name, *parameters, first, MOST_COSTS))
     counts, sums = Counter[float](), Counter[float]()
     known: dict[str | None, int] = {}  # most ended in one of a few ways
     for ended, outcome in rows:

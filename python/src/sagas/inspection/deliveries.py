@@ -41,19 +41,19 @@ class Delivery:
 
 def listed(state: str | None, webhook: str | None, most: int) -> Question[list[Delivery]]:
     """The latest, the newest first."""
-    wheres, words = ["1 = 1"], list[object]()
-    for name, word in (("state", state), ("webhook", webhook)):
-        if word is not None:
-            wheres.append(f"{name} = ?")
-            words.append(word)
-    text = f"SELECT {COLUMNS} FROM webhook_deliveries WHERE {' AND '.join(wheres)}"
-    rows = yield Query(f"{text} ORDER BY at DESC, id LIMIT ?", (*words, most))
+    conditions, parameters = ["1 = 1"], list[object]()
+    for name, wanted in (("state", state), ("webhook", webhook)):
+        if wanted is not None:
+            conditions.append(f"{name} = ?")
+            parameters.append(wanted)
+    text = f"SELECT {COLUMNS} FROM webhook_deliveries WHERE {' AND '.join(conditions)}"
+    rows = yield Query(f"{text} ORDER BY at DESC, id LIMIT ?", (*parameters, most))
     return [_of(*row) for row in rows]
 
 
 def _of(*row: Any) -> Delivery:
-    one = Delivery(*row)
-    return dataclasses.replace(one, due=(one.due or one.at) if one.state == "pending" else None)
+    delivery = Delivery(*row)
+    return dataclasses.replace(delivery, due=(delivery.due or delivery.at) if delivery.state == "pending" else None)
 
 
 def one(id: str) -> Question[Delivery | None]:

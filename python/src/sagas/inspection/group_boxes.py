@@ -40,21 +40,21 @@ Link = Callable[[Group], Optional[str]]
 """Where a click on a group leads."""
 
 
-def urgency(told: Told) -> int:
+def urgency(display: Told) -> int:
     """What failed comes first, then what asks a person, then what is under way."""
     return {"failed": 0, "undo_failed": 0, "person": 1, "running": 2, "undoing": 2}.get(
-        told.tone, 3 if told.tone != "waiting" else 4
+        display.tone, 3 if display.tone != "waiting" else 4
     )
 
 
-def counted(tolds: Sequence[Told]) -> Told:
+def counted(displays: Sequence[Told]) -> Told:
     """Return the state of several steps: how many are in each, the urgent ones first."""
-    counts = Counter(told.state for told in tolds)
-    first = {told.state: told for told in reversed(tolds)}
+    counts = Counter(display.state for display in displays)
+    first = {display.state: display for display in reversed(displays)}
     states = sorted(counts, key=lambda state: urgency(first[state]))
     state, *others = [f"{counts[state]:,} {state}" for state in states]
-    told = first[states[0]]
-    return Told(state, ", ".join(others), all(told.left for told in tolds), told.tone, told.icon)
+    display = first[states[0]]
+    return Told(state, ", ".join(others), all(display.left for display in displays), display.tone, display.icon)
 
 
 def blocks_of(groups: Groups, count: int, unfold: Collection[str]) -> list[Block]:
@@ -65,33 +65,33 @@ def blocks_of(groups: Groups, count: int, unfold: Collection[str]) -> list[Block
 
 
 def boxes_of(
-    blocks: list[Block], names: Sequence[str], tolds: Sequence[Told], link: Link | None = None
+    blocks: list[Block], names: Sequence[str], displays: Sequence[Told], link: Link | None = None
 ) -> list[Box]:
     """The boxes of a picture. Of the items of an unfolded group some are drawn, the urgent ones
     first, and the others as one.
     """
-    found, items = list[Box](), dict[str, list[int]]()
+    boxes, items = list[Box](), dict[str, list[int]]()
     for block in blocks:
         group, (first, *_) = block.group, block.steps
         if group is not None:
-            told = counted([tolds[step] for step in group.steps])
+            display = counted([displays[step] for step in group.steps])
             href = link(group) if link else None
-            found.append(Box(group.title, told, block.steps, href, True))
+            boxes.append(Box(group.title, display, block.steps, href, True))
         elif block.item_of is not None:
             items.setdefault(block.item_of, []).append(first)
-            found.append(Box(names[first], tolds[first], block.steps, None, True))
+            boxes.append(Box(names[first], displays[first], block.steps, None, True))
         else:
-            found.append(Box(names[first], tolds[first], block.steps))
-    for name, some in items.items():
-        found = _few(found, name, some, tolds)
-    return found
+            boxes.append(Box(names[first], displays[first], block.steps))
+    for name, steps in items.items():
+        boxes = _few(boxes, name, steps, displays)
+    return boxes
 
 
-def _few(found: list[Box], name: str, items: list[int], tolds: Sequence[Told]) -> list[Box]:
+def _few(boxes: list[Box], name: str, items: list[int], displays: Sequence[Told]) -> list[Box]:
     """The boxes, with those items of a group as one that are many, and not urgent."""
-    rest = sorted(items, key=lambda step: urgency(tolds[step]))[MOST_ITEMS:]
+    rest = sorted(items, key=lambda step: urgency(displays[step]))[MOST_ITEMS:]
     if len(rest) < 2:
-        return found
-    told = counted([tolds[step] for step in sorted(rest)])
-    kept = [box for box in found if box.steps[0] not in set(rest)]
-    return [*kept, Box(f"{name}: {len(rest):,} more", told, sorted(rest), None, True)]
+        return boxes
+    display = counted([displays[step] for step in sorted(rest)])
+    kept = [box for box in boxes if box.steps[0] not in set(rest)]
+    return [*kept, Box(f"{name}: {len(rest):,} more", display, sorted(rest), None, True)]

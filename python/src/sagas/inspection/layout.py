@@ -44,18 +44,18 @@ class Placed:
 
 def layers_of(needs: Sequence[Sequence[int]]) -> list[int]:
     """The layer of each step: one more than the last of those that it needs."""
-    found: dict[int, int] = {}
+    layers: dict[int, int] = {}
     for first in range(len(needs)):
         stack = [first]
         while stack:
             step = stack[-1]
-            open = [need for need in needs[step] if need not in found]
-            if step in found or not open:
-                found.setdefault(step, 1 + max((found[need] for need in needs[step]), default=-1))
+            missing = [need for need in needs[step] if need not in layers]
+            if step in layers or not missing:
+                layers.setdefault(step, 1 + max((layers[need] for need in needs[step]), default=-1))
                 stack.pop()
             else:
-                stack += open
-    return [found[step] for step in range(len(needs))]
+                stack += missing
+    return [layers[step] for step in range(len(needs))]
 
 
 class Layout:
@@ -67,16 +67,16 @@ class Layout:
         self.items = [Item(step, layer) for step, layer in enumerate(self.of)]
         self.chains: dict[tuple[int, int], list[int]] = {}
         passing = sum(
-            self.of[step] - self.of[need] - 1 for step, some in enumerate(needs) for need in some
+            self.of[step] - self.of[need] - 1 for step, needed in enumerate(needs) for need in needed
         )
-        for step, some in enumerate(needs):
-            for place, need in enumerate(some):
-                self._link(step, place, need, passing <= MOST_PASSING)
+        for step, needed in enumerate(needs):
+            for index, need in enumerate(needed):
+                self._link(step, index, need, passing <= MOST_PASSING)
         self.layers: list[list[int]] = [[] for _ in range(max(self.of) + 1)]
         for number, item in enumerate(self.items):
             self.layers[item.layer].append(number)
 
-    def _link(self, step: int, place: int, need: int, passes: bool) -> None:
+    def _link(self, step: int, index: int, need: int, passes: bool) -> None:
         chain = [need]
         if passes:
             for layer in range(self.of[need] + 1, self.of[step]):
@@ -86,7 +86,7 @@ class Layout:
         for left, right in zip(chain, chain[1:]):
             self.items[left].right.append(right)
             self.items[right].left.append(left)
-        self.chains[step, place] = chain
+        self.chains[step, index] = chain
 
     def _order(self) -> None:
         """Each item near the middle of its neighbours, from left to right and back."""
@@ -106,13 +106,13 @@ class Layout:
                 self._number(layer)
 
     def _number(self, layer: list[int]) -> None:
-        for place, number in enumerate(layer):
-            self.items[number].place = (place + 0.5) / len(layer)
+        for position, number in enumerate(layer):
+            self.items[number].place = (position + 0.5) / len(layer)
 
-    def _middle(self, neighbours: list[int], default: float) -> float:
+    def _middle(self, neighbors: list[int], default: float) -> float:
         return (
-            sum(self.items[number].place for number in neighbours) / len(neighbours)
-            if neighbours
+            sum(self.items[number].place for number in neighbors) / len(neighbors)
+            if neighbors
             else default
         )
 
@@ -126,9 +126,9 @@ class Layout:
                 wanted = []
                 for number in layer:
                     item = self.items[number]
-                    some = item.left if forward else item.right
+                    neighbors = item.left if forward else item.right
                     wanted.append(
-                        sum(self.items[one].y for one in some) / len(some) if some else item.y
+                        sum(self.items[neighbor].y for neighbor in neighbors) / len(neighbors) if neighbors else item.y
                     )
                 self._put(layer, wanted)
 

@@ -96,21 +96,21 @@ def summary_of(row: Row) -> Summary:
     """A line of a list, by the columns of `SUMMARY`."""
     id, key, saga, phase, at, ended, note, recovered, undo_failed, deadline, labels = row
     phase = states.saga_phase(phase, bool(recovered), note).value
-    told = labels_of(labels)
-    return Summary(id, key, saga, phase, at, ended, note, bool(undo_failed), told, deadline)
+    label_values = labels_of(labels)
+    return Summary(id, key, saga, phase, at, ended, note, bool(undo_failed), label_values, deadline)
 
 
 def counts(scope: Scope = EVERYTHING) -> Question[Counts]:
     """How many sagas there are, by name and phase."""
-    found: Counts = {}
-    where, words = scope.where()
-    rows = yield Query(COUNTS.format(where), (*words, *words, *words, *words))
+    result: Counts = {}
+    condition, parameters = scope.where()
+    rows = yield Query(COUNTS.format(condition), (*parameters, *parameters, *parameters, *parameters))
     for saga, phase, count in sorted(rows, key=lambda row: str(row[1]) != "completed"):
-        of = found.setdefault(saga, dict.fromkeys(COUNTED, 0))
-        of[phase] += count
+        phases = result.setdefault(saga, dict.fromkeys(COUNTED, 0))
+        phases[phase] += count
         if phase != "completed":  # so far these are all
-            of["completed"] -= count
-    return dict(sorted(found.items()))
+            phases["completed"] -= count
+    return dict(sorted(result.items()))
 
 
 HEADS = "SELECT definition, substr(text, 1, 40) FROM definitions"
@@ -126,12 +126,12 @@ WHERE {PHASES["open"]}
 
 def open_by_token() -> Question[OpenByToken]:
     """How many open sagas each token started by a service, and the bytes of their inputs."""
-    found: OpenByToken = {}
+    result: OpenByToken = {}
     for (text,) in (yield Query(OPEN_BY_TOKEN, is_long=True)):
         size, _, name = text.partition(" ")
-        count, total = found.get(name, (0, 0))
-        found[name] = count + 1, total + int(size)
-    return found
+        count, total = result.get(name, (0, 0))
+        result[name] = count + 1, total + int(size)
+    return result
 
 
 def definitions() -> Question[list[DefinitionCount]]:
@@ -145,13 +145,13 @@ def definitions() -> Question[list[DefinitionCount]]:
     )
     heads: dict[str, str] = {digest: head for digest, head in (yield Query(HEADS, is_long=True))}
     undoable = {row[:2]: row[2] for row in (yield Query(UNDOABLE, is_long=True))}
-    found = dict[tuple[str, int], tuple[int, int, int]]()
+    result = dict[tuple[str, int], tuple[int, int, int]]()
     for digest, saga, total, open in rows:
         if digest in heads:  # else it was let go meanwhile
             name = saga, version_of(heads[digest])
-            before, held = found.get(name, (0, 0, 0)), undoable.get((digest, saga), 0)
-            found[name] = open + before[0], total + before[1], held + before[2]
-    return [DefinitionCount(*name, *counts) for name, counts in sorted(found.items())]
+            before, held = result.get(name, (0, 0, 0)), undoable.get((digest, saga), 0)
+            result[name] = open + before[0], total + before[1], held + before[2]
+    return [DefinitionCount(*name, *counts) for name, counts in sorted(result.items())]
 
 
 def schedules() -> Question[list[Schedule]]:
@@ -162,27 +162,27 @@ def schedules() -> Question[list[Schedule]]:
 
 def count(filter: Filter) -> Question[int]:
     """How many sagas there are of a filter."""
-    where, words = filter.where()
-    rows = yield Query(f"SELECT count(*) FROM sagas s WHERE {where}", (*words,))
+    condition, parameters = filter.where()
+    rows = yield Query(f"SELECT count(*) FROM sagas s WHERE {condition}", (*parameters,))
     return int(rows[0][0])
 
 
-def to_abort(of: Filter, most: int) -> Question[tuple[int, list[str]]]:
+def to_abort(sagas: Filter, most: int) -> Question[tuple[int, list[str]]]:
     """How many sagas of a filter nobody has asked to abort, and the keys of the oldest of them.
     Those that undo children are left out.
     """
-    where, words = of.where()
-    some = f"FROM sagas s WHERE {where} AND {UNASKED} AND NOT {UNDOES_CHILD}"
-    rows = yield Query(f"SELECT count(*) {some}", (*words, UNDOING_KEYS))
-    keys = yield Query(f"SELECT s.key {some} {OLDEST} LIMIT ?", (*words, UNDOING_KEYS, most))
+    condition, parameters = sagas.where()
+    source = f"FROM sagas s WHERE {condition} AND {UNASKED} AND NOT {UNDOES_CHILD}"
+    rows = yield Query(f"SELECT count(*) {source}", (*parameters, UNDOING_KEYS))
+    keys = yield Query(f"SELECT s.key {source} {OLDEST} LIMIT ?", (*parameters, UNDOING_KEYS, most))
     return int(rows[0][0]), [str(key) for key, in keys]
 
 
-def undoing(of: Filter) -> Question[int]:
+def undoing(sagas: Filter) -> Question[int]:
     """How many sagas of a filter undo children."""
-    where, words = of.where()
-    query = f"SELECT count(*) FROM sagas s WHERE {where} AND {UNDOES_CHILD}"
-    rows = yield Query(query, (*words, UNDOING_KEYS))
+    condition, parameters = sagas.where()
+    query = f"SELECT count(*) FROM sagas s WHERE {condition} AND {UNDOES_CHILD}"
+    rows = yield Query(query, (*parameters, UNDOING_KEYS))
     return int(rows[0][0])
 
 
@@ -190,20 +190,20 @@ def asked(scope: Scope = EVERYTHING) -> Question[dict[str, int]]:
     """How many things wait for a person: stuck sagas, sagas of which a compensation failed
     permanently, reports that were not used, approvals, attempts that are exhausted, whose outcome
     is unknown, or whose stored values cannot be read, and open sagas whose shard is damaged."""
-    (where, words), within = scope.where(), ""
+    (condition, parameters), within = scope.where(), ""
     if scope != EVERYTHING:
-        within = f" AND id IN (SELECT id FROM sagas s WHERE {where})"
+        within = f" AND id IN (SELECT id FROM sagas s WHERE {condition})"
     query = f"SELECT reason, count(*) FROM suspensions WHERE {PERSON}{within} GROUP BY reason"
-    rows = yield Query(query, (*words,))
+    rows = yield Query(query, (*parameters,))
     held = {reason: count for reason, count in rows}
     asks = ("unknown", "exhausted", "cannot_decode", "approval")
-    told = {word: held.get(word, 0) for word in asks}
+    held_counts = {reason: held.get(reason, 0) for reason in asks}
     stuck = yield from count(Filter("stuck", scope=scope))
     undo_failed = yield from count(Filter("undo_failed", scope=scope))
-    damaged = yield Query(f"SELECT count(*) {DAMAGED} AND {where}", (*words,))
+    damaged = yield Query(f"SELECT count(*) {DAMAGED} AND {condition}", (*parameters,))
     unused = yield from unused_reports.count(scope)
     ends = {"stuck": stuck, "undo_failed": undo_failed, "unused_report": unused}
-    return {**ends, **told, "damaged": int(damaged[0][0])}
+    return {**ends, **held_counts, "damaged": int(damaged[0][0])}
 
 
 def waits(
@@ -222,38 +222,38 @@ def waits(
     `offered_before`: of all sagas also the tasks that were offered to workers before then, and
     that none has claimed (`worker`); `step`: of the steps with this name, or that are declared
     with it."""
-    seen, words = scope.where()
-    wheres = [WAITS, seen]
+    visible, parameters = scope.where()
+    conditions = [WAITS, visible]
     if within is not None:
         condition, more = within.where()
-        wheres.append(condition)
-        words += more
+        conditions.append(condition)
+        parameters += more
     if person:
-        wheres.append(PERSON)
+        conditions.append(PERSON)
     if why is not None:
-        wheres.append("reason = ?")
-        words.append(why)
+        conditions.append("reason = ?")
+        parameters.append(why)
     held, keys = "suspensions", list[Any]()
     if key is not None and person:
-        wheres.append(f"h.id = h.id{OF_KEY.format('h')}")
-        words.append(key)
+        conditions.append(f"h.id = h.id{OF_KEY.format('h')}")
+        parameters.append(key)
     elif not person:
-        of = {part: OF_KEY.format(part) if key is not None else "" for part in ("u", "e")}
+        of_key = {part: OF_KEY.format(part) if key is not None else "" for part in ("u", "e")}
         unclaimed = "" if offered_before is None else UNCLAIMED
-        held, keys = SUSPENDED.format(**of, unclaimed=unclaimed), [key, key] if key else []
+        held, keys = SUSPENDED.format(**of_key, unclaimed=unclaimed), [key, key] if key else []
         keys += [offered_before] if unclaimed else []
     rows = yield Query(
         f"""
         SELECT s.key, s.saga, d.definition, {HELD}
         FROM {held} h JOIN sagas s ON s.id = h.id {OF_SHARD}
-        WHERE {' AND '.join(wheres)} ORDER BY h.since LIMIT ?
+        WHERE {' AND '.join(conditions)} ORDER BY h.since LIMIT ?
         """,
-        (*keys, *words, most if step is None else ALL),  # the rows have no names of steps
+        (*keys, *parameters, most if step is None else ALL),  # the rows have no names of steps
     )
     names = yield from names_module.of_digests(row[2] for row in rows)
-    found = (row for row in rows if row[2] in names)
+    known = (row for row in rows if row[2] in names)
     return [
-        _waits(names, *row) for row in found if step is None or names.is_of(step, row[2], row[4])
+        _waits(names, *row) for row in known if step is None or names.is_of(step, row[2], row[4])
     ][:most]
 
 
@@ -274,19 +274,19 @@ def _waits(
     name = names.of(digest)[step]
     if why in FAILED_BEFORE:  # its row counts on from the engine's last attempt, or from a retry
         count += number - 1
-    told = why, max(0, count), since, until, detail
-    return Waits(id, key, saga, name, action == "undo", number, *told)
+    rest = why, max(0, count), since, until, detail
+    return Waits(id, key, saga, name, action == "undo", number, *rest)
 
 
 def stuck(most: int = MOST, scope: Scope = EVERYTHING) -> Question[list[tuple[Summary, list[str]]]]:
     """The stuck sagas that nobody has resolved, with the chain of each, the oldest first."""
-    where, words = scope.where()
+    condition, parameters = scope.where()
     rows = yield Query(
         f"""
         SELECT {SUMMARY}, d.definition, s.outcome FROM sagas s {OF_SHARD}
-        WHERE {PHASES["stuck"]} AND {where} {OLDEST} LIMIT ?
+        WHERE {PHASES["stuck"]} AND {condition} {OLDEST} LIMIT ?
         """,
-        (*words, most),
+        (*parameters, most),
     )
     names = yield from names_module.of_digests(row[-2] for row in rows)
     return [
@@ -312,13 +312,13 @@ def stuck_results(kind_of: Callable[[str], Kind], most: int) -> Question[list[Sa
         (most,),
     )
     names = yield from names_module.of_digests(row[-1] for row in rows)
-    found = []
+    results = []
     for *columns, digest in rows:
         row = SagaRow(*columns)
         attempts = yield Query(RESULTS, (row.id,))
         if digest in names:
-            found.append(end_of(kind_of(names.text(digest)), row, attempts))
-    return found
+            results.append(end_of(kind_of(names.text(digest)), row, attempts))
+    return results
 
 
 def unknown(most: int) -> Question[list[UnknownAttempt]]:
@@ -333,15 +333,15 @@ def unknown(most: int) -> Question[list[UnknownAttempt]]:
         (most,),
     )
     names = yield from names_module.of_digests(row[2] for row in rows)
-    found = []
-    for key_of, saga, digest, log, id, step, action, number, _, *told in rows:
+    result = []
+    for key_of, saga, digest, log, id, step, action, number, _, *rest in rows:
         if digest not in names:
             continue
         name = names.of(digest)[step]
         key = tokens.idempotency_key(tokens.saga_token(log, id % SHARD_CAPACITY), name, action)
         token = tokens.attempt_id(key, number)
-        found.append(UnknownAttempt(key_of, saga, name, action == "undo", number, token, *told))
-    return found
+        result.append(UnknownAttempt(key_of, saga, name, action == "undo", number, token, *rest))
+    return result
 
 
 IN_DAMAGED = f"""
@@ -382,21 +382,21 @@ def attention(
     rows = rows + (yield Query(IN_DAMAGED, (most,)))
     unused = yield Query(unused_reports.ROWS, (most,))
     reporters = yield from unused_reports.reporters(row[0] for row in unused)
-    found = yield from _entries(rows + unused, most, errors)
-    return [_reported(one, reporters, decode) for one in found]
+    entries = yield from _entries(rows + unused, most, errors)
+    return [_reported(entry, reporters, decode) for entry in entries]
 
 
 def _reported(
-    one: Attention, reporters: unused_reports.Reporters, decode: Callable[[str], str]
+    entry: Attention, reporters: unused_reports.Reporters, decode: Callable[[str], str]
 ) -> Attention:
     """Of a report that was not used who reported what."""
-    if one.why is not AttentionReason.UNUSED_REPORT or one.step is None:
-        return one
+    if entry.why is not AttentionReason.UNUSED_REPORT or entry.step is None:
+        return entry
     try:
-        detail = decode(one.detail or "null")
+        detail = decode(entry.detail or "null")
     except CannotDecode:
         detail = None
-    return dataclasses.replace(one, detail=detail, by=reporters.get((one.key, one.step)))
+    return dataclasses.replace(entry, detail=detail, by=reporters.get((entry.key, entry.step)))
 
 
 def undone(most: int = MOST, scope: Scope = EVERYTHING) -> Question[list[Attention]]:
@@ -408,16 +408,16 @@ def undone(most: int = MOST, scope: Scope = EVERYTHING) -> Question[list[Attenti
 
 def undone_query(most: int, scope: Scope = EVERYTHING) -> Query:
     """Asks for compensations that failed permanently."""
-    where, words = scope.where()
+    condition, parameters = scope.where()
     return Query(
         f"""
         SELECT s.key, s.saga, d.definition,
           'undo_failed', r.step, 'undo', r.value, r.at
         FROM sagas s CROSS JOIN attempts r {OF_SHARD}
         WHERE r.id = s.id AND r.event = 'undo_fail' AND {PHASES["undo_failed"]}
-          AND {where} ORDER BY r.at, s.id, r.step LIMIT ?
+          AND {condition} ORDER BY r.at, s.id, r.step LIMIT ?
         """,
-        (*words, most),
+        (*parameters, most),
     )
 
 
@@ -427,20 +427,20 @@ def _entries(
     """`errors`: by the key of a stuck saga and a step, what that raised last, and whether its
     compensation did."""
     names = yield from names_module.of_digests(row[2] for row in rows)
-    found = []
-    for key, saga, digest, word, step, action, told, since in rows:
-        why = AttentionReason(word)
+    entries = []
+    for key, saga, digest, reason, step, action, text, since in rows:
+        why = AttentionReason(reason)
         if digest not in names and why is not AttentionReason.DAMAGED:
             continue
         steps = names.of(digest) if digest in names else []
-        name, detail, undo = None if step is None else steps[step], told, action == "undo"
+        name, detail, undo = None if step is None else steps[step], text, action == "undo"
         if why is AttentionReason.STUCK:
-            chain = chain_of(steps, told)
+            chain = chain_of(steps, text)
             name = chain[-1] if chain else None
             undo, error = errors.get((key, steps.index(name)), (False, "")) if name else (False, "")
             because = f"because of {' and '.join(chain)}" if chain else ""
             detail = ": ".join(filter(None, [because, error])) or None
-        elif why is AttentionReason.UNDO_FAILED and told is not None:
-            detail = str(json.loads(told).get("error", ""))
-        found.append(Attention(key, saga, why, name, undo, detail, since))
-    return sorted(found, key=lambda one: one.since)[:most]
+        elif why is AttentionReason.UNDO_FAILED and text is not None:
+            detail = str(json.loads(text).get("error", ""))
+        entries.append(Attention(key, saga, why, name, undo, detail, since))
+    return sorted(entries, key=lambda entry: entry.since)[:most]

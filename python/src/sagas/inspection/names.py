@@ -36,9 +36,9 @@ class Names:
             self._names[digest] = step_names(self.text(digest))
         return self._names[digest]
 
-    def is_of(self, step: str, digest: str, place: int) -> bool:
+    def is_of(self, step: str, digest: str, index: int) -> bool:
         """Whether the step at a place of a definition has a name, or is declared with it."""
-        return step in (self.of(digest)[place], self.declared(digest)[place])
+        return step in (self.of(digest)[index], self.declared(digest)[index])
 
     def declared(self, digest: str) -> list[str]:
         """The names with which a definition's steps were declared: `hotel/room`."""
@@ -55,11 +55,11 @@ def step_names(definition: str) -> list[str]:
 
 def of_digests(digests: Iterable[str]) -> Question[Names]:
     """The definitions with these digests."""
-    some, found = sorted(set(digests)), dict[str, str]()
-    for place in range(0, len(some), MANY):
-        lot = some[place : place + MANY]
-        marks = ", ".join("?" * len(lot))
+    wanted, texts = sorted(set(digests)), dict[str, str]()
+    for start in range(0, len(wanted), MANY):
+        batch = wanted[start : start + MANY]
+        marks = ", ".join("?" * len(batch))
         text = f"SELECT definition, text FROM definitions WHERE definition IN ({marks})"
-        rows = yield Query(text, (*lot,))
-        found |= dict(rows)  # type: ignore[arg-type]
-    return Names(found)
+        rows = yield Query(text, (*batch,))
+        texts |= dict(rows)  # type: ignore[arg-type]
+    return Names(texts)

@@ -62,9 +62,9 @@ def position(after: Summary | int | None) -> Question[Position]:
     return rows[0][0], id
 
 
-def position_of(one: Summary) -> tuple[float, int]:
+def position_of(summary: Summary) -> tuple[float, int]:
     """The place of a saga."""
-    return one.started, one.id
+    return summary.started, summary.id
 
 
 def page(
@@ -95,9 +95,9 @@ def page(
     are_many = yield from _are_many(of)
     if most is not None and are_many:
         near, is_all = yield from _near(bounds, is_newest, min(NEAR * most, MOST_NEAR))
-        found = yield from _rows(of, near, is_newest, most, "s.at")
-        if len(found) == most or is_all:
-            return found
+        result = yield from _rows(of, near, is_newest, most, "s.at")
+        if len(result) == most or is_all:
+            return result
     is_indexed = not are_many or bool(of.search) or bool(of.labels) or of.phase in FEW_PHASES
     of_few = bool(of.labels) and not are_many
     form = {"of_few": of_few, "each_label": are_many and bool(of.search)}
@@ -110,8 +110,8 @@ def _bounds(of: Filter, after: Position, before: Position) -> Bounds:
     since, until = (
         (at, -1) if at is not None else None for at in (of.started_after, of.started_before)
     )
-    lower = [place for place in (after, since) if place is not None]
-    upper = [place for place in (before, until) if place is not None]
+    lower = [position for position in (after, since) if position is not None]
+    upper = [position for position in (before, until) if position is not None]
     return max(lower, default=None), min(upper, default=None)
 
 
@@ -122,8 +122,8 @@ def _are_many(of: Filter) -> Question[bool]:
     probes: list[tuple[str, tuple[str, ...]]] = [(LABELED, label) for label in of.labels.items()]
     if of.phase in INDEXED:
         probes.append((INDEXED[of.phase], ()))
-    for text, words in probes:
-        rows = yield Query(f"SELECT count(*) FROM ({text} LIMIT ?) found", (*words, FEW))
+    for text, parameters in probes:
+        rows = yield Query(f"SELECT count(*) FROM ({text} LIMIT ?) found", (*parameters, FEW))
         if rows[0][0] < FEW:
             return False
     return True
@@ -131,11 +131,11 @@ def _are_many(of: Filter) -> Question[bool]:
 
 def _near(bounds: Bounds, newest: bool, most: int) -> Question[tuple[Bounds, bool]]:
     """The places between which the first so many are, of any filter, and whether that is all."""
-    conditions, words = _within(bounds, "s.at")
+    conditions, parameters = _within(bounds, "s.at")
     rows = yield Query(
         f"SELECT s.at, s.id FROM sagas s WHERE {' AND '.join(conditions)} "
         f"ORDER BY {_order('s.at', newest)} LIMIT 1 OFFSET ?",
-        (*words, most),
+        (*parameters, most),
     )
     if not rows:
         return bounds, True
@@ -146,9 +146,9 @@ def _near(bounds: Bounds, newest: bool, most: int) -> Question[tuple[Bounds, boo
 def _within(bounds: Bounds, at: str) -> tuple[list[str], list[Any]]:
     """A condition on the places of sagas, and its words. `at`: with a + where the index of the
     starts is not to be used, as it leads to more sagas than another."""
-    given = [(sign, place) for sign, place in zip("><", bounds) if place is not None]
-    conditions = [f"({at}, s.id) {sign} (?, ?)" for sign, _ in given]
-    return ["1 = 1", *conditions], [word for _, place in given for word in place]
+    limits = [(sign, position) for sign, position in zip("><", bounds) if position is not None]
+    conditions = [f"({at}, s.id) {sign} (?, ?)" for sign, _ in limits]
+    return ["1 = 1", *conditions], [value for _, position in limits for value in position]
 
 
 def _order(at: str, newest: bool) -> str:
@@ -160,15 +160,15 @@ def _rows(
 ) -> Question[list[Summary]]:
     """`at`: `s.at` where the index of the starts leads to them; the others as of `_within`. `form`:
     as of `Filter.where`."""
-    conditions, words = _within(bounds, at)
+    conditions, parameters = _within(bounds, at)
     rest = dataclasses.replace(of, started_after=None, started_before=None)
-    where, more = rest.where(in_order=at == "s.at", **form)
-    condition, words = " AND ".join([*conditions, where]), [*words, *more]
+    condition_of_filter, more = rest.where(in_order=at == "s.at", **form)
+    condition, parameters = " AND ".join([*conditions, condition_of_filter]), [*parameters, *more]
     if most is None:
         query = f"SELECT {SUMMARY} FROM sagas s WHERE {condition}"
     else:  # of others no labels are put together
-        lot = f"SELECT s.id FROM sagas s WHERE {condition} ORDER BY {_order(at, newest)} LIMIT ?"
-        query = f"SELECT {SUMMARY} FROM ({lot}) lot CROSS JOIN sagas s WHERE s.id = lot.id"
-        words.append(most)
-    found = map(summary_of, (yield Query(query, (*words,))))
-    return sorted(found, key=position_of, reverse=newest)
+        page_of_ids = f"SELECT s.id FROM sagas s WHERE {condition} ORDER BY {_order(at, newest)} LIMIT ?"
+        query = f"SELECT {SUMMARY} FROM ({page_of_ids}) lot CROSS JOIN sagas s WHERE s.id = lot.id"
+        parameters.append(most)
+    summaries = map(summary_of, (yield Query(query, (*parameters,))))
+    return sorted(summaries, key=position_of, reverse=newest)

@@ -91,11 +91,11 @@ class _Kept:
     """What the store has of a saga, read: its definition, attempts and events."""
 
     def __init__(self, row: SagaRow, rows: list[tuple[Any, ...]], read: Read) -> None:
-        known = queries.known(rows, row.key)
-        self.row, self.definition, self.shape = row, known.definition, known.shape
-        self.names = step_names(known.definition)
-        self.lines = lines_of(known.chunks, row.id % SHARD_CAPACITY)
-        self.attempts = attempts_of(self.names, known.results, read)
+        stored = queries.known(rows, row.key)
+        self.row, self.definition, self.shape = row, stored.definition, stored.shape
+        self.names = step_names(stored.definition)
+        self.lines = lines_of(stored.chunks, row.id % SHARD_CAPACITY)
+        self.attempts = attempts_of(self.names, stored.results, read)
         self.history = Projection(self.names, self.lines)
 
     @property
@@ -111,8 +111,8 @@ class _Kept:
 
 def _kept(row: SagaRow, read: Read = json.loads) -> Question[_Kept]:
     """Raises `NoSuchSaga` where it was let go since its row was read."""
-    text, *words = queries.known_words(row.id, history=True)
-    return _Kept(row, (yield Query(text, (*words,), is_long=True)), read)
+    text, *parameters = queries.known_words(row.id, history=True)
+    return _Kept(row, (yield Query(text, (*parameters,), is_long=True)), read)
 
 
 def plan(row: SagaRow) -> Question[Plan | None]:
@@ -129,17 +129,17 @@ def notes(key: str, read: Read = json.loads) -> Question[list[Note]]:
     """What people did to a saga, in the order of time. `read`: as of `view`."""
     rows = yield Query(NOTES, (key,))
     return [
-        Note(key, what, at, _told(value, read), answer and json.loads(answer))
-        for key, what, at, value, answer in rows
+        Note(key, command, at, _told(value, read), answer and json.loads(answer))
+        for key, command, at, value, answer in rows
     ]
 
 
 def _told(value: str | None, read: Read) -> dict[str, Any]:
     """What is kept of a command, with the result that it reports."""
-    told: dict[str, Any] = json.loads(value or "null") or {}
-    if "result" in told:
-        told["result"] = read(json.dumps(told["result"], separators=(",", ":")))
-    return told
+    details: dict[str, Any] = json.loads(value or "null") or {}
+    if "result" in details:
+        details["result"] = read(json.dumps(details["result"], separators=(",", ":")))
+    return details
 
 
 def view(key: str, read: Read = json.loads) -> Question[SagaView | None]:
@@ -150,13 +150,13 @@ def view(key: str, read: Read = json.loads) -> Question[SagaView | None]:
         row = SagaRow(*columns)
         try:
             labels = queries.labels_of(labels)
-            found = yield from _view(
+            result = yield from _view(
                 row, bool(recovered), bool(undo_failed), labels, deadline, read
             )
         except NoSuchSaga:  # it was let go: another may have the key
             continue
         if (yield Query("SELECT 1 FROM sagas WHERE id = ?", (row.id,))):  # so all is of it
-            return found
+            return result
     return None
 
 
@@ -177,9 +177,9 @@ def _view(
     progress = {row[:3]: Progress(*row[3:]) for row in (yield Query(PROGRESS, (row.id,)))}
     spans = yield Query(SPANS, (row.id,))
     elsewhere = yield Query(ELSEWHERE, (row.id,))
-    found = yield Query(EARLY, (row.id,))
-    early = {step: SAID[EarlyReason(why)] for step, why in found if row.phase is None}
-    left = sorted(step for step, why in found if row.phase and why == EarlyReason.RESULT)
+    early_rows = yield Query(EARLY, (row.id,))
+    early = {step: SAID[EarlyReason(why)] for step, why in early_rows if row.phase is None}
+    left = sorted(step for step, why in early_rows if row.phase and why == EarlyReason.RESULT)
     states = zip(kept.names, history.states)
     parent, children = yield from families.of(row.id, row.key)
     return SagaView(
@@ -227,27 +227,27 @@ def steps_of(
     """The steps of a saga as they stand. `progress`: by step, action and attempt; `early`: what was
     reported of steps before they have begun.
     """
-    now = {(one.step, one.undo): one.attempt for one in history.stretches() if one.ended is None}
+    now = {(entry.step, entry.undo): entry.attempt for entry in history.stretches() if entry.ended is None}
     last, done, errors = last_values(attempts), results_of(attempts), errors_of(attempts)
     skipped = Counter(
-        one.step for one in attempts if not one.undo and not was_called(one.outcome, one.value)
+        entry.step for entry in attempts if not entry.undo and not was_called(entry.outcome, entry.value)
     )
-    found = []
-    for place, step in enumerate(listed_steps.of(definition)):
-        name, state = step.name, history.states[place].value
-        found.append(
+    steps = []
+    for index, step in enumerate(listed_steps.of(definition)):
+        name, state = step.name, history.states[index].value
+        steps.append(
             StepView(
                 name,
                 list(step.needs),
                 state,
-                history.attempts[place] - skipped[name],
+                history.attempts[index] - skipped[name],
                 (done if state in STANDS else last).get(name),
-                history.began.get(place),
-                history.ended.get(place),
+                history.began.get(index),
+                history.ended.get(index),
                 errors.get(name) if state in FAILED else None,
-                progress.get((place, "run", now.get((name, False), 0)))
-                or progress.get((place, "undo", now.get((name, True), 0))),
-                early.get(place) if state == StepState.WAITING else None,
+                progress.get((index, "run", now.get((name, False), 0)))
+                or progress.get((index, "undo", now.get((name, True), 0))),
+                early.get(index) if state == StepState.WAITING else None,
             )
         )
-    return found
+    return steps

@@ -13,8 +13,8 @@ def of(spots: Sequence[Spot], names: Sequence[str], shape: str | None) -> dict[s
     dict. `shape`: as it is stored. If it is encoded, the keys are not known.
     """
     values = ShapeValues() if shape is None else ShapeValues.read(shape)
-    told = ((name, [*_parts(spot, values)]) for name, spot in zip(names, spots))
-    return {name: "; ".join(parts) for name, parts in told if parts}
+    described = ((name, [*_parts(spot, values)]) for name, spot in zip(names, spots))
+    return {name: "; ".join(parts) for name, parts in described if parts}
 
 
 def _parts(spot: Spot, values: ShapeValues) -> Iterator[str]:
@@ -23,5 +23,5 @@ def _parts(spot: Spot, values: ShapeValues) -> Iterator[str]:
         if number is None:
             continue
         keys = values.keys_of(spot.scope[:depth], name)
-        of = f"{name} " if depth < len(spot.scope) else ""
-        yield f"{of}index {number}" + (f", key {keys[number]}" if keys else "")
+        prefix = f"{name} " if depth < len(spot.scope) else ""
+        yield f"{prefix}index {number}" + (f", key {keys[number]}" if keys else "")

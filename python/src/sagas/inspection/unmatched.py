@@ -27,31 +27,31 @@ def of(
         step: The name of a step, or its declared name, that is asked for beside it.
         declared: Names of steps that the program's definitions have, beside those of the store.
     """
-    found, is_whole = list[str](), filter.scope == EVERYTHING
+    warnings, is_whole = list[str](), filter.scope == EVERYTHING
     if step is not None and is_whole and (why := (yield from _step(step, declared))):
-        found.append(why)
+        warnings.append(why)
     for name, value in filter.labels.items():
-        where, words = Filter(labels={name: value}, scope=filter.scope).where()
-        if (yield Query(f"SELECT 1 FROM sagas s WHERE {where} LIMIT 1", (*words,))):
+        condition, parameters = Filter(labels={name: value}, scope=filter.scope).where()
+        if (yield Query(f"SELECT 1 FROM sagas s WHERE {condition} LIMIT 1", (*parameters,))):
             continue
         names = (yield from _label_names()) if is_whole else [name]
         if name in names:
-            found.append(f"no saga has the label {name}={value!r}")
+            warnings.append(f"no saga has the label {name}={value!r}")
         else:
-            found.append(f"no saga has a label {name!r}{meant(name, names)}")
-    return found
+            warnings.append(f"no saga has a label {name!r}{meant(name, names)}")
+    return warnings
 
 
 def _label_names() -> Question[list[str]]:
     """The names of labels, one after the other by their index: there may be millions of labels."""
-    found, last = list[str](), ""
-    while len(found) < MOST_NAMES:
+    names, last = list[str](), ""
+    while len(names) < MOST_NAMES:
         ((name,),) = yield Query("SELECT min(name) FROM labels WHERE name > ?", (last,))
         if name is None:
             break
         last = str(name)
-        found.append(last)
-    return [name for name in found if name != TOKEN]
+        names.append(last)
+    return [name for name in names if name != TOKEN]
 
 
 def _step(name: str, declared: Iterable[str]) -> Question[str | None]:
@@ -59,12 +59,12 @@ def _step(name: str, declared: Iterable[str]) -> Question[str | None]:
     known = {*declared}
     if name in known:
         return None
-    words = f'"{name}"', f"{OF}{name}"
+    parameters = f'"{name}"', f"{OF}{name}"
     query = "SELECT 1 FROM definitions WHERE instr(text, ?) > 0 OR instr(text, ?) > 0 LIMIT 1"
-    if (yield Query(query, words)):
+    if (yield Query(query, parameters)):
         return None
-    some = yield Query(f"SELECT definition, text FROM definitions LIMIT {MOST_DEFINITIONS}")
-    texts: dict[str, str] = {digest: text for digest, text in some}
+    rows = yield Query(f"SELECT definition, text FROM definitions LIMIT {MOST_DEFINITIONS}")
+    texts: dict[str, str] = {digest: text for digest, text in rows}
     names = Names(texts)
     for digest in texts:
         known |= {*names.of(digest), *names.declared(digest)}

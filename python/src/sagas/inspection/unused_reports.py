@@ -20,7 +20,7 @@ REPORTED = """
 SELECT key, value FROM operator_commands
 WHERE command = 'complete' AND answer = 'true' AND key IN ({}) ORDER BY id
 """
-MOST = 500
+MOST_KEYS = 500
 """Keys of one query."""
 Reporters = dict[tuple[str, str], str]
 """Who reported a step of a saga first, by the saga's key and the step's name."""
@@ -28,20 +28,20 @@ Reporters = dict[tuple[str, str], str]
 
 def count(scope: Scope = EVERYTHING) -> Question[int]:
     """How many there are that wait for a person."""
-    where, words = scope.where()
-    rows = yield Query(f"{COUNT}{where}", (*words,))
+    condition, parameters = scope.where()
+    rows = yield Query(f"{COUNT}{condition}", (*parameters,))
     return int(rows[0][0])
 
 
 def reporters(keys: Iterable[str]) -> Question[Reporters]:
     """Who reported steps of sagas, as far as the store has that."""
-    found: Reporters = {}
+    result: Reporters = {}
     left = sorted(set(keys))
     while left:
-        some, left = left[:MOST], left[MOST:]
-        rows = yield Query(REPORTED.format(", ".join("?" * len(some))), (*some,))
+        batch, left = left[:MOST_KEYS], left[MOST_KEYS:]
+        rows = yield Query(REPORTED.format(", ".join("?" * len(batch))), (*batch,))
         for key, value in rows:
-            told = json.loads(value or "null") or {}
-            if told.get("by") and told.get("kind", "run") == "run":
-                found.setdefault((key, str(told.get("step"))), str(told["by"]))
-    return found
+            report = json.loads(value or "null") or {}
+            if report.get("by") and report.get("kind", "run") == "run":
+                result.setdefault((key, str(report.get("step"))), str(report["by"]))
+    return result

@@ -172,17 +172,17 @@ class SagaView:
     @property
     def history(self) -> list[HistoryEvent]:
         """The events in the order of the log, and what people did before the first later one."""
-        found, notes = list[HistoryEvent](), deque(self.notes)
-        for one in self.events:
-            while notes and notes[0].at < one.at:
-                found.append(notes.popleft().event)
-            found.append(one)
-        return found + [note.event for note in notes]
+        result, notes = list[HistoryEvent](), deque(self.notes)
+        for event in self.events:
+            while notes and notes[0].at < event.at:
+                result.append(notes.popleft().event)
+            result.append(event)
+        return result + [note.event for note in notes]
 
     @property
     def resolution(self) -> Note | None:
         """What the person did who resolved it."""
-        return next((one for one in self.notes if one.what == "resolve"), None)
+        return next((note for note in self.notes if note.what == "resolve"), None)
 
     def idempotency_key(self, step: str, undo: bool) -> str:
         """The key that a step's action, or its compensation, hands to other services."""

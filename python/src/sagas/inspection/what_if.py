@@ -42,8 +42,8 @@ def of(
     """
     states = {step.name: step.state for step in view.steps}
     if failed is not None and states.get(failed) not in ("waiting", *ENDS):
-        there = states.get(failed)
-        raise ValueError(f"it is {there}" if there else "there is no such step")
+        state = states.get(failed)
+        raise ValueError(f"it is {state}" if state else "there is no such step")
     aborted = abort or view.aborted
     assumed = _assumed(view, aborted)
     if failed is not None:
@@ -64,9 +64,9 @@ def _failed(view: SagaView) -> dict[str, str]:
     permanently: for the engine they are still to be attempted.
     """
     final = {
-        (one.step, one.undo)
-        for one in view.attempts
-        if one.outcome in MISSES and (one.value or {}).get("final")
+        (attempt.step, attempt.undo)
+        for attempt in view.attempts
+        if attempt.outcome in MISSES and (attempt.value or {}).get("final")
     }
     ends = {("waiting", False): "failed", ("committed", True): "undo_failed"}
     return {
@@ -79,32 +79,32 @@ def _failed(view: SagaView) -> dict[str, str]:
 
 def _assumed(view: SagaView, aborted: bool) -> dict[str, str]:
     """How each step ends that is under way: one that waits and was not called is given up."""
-    waits = {one.step: one.why for one in view.held if not one.undo}
-    tries = {one.name: one.tries for one in listed_steps.of(view.definition)}
-    found = {}
+    waits = {entry.step: entry.why for entry in view.held if not entry.undo}
+    tries = {entry.name: entry.tries for entry in listed_steps.of(view.definition)}
+    assumed = {}
     for step in view.steps:
         if step.state not in ENDS:
             continue
         is_left = step.state == "running" and waits.get(step.name, CALLED[0]) not in CALLED
         may_wait = aborted or step.attempts < tries[step.name]
-        found[step.name] = "waiting" if is_left and may_wait else ENDS[step.state]
-    return found
+        assumed[step.name] = "waiting" if is_left and may_wait else ENDS[step.state]
+    return assumed
 
 
-def words(found: WhatIf) -> str:
+def words(forecast: WhatIf) -> str:
     """What would be done, for a person: "Undo car and hotel, keep flight: costs 15"."""
-    if found.plan.cost is None:
-        because = " and ".join(found.plan.blocking_steps)
+    if forecast.plan.cost is None:
+        because = " and ".join(forecast.plan.blocking_steps)
         return f"It would be stuck, because of {because}"
     by: dict[str, list[str]] = {}
-    for choice in found.plan.choices:
+    for choice in forecast.plan.choices:
         by.setdefault(choice.decision, []).append(choice.step)
     verbs = {"is undone": "undo", "stands": "keep", "is run": "run"}
-    parts = [f"{verb} {listed(by[word])}" for word, verb in verbs.items() if word in by]
+    parts = [f"{verb} {listed(by[decision])}" for decision, verb in verbs.items() if decision in by]
     text = ", ".join(parts) or "nothing is to be undone"
-    assumed = [step for step, state in found.assumed.items() if state == "committed"]
+    assumed = [step for step, state in forecast.assumed.items() if state == "committed"]
     more = f" (if {listed(assumed)} succeeds)" if assumed else ""
-    return f"{text[0].upper()}{text[1:]}: costs {found.plan.cost:,}{more}"
+    return f"{text[0].upper()}{text[1:]}: costs {forecast.plan.cost:,}{more}"
 
 
 def aborted_words(view: SagaView) -> str:
@@ -119,20 +119,20 @@ def failed_words(view: SagaView, step: str) -> str:
 
 def done_words(view: SagaView, step: str) -> str:
     """What becomes of a saga once a step, or its compensation, is done."""
-    if view.aborted or any(one.state in RECOVERS for one in view.steps):
+    if view.aborted or any(other.state in RECOVERS for other in view.steps):
         return words(of(view, done=step))
-    done = {one.name for one in view.steps if one.state == "committed"} | {step}
-    left = [one for one in view.steps if one.name not in done]
+    done = {other.name for other in view.steps if other.state == "committed"} | {step}
+    left = [other for other in view.steps if other.name not in done]
     if not left:
         return "The saga is completed"
-    if begins := [one.name for one in left if begins_with(one, done, step)]:
+    if begins := [other.name for other in left if begins_with(other, done, step)]:
         return f"Start {listed(begins)}"
-    return f"Wait for {listed([one.name for one in left if one.state != 'waiting'])}"
+    return f"Wait for {listed([other.name for other in left if other.state != 'waiting'])}"
 
 
-def begins_with(one: StepView, done: set[str], step: str) -> bool:
+def begins_with(waiting: StepView, done: set[str], step: str) -> bool:
     """Whether a step begins now that one of its needs is the last to be done."""
-    return one.state == "waiting" and step in one.needs and done.issuperset(one.needs)
+    return waiting.state == "waiting" and step in waiting.needs and done.issuperset(waiting.needs)
 
 
 def listed(names: list[str]) -> str:

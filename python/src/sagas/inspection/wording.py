@@ -115,21 +115,21 @@ def span(seconds: float) -> str:
     if seconds < 60:
         return f"{seconds:.1f} s".replace(".0 s", " s")
     parts = [(86400, "d"), (3600, "h"), (60, "min"), (1, "s")]
-    for place, (length, word) in enumerate(parts[:-1]):
+    for index, (length, unit) in enumerate(parts[:-1]):
         if seconds >= length:
             count, rest = divmod(seconds, length)
-            smaller, name = parts[place + 1]
+            smaller, name = parts[index + 1]
             more = int(rest // smaller)
-            return f"{count:.0f} {word}" + (f" {more} {name}" if more else "")
+            return f"{count:.0f} {unit}" + (f" {more} {name}" if more else "")
     return f"{seconds:.0f} s"
 
 
 def ago(seconds: float) -> str:
     """How long ago, or in how long, in one unit."""
     long, form = (seconds, "{} {} ago") if seconds > -1 else (-seconds, "in {} {}")
-    for length, word in ((86400, "d"), (3600, "h"), (60, "min")):
+    for length, unit in ((86400, "d"), (3600, "h"), (60, "min")):
         if long >= length:
-            return form.format(int(long // length), word)
+            return form.format(int(long // length), unit)
     return form.format(int(max(0.0, long)), "s")
 
 
@@ -141,13 +141,13 @@ PIECE = 1000
 
 def pretty(value: Any, most: int = 20_000) -> str:
     """A value as JSON over several lines. Of a large one only what is shown is written."""
-    found, count = list[str](), 0
+    chunks, count = list[str](), 0
     for chunk in LINES.iterencode(value):
-        found.append(chunk)
+        chunks.append(chunk)
         count += len(chunk)
         if count > most:
-            return "".join(found)[:most] + "\n… (shortened; see the saga's log)"
-    return "".join(found)
+            return "".join(chunks)[:most] + "\n… (shortened; see the saga's log)"
+    return "".join(chunks)
 
 
 def one_line(value: Any) -> str:
@@ -172,13 +172,13 @@ def short(value: Any, most: int = 90) -> str:
 
 def _beginning(chunks: Iterable[str], most: int) -> str:
     """A text in one line; of a longer one the beginning, with more than `most` characters."""
-    found, count = list[str](), 0
+    pieces, count = list[str](), 0
     for piece in _pieces(chunks):
-        found.append(piece)
+        pieces.append(piece)
         count += sum(map(len, piece.split()))
         if count > most:
             break
-    return " ".join("".join(found).split())
+    return " ".join("".join(pieces).split())
 
 
 def _pieces(chunks: Iterable[str]) -> Iterator[str]:
