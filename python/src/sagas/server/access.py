@@ -34,8 +34,8 @@ CHECK = "sagas.check"
 
 
 def service_of(request: Request) -> Service:
-    found: Service = request.scope[SERVICE]
-    return found
+    service: Service = request.scope[SERVICE]
+    return service
 
 
 def address(request: Request) -> str:
@@ -48,17 +48,17 @@ def whose(request: Request) -> Who:
     if service.tokens is None:
         return LOCAL
     kind, _, token = request.headers.get("authorization", "").partition(" ")
-    given = token.strip() if kind.lower() == "bearer" else ""
-    who = service.tokens.find(given) if given else None
-    if who is None:
+    bearer = token.strip() if kind.lower() == "bearer" else ""
+    principal = service.tokens.find(bearer) if bearer else None
+    if principal is None:
         if not service.refusals.take(address(request)):
             raise Problem(
                 "TooManyRequests", "too many requests without a right token from this address"
             )
         raise Problem(
-            "Unauthorized", f"{_why_not(service, given)}, sent as Authorization: Bearer TOKEN"
+            "Unauthorized", f"{_why_not(service, bearer)}, sent as Authorization: Bearer TOKEN"
         )
-    return who
+    return principal
 
 
 def _why_not(service: Service, token: str) -> str:
@@ -69,30 +69,30 @@ def _why_not(service: Service, token: str) -> str:
     return "this token is not in the token file: `sagas token` makes one"
 
 
-def limited(request: Request, who: Who) -> None:
+def limited(request: Request, principal: Who) -> None:
     """Counts the request. Raises `Problem` where its maker makes too many."""
-    if not service_of(request).rates.take(maker(request, who)):
+    if not service_of(request).rates.take(maker(request, principal)):
         raise Problem("TooManyRequests", "too many requests; wait a second")
 
 
-def maker(request: Request, who: Who) -> str:
+def maker(request: Request, principal: Who) -> str:
     """What requests and streams are counted by: the token, or without tokens the address."""
-    return who.digest or address(request)
+    return principal.digest or address(request)
 
 
-def occupy(request: Request, who: Who) -> None:
+def occupy(request: Request, principal: Who) -> None:
     """Take one of the token's places, until the request is over. Raises `Problem`."""
-    MAKER.set(maker(request, who))
+    MAKER.set(maker(request, principal))
     if PLACE not in request.scope:
-        leave = service_of(request).places.take(maker(request, who), Kind.CONNECTION)
+        leave = service_of(request).places.take(maker(request, principal), Kind.CONNECTION)
         request.scope[PLACE] = True
         request.scope[LEAVE].append(leave)
 
 
 @contextlib.contextmanager
-def waiting(request: Request, who: Who, kind: Kind) -> Iterator[None]:
+def waiting(request: Request, principal: Who, kind: Kind) -> Iterator[None]:
     """The request waits. Raises `Problem` where too many of the token do."""
-    leave = service_of(request).places.take(maker(request, who), kind)
+    leave = service_of(request).places.take(maker(request, principal), kind)
     try:
         yield
     finally:
@@ -108,21 +108,21 @@ def check_room(request: Request, is_operator: bool) -> None:
         )
 
 
-def admit(request: Request, what: May) -> Who:
+def admit(request: Request, permission: May) -> Who:
     """Who asks, by the headers. Raises `Problem` where they do not say that this may be done."""
-    who = whose(request)
-    request.scope[WHO] = who.name
-    if not who.may(what):
-        good = " or ".join(role for role, may in ROLES.items() if what in may)
-        told = f"{who.name} ({', '.join(sorted(who.roles))}) may not {what.value}"
-        raise Problem("Forbidden", f"{told}: take a token of the role {good}")
+    principal = whose(request)
+    request.scope[WHO] = principal.name
+    if not principal.may(permission):
+        roles = " or ".join(role for role, may in ROLES.items() if permission in may)
+        reason = f"{principal.name} ({', '.join(sorted(principal.roles))}) may not {permission.value}"
+        raise Problem("Forbidden", f"{reason}: take a token of the role {roles}")
     has_tokens = service_of(request).tokens is not None
-    check_room(request, is_operator=has_tokens and who.may(May.OPERATE))
-    limited(request, who)
-    occupy(request, who)
-    request.scope[OWNER] = who
-    request.scope[CHECK] = functools.partial(check_still, request, who)
-    return who
+    check_room(request, is_operator=has_tokens and principal.may(May.OPERATE))
+    limited(request, principal)
+    occupy(request, principal)
+    request.scope[OWNER] = principal
+    request.scope[CHECK] = functools.partial(check_still, request, principal)
+    return principal
 
 
 async def body_of(request: Request) -> bytes:
@@ -135,15 +135,15 @@ async def body_of(request: Request) -> bytes:
     return body
 
 
-def is_still(request: Request, who: Who) -> bool:
+def is_still(request: Request, principal: Who) -> bool:
     """Whether the token is in its file as it was when it was looked up, and has not expired."""
     tokens = service_of(request).tokens
-    return tokens is None or tokens.of(who.digest) == who
+    return tokens is None or tokens.of(principal.digest) == principal
 
 
-def check_still(request: Request, who: Who) -> None:
+def check_still(request: Request, principal: Who) -> None:
     """Raises `Problem` where the token has ended since the request was let in, or was changed."""
-    if not is_still(request, who):
+    if not is_still(request, principal):
         whose(request)  # raises where it has ended
         raise rights_changed()
 
@@ -153,26 +153,26 @@ def rights_changed() -> Problem:
     return Problem("RightsChanged", "the rights of your token have changed. Send the request again")
 
 
-def check_definition(who: Who, definition: str | None, starts: bool = True) -> None:
+def check_definition(principal: Who, definition: str | None, starts: bool = True) -> None:
     """Raises `Problem` where sagas of this definition are not the token's to see. `starts`: they
     are to be started, and not only to be looked at; no caller starts those that undo children."""
-    sees = who.sees if starts else who.scope.may_have
+    sees = principal.sees if starts else principal.scope.may_have
     if definition is not None and not sees(definition):
-        raise Problem("Forbidden", f"{who.name} has no right to the definition {definition[:64]!r}")
+        raise Problem("Forbidden", f"{principal.name} has no right to the definition {definition[:64]!r}")
 
 
-def check_key(who: Who, key: str) -> None:
+def check_key(principal: Who, key: str) -> None:
     """Raises `Problem` where sagas with this key are not the token's to start."""
-    if not who.scope.has_key(key):
-        raise Problem("Forbidden", f"{who.name} has no right to the key {key[:64]!r}")
+    if not principal.scope.has_key(key):
+        raise Problem("Forbidden", f"{principal.name} has no right to the key {key[:64]!r}")
 
 
-def check_steps(who: Who, steps: list[str]) -> None:
+def check_steps(principal: Who, steps: list[str]) -> None:
     """Raises `Problem` where tasks of some of these steps are not the token's to take."""
-    beyond = sorted({step for step in steps if not who.does(step)})
-    if beyond:
-        told = ", ".join(beyond[:10]) + (" .." if beyond[10:] else "")
-        raise Problem("Forbidden", f"{who.name} has no right to the steps {told}")
+    forbidden = sorted({step for step in steps if not principal.does(step)})
+    if forbidden:
+        listed = ", ".join(forbidden[:10]) + (" .." if forbidden[10:] else "")
+        raise Problem("Forbidden", f"{principal.name} has no right to the steps {listed}")
 
 
 def unslashed(text: str) -> str:

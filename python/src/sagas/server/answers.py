@@ -49,13 +49,13 @@ COST = Nullable(COUNT)
 MAYBE = Nullable(Text())
 
 
-def time(name: str, told: str, nullable: bool = False) -> dict[str, Field]:
+def time(name: str, description: str, nullable: bool = False) -> dict[str, Field]:
     """A time in seconds, and beside it as text."""
     seconds: Shape = Nullable(SECONDS) if nullable else SECONDS
     text: Shape = Nullable(Text(form="date-time")) if nullable else Text(form="date-time")
     return {
-        name: Field(seconds, f"{told}, in seconds since 1970"),
-        f"{name}_at": Field(text, f"{told}, as RFC 3339"),
+        name: Field(seconds, f"{description}, in seconds since 1970"),
+        f"{name}_at": Field(text, f"{description}, as RFC 3339"),
     }
 
 
@@ -345,7 +345,7 @@ DEFINED = Record(
     },
 )
 DEFINITIONS = Record("Definitions", {"definitions": Field(Several(DEFINED))})
-ASKED = Record(
+ATTENTION_ENTRY = Record(
     "AttentionEntry",
     {
         "kind": Field(Choice(KINDS)),
@@ -370,7 +370,7 @@ ATTENTION = Record(
     "Attention",
     {
         "counts": Field(Mapped(COUNT), "of each kind, without the other filters"),
-        "entries": Field(Several(ASKED)),
+        "entries": Field(Several(ATTENTION_ENTRY)),
         "next": Field(MAYBE, "`after` of the next page; null: there is none"),
     },
 )

@@ -60,7 +60,7 @@ PAGES = [
 
 def operations() -> list[Operation]:
     """All of the API."""
-    return [one for routes in API for one in routes.operations]
+    return [operation for routes in API for operation in routes.operations]
 
 
 def answered(request: Request, problem: Problem) -> Response:
@@ -74,7 +74,7 @@ class Paths:
     """
 
     def __init__(self, routes: list[Route]) -> None:
-        self._router = Router(routes, redirect_slashes=False, default=nothing)
+        self._router = Router(routes, redirect_slashes=False, default=no_such_path)
         self._exact = {route.path: route.app for route in routes if not route.param_convertors}
 
     async def __call__(self, scope: Scope, receive: Receive, send: Send) -> None:
@@ -86,7 +86,7 @@ class Paths:
         await app(scope, receive, send)
 
 
-async def nothing(scope: Scope, receive: Receive, send: Send) -> None:
+async def no_such_path(scope: Scope, receive: Receive, send: Send) -> None:
     """There is no such path."""
     await problems.response(not_found())(scope, receive, send)
 

@@ -24,7 +24,7 @@ from sagas.server import private_files
 from sagas.storage.filters import EVERYTHING, Scope
 
 MOST_SESSIONS = 1000
-LOOK = 1.0  # seconds between two looks at the token file
+RELOAD_INTERVAL = 1.0  # seconds between two looks at the token file
 KEYS = (
     "name",
     "roles",
@@ -93,8 +93,8 @@ class Who:
     digest: str = ""
     limits: Limits = Limits()
 
-    def may(self, what: May) -> bool:
-        return any(what in ROLES[role] for role in self.roles)
+    def may(self, permission: May) -> bool:
+        return any(permission in ROLES[role] for role in self.roles)
 
     @property
     def definitions(self) -> frozenset[str] | None:
@@ -160,22 +160,22 @@ def _text_of(path: pathlib.Path) -> str:
 def _found(path: pathlib.Path, text: str) -> dict[str, Who]:
     """The tokens of the file's text. Raises `TokenFault`."""
     try:
-        told = tomllib.loads(text)
+        document = tomllib.loads(text)
     except tomllib.TOMLDecodeError as error:
         raise TokenFault(f"{path}: cannot be read: {error}") from error
     except RecursionError:
         raise TokenFault(f"{path}: cannot be read: too many lists in one another") from None
-    entries = told.get("token", [])
-    if set(told) - {"token"} or not isinstance(entries, list):
+    entries = document.get("token", [])
+    if set(document) - {"token"} or not isinstance(entries, list):
         raise TokenFault(f"{path}: only [[token]] tables are allowed")
-    found: dict[str, Who] = {}
-    for place, entry in enumerate(entries, 1):
+    result: dict[str, Who] = {}
+    for number, entry in enumerate(entries, 1):
         try:
-            who = _read_one(entry)
+            principal = _read_one(entry)
         except ValueError as error:
-            raise TokenFault(f"{path}: token {place}: {error}") from None
-        found[who.digest] = who
-    return found
+            raise TokenFault(f"{path}: token {number}: {error}") from None
+        result[principal.digest] = principal
+    return result
 
 
 def _read_one(entry: Any) -> Who:
@@ -202,57 +202,57 @@ def _read_one(entry: Any) -> Who:
     return Who(name, frozenset(roles), digest, limits)
 
 
-def limits_of(roles: Collection[str], told: Mapping[str, Any]) -> Limits:
+def limits_of(roles: Collection[str], table: Mapping[str, Any]) -> Limits:
     """What a token of these roles is kept to. Raises `ValueError`."""
-    names = _listed("definitions", told, DEFINITION, "names of definitions")
-    keys = _listed("keys", told, KEY, "keys, or beginnings of keys with * at the end, without /:")
-    words = _listed("steps", told, STEP, "DEFINITION/STEP or DEFINITION/STEP/undo")
-    quota = [_count(word, told, roles) for word in ("open_sagas", "open_bytes")]
-    found = Limits(Scope(names, keys), words, _moment(told.get("expires")), *quota)
+    names = _listed("definitions", table, DEFINITION, "names of definitions")
+    keys = _listed("keys", table, KEY, "keys, or beginnings of keys with * at the end, without /:")
+    steps = _listed("steps", table, STEP, "DEFINITION/STEP or DEFINITION/STEP/undo")
+    quota = [_count(name, table, roles) for name in ("open_sagas", "open_bytes")]
+    limits = Limits(Scope(names, keys), steps, _moment(table.get("expires")), *quota)
     if keys is not None and not {"caller", "approver"} >= set(roles):
         raise ValueError("keys can only restrict a token with the roles caller and approver")
-    if found.steps is not None and not {"worker", "operator"} & set(roles):
+    if limits.steps is not None and not {"worker", "operator"} & set(roles):
         raise ValueError("steps requires the role worker or operator")
     if names is not None and "metrics" in roles:
         raise ValueError(
             "definitions cannot restrict a token with the role metrics, "
             "because metrics cover all definitions"
         )
-    return found
+    return limits
 
 
 def _listed(
-    word: str, told: Mapping[str, Any], form: re.Pattern[str], what: str
+    key: str, table: Mapping[str, Any], form: re.Pattern[str], description: str
 ) -> frozenset[str] | None:
-    given = told.get(word)
-    if given is None:
+    listed = table.get(key)
+    if listed is None:
         return None
     if not (
-        isinstance(given, list)
-        and given
-        and all(isinstance(one, str) and form.fullmatch(one) for one in given)
+        isinstance(listed, list)
+        and listed
+        and all(isinstance(text, str) and form.fullmatch(text) for text in listed)
     ):
-        raise ValueError(f"{word} must be a list of one or more {what}")
-    return frozenset(given)
+        raise ValueError(f"{key} must be a list of one or more {description}")
+    return frozenset(listed)
 
 
-def _count(word: str, told: Mapping[str, Any], roles: Collection[str]) -> int | None:
-    given = told.get(word)
-    if given is None:
+def _count(key: str, table: Mapping[str, Any], roles: Collection[str]) -> int | None:
+    count = table.get(key)
+    if count is None:
         return None
-    if type(given) is not int or given < 0:
-        raise ValueError(f"{word} must be an integer from 0")
+    if type(count) is not int or count < 0:
+        raise ValueError(f"{key} must be an integer from 0")
     if not {"caller", "operator"} & set(roles):
-        raise ValueError(f"{word} requires the role caller or operator")
-    return given
+        raise ValueError(f"{key} requires the role caller or operator")
+    return count
 
 
-def _moment(given: Any) -> datetime.datetime | None:
+def _moment(value: Any) -> datetime.datetime | None:
     """A moment with its offset, by a TOML time or a text."""
-    if given is None:
+    if value is None:
         return None
     try:
-        moment = datetime.datetime.fromisoformat(given) if isinstance(given, str) else given
+        moment = datetime.datetime.fromisoformat(value) if isinstance(value, str) else value
     except ValueError:
         moment = None
     if not isinstance(moment, datetime.datetime) or moment.tzinfo is None:
@@ -279,26 +279,26 @@ def make(path: pathlib.Path, name: str, roles: list[str], limits: Limits = Limit
         f'sha256 = "{digest_of(token)}"',
     ]
     scope = limits.scope
-    for word, some in (
+    for key, values in (
         ("definitions", scope.definitions),
         ("keys", scope.keys),
         ("steps", limits.steps),
     ):
-        lines += [f"{word} = {_list_of(sorted(some))}"] if some is not None else []
+        lines += [f"{key} = {_list_of(sorted(values))}"] if values is not None else []
     lines += [f"expires = {limits.expires.isoformat()}"] if limits.expires else []
-    for word, count in (("open_sagas", limits.open_sagas), ("open_bytes", limits.open_bytes)):
-        lines += [f"{word} = {count}"] if count is not None else []
-    end = "\n" if text and not text.endswith("\n") else ""  # editors may leave it out
-    more = end + "\n".join(lines) + "\n\n"
-    _found(path, text + more)
+    for key, count in (("open_sagas", limits.open_sagas), ("open_bytes", limits.open_bytes)):
+        lines += [f"{key} = {count}"] if count is not None else []
+    separator = "\n" if text and not text.endswith("\n") else ""  # editors may leave it out
+    added = separator + "\n".join(lines) + "\n\n"
+    _found(path, text + added)
     fd = os.open(path, os.O_WRONLY | os.O_CREAT | os.O_APPEND | os.O_NOFOLLOW, 0o600)
     with os.fdopen(fd, "w", encoding="utf-8") as file:
-        file.write(more)
+        file.write(added)
     return token
 
 
-def _list_of(words: Iterable[str]) -> str:
-    return json.dumps([*words], ensure_ascii=False)
+def _list_of(texts: Iterable[str]) -> str:
+    return json.dumps([*texts], ensure_ascii=False)
 
 
 class Tokens:
@@ -314,10 +314,10 @@ class Tokens:
 
     def _stamp_now(self) -> tuple[int, int, int]:
         try:
-            told = self.path.stat()
+            status = self.path.stat()
         except OSError:
             return 0, 0, 0
-        return told.st_mtime_ns, told.st_size, told.st_ino
+        return status.st_mtime_ns, status.st_size, status.st_ino
 
     def find(self, token: str) -> Who | None:
         """Whose token it is. It is looked up by its digest, so that no time tells of a part of
@@ -327,17 +327,17 @@ class Tokens:
 
     def of(self, digest: str) -> Who | None:
         """Whose token has this digest; None where it has expired."""
-        who = self._of(digest)
-        return None if who is None or who.is_over else who
+        principal = self._of(digest)
+        return None if principal is None or principal.is_over else principal
 
     def has_expired(self, token: str) -> bool:
         """Whether it was a right one."""
-        who = self._of(digest_of(token))
-        return who is not None and who.is_over
+        principal = self._of(digest_of(token))
+        return principal is not None and principal.is_over
 
     def _of(self, digest: str) -> Who | None:
         now = time.monotonic()
-        if now - self._looked > LOOK:
+        if now - self._looked > RELOAD_INTERVAL:
             self._looked = now
             stamp = self._stamp_now()
             if stamp == self._stamp:
@@ -375,11 +375,11 @@ class Sessions:
         self.seconds = seconds
         self._there: OrderedDict[str, Session] = OrderedDict()
 
-    def begin(self, who: Who) -> tuple[str, Session]:
+    def begin(self, principal: Who) -> tuple[str, Session]:
         """A new session; gives the cookie's value."""
         name = secrets.token_urlsafe(32)
         session = self._there[digest_of(name)] = Session(
-            who, secrets.token_urlsafe(32), time.monotonic() + self.seconds
+            principal, secrets.token_urlsafe(32), time.monotonic() + self.seconds
         )
         while len(self._there) > MOST_SESSIONS:
             self._there.popitem(last=False)
@@ -409,9 +409,9 @@ class Rates:
     def take(self, name: str) -> bool:
         """Whether one more request is within the rate."""
         now = time.monotonic()
-        left, at = self._there.pop(name, (self._size, now))
-        left = min(self._size, left + (now - at) * self.rate)
-        self._there[name] = (left - 1 if left >= 1 else left), now
+        available, at = self._there.pop(name, (self._size, now))
+        available = min(self._size, available + (now - at) * self.rate)
+        self._there[name] = (available - 1 if available >= 1 else available), now
         if len(self._there) > self.most:
             self._there.popitem(last=False)
-        return left >= 1
+        return available >= 1

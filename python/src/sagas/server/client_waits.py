@@ -16,7 +16,7 @@ from sagas.server.middleware import FOLLOWED, GONE
 
 async def first(
     request: Request,
-    who: Who,
+    principal: Who,
     work: "asyncio.Future[Any]",
     seconds: float,
     *ends: "asyncio.Future[None]",
@@ -25,12 +25,12 @@ async def first(
     there, and until one of the `ends` is done, or the client sends something else. Whether it is
     done; else it is cancelled, to its end. Raises `Problem` where the token has ended."""
     service, loop = service_of(request), asyncio.get_running_loop()
-    some = {work, request.scope[GONE], request.scope[FOLLOWED], service.stopping, *ends}
+    futures = {work, request.scope[GONE], request.scope[FOLLOWED], service.stopping, *ends}
     slice = seconds if service.tokens is None else min(seconds, CHECK)
     until = loop.time() + seconds
     try:
-        while not await _any_done(some, min(slice, until - loop.time())):
-            check_still(request, who)
+        while not await _any_done(futures, min(slice, until - loop.time())):
+            check_still(request, principal)
             if loop.time() >= until:
                 return False
         return work.done()
@@ -41,9 +41,9 @@ async def first(
                 await work
 
 
-async def _any_done(some: "set[asyncio.Future[Any]]", seconds: float) -> bool:
+async def _any_done(futures: "set[asyncio.Future[Any]]", seconds: float) -> bool:
     """Whether one of them is done, at the latest after this time."""
     done, _ = await asyncio.wait(
-        some, timeout=max(0.0, seconds), return_when=asyncio.FIRST_COMPLETED
+        futures, timeout=max(0.0, seconds), return_when=asyncio.FIRST_COMPLETED
     )
     return bool(done)

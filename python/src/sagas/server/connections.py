@@ -179,11 +179,11 @@ class Connection(asyncio.Protocol):
         (self.pause if ahead > MOST_AHEAD else self.resume)("ahead")
 
     def eof_received(self) -> bool | None:
-        told: bool | None = self._inner.eof_received()
-        if not told:  # the transport closes: what is written from now on is dropped
+        stays_open: bool | None = self._inner.eof_received()
+        if not stays_open:  # the transport closes: what is written from now on is dropped
             self.is_over = True
             self.leave()
-        return told
+        return stays_open
 
     def pause_writing(self) -> None:
         self._inner.pause_writing()
@@ -198,15 +198,15 @@ class Connection(asyncio.Protocol):
             self._connections.works(self)
         self._reads()
 
-    def pause(self, who: str) -> None:
+    def pause(self, reason: str) -> None:
         """Read nothing more, until all that have paused it resume it."""
-        self._paused.add(who)
+        self._paused.add(reason)
         self.transport.pause_reading()
 
-    def resume(self, who: str) -> None:
-        """As far as `who` knows, more may be read."""
-        if who in self._paused:
-            self._paused.discard(who)
+    def resume(self, reason: str) -> None:
+        """As far as `reason` knows, more may be read."""
+        if reason in self._paused:
+            self._paused.discard(reason)
             if not self._paused and not self.transport.is_closing():
                 self.transport.resume_reading()
 

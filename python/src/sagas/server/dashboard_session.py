@@ -53,20 +53,20 @@ def still_of(request: Request) -> Session | None:
     session = service.sessions.find(request.cookies.get(cookie_of(request), ""))
     if session is None:
         return None
-    who = LOCAL if service.tokens is None else service.tokens.of(session.who.digest)
-    if who is None or not who.may(May.OPERATE):
+    principal = LOCAL if service.tokens is None else service.tokens.of(session.who.digest)
+    if principal is None or not principal.may(May.OPERATE):
         return None  # its token is not in the file any more, or has expired
-    session.who = who
+    session.who = principal
     return session
 
 
-def check_still(request: Request, who: Who) -> None:
+def check_still(request: Request, principal: Who) -> None:
     """Raises `Problem` where the session has ended since the request was let in, or its token was
     changed."""
     session = still_of(request)
     if session is None:
         raise expired()
-    if session.who != who:
+    if session.who != principal:
         raise rights_changed()
 
 
@@ -81,17 +81,17 @@ def expired() -> Problem:
 
 def looker(request: Request) -> Who:
     """Who looks at a page that is not `closed`."""
-    who: Who = (
+    principal: Who = (
         request.scope.get(OWNER, LOCAL)
         if service_of(request).tokens is None
         else request.scope[OWNER]
     )
-    return who
+    return principal
 
 
-def begin(request: Request, response: Response, who: Who) -> Session:
+def begin(request: Request, response: Response, principal: Who) -> Session:
     """A new session, and its cookie."""
-    name, session = service_of(request).sessions.begin(who)
+    name, session = service_of(request).sessions.begin(principal)
     response.set_cookie(
         cookie_of(request),
         name,
@@ -105,35 +105,35 @@ def begin(request: Request, response: Response, who: Who) -> Session:
 
 
 def page(
-    request: Request, template: str, session: Session | None, status: int = 200, **told: Any
+    request: Request, template: str, session: Session | None, status: int = 200, **values: Any
 ) -> HTMLResponse:
     """A page of this template."""
     service = service_of(request)
-    known: dict[str, Any] = {"here": "", "tokens": service.tokens is not None}
-    words = {**known, "session": session, **told}
-    return renderer.Page(service.threads.pages.do, template, words, status)
+    defaults: dict[str, Any] = {"here": "", "tokens": service.tokens is not None}
+    all_values = {**defaults, "session": session, **values}
+    return renderer.Page(service.threads.pages.do, template, all_values, status)
 
 
 def login_first(request: Request) -> Response:
     """To the login, and back to the very address that was asked for: a part of its path that is
     decoded may have a `#`, a `?` or a `%`."""
-    where: bytes = request.scope["raw_path"]
+    target: bytes = request.scope["raw_path"]
     if query := request.scope["query_string"]:
-        where += b"?" + query
-    told = {"next": quote(where, safe=string.punctuation)}
-    return RedirectResponse(f"/ui/login?{urlencode(told)}", 303)
+        target += b"?" + query
+    parameters = {"next": quote(target, safe=string.punctuation)}
+    return RedirectResponse(f"/ui/login?{urlencode(parameters)}", 303)
 
 
-def shows(request: Request, template: str, status: int = 200, **told: Any) -> Response:
+def shows(request: Request, template: str, status: int = 200, **values: Any) -> Response:
     """The page for whoever is logged in; over the loopback without tokens everybody is."""
     session = session_of(request)
     if session is not None:
-        return page(request, template, session, status, **told)
+        return page(request, template, session, status, **values)
     if service_of(request).tokens is not None:
         return login_first(request)
     response = Response()
     session = begin(request, response, LOCAL)
-    shown_page = page(request, template, session, status, **told)
+    shown_page = page(request, template, session, status, **values)
     shown_page.headers["set-cookie"] = response.headers["set-cookie"]
     return shown_page
 
@@ -183,7 +183,7 @@ def refused(request: Request, problem: Problem) -> Response:
     session = None
     with contextlib.suppress(Problem):
         session = session_of(request)
-    told = {"title": problem.kind.title, "text": f"{problem}.", "back": "/ui"}
-    answer = page(request, "fault.html", session, problem.kind.status, **told)
+    values = {"title": problem.kind.title, "text": f"{problem}.", "back": "/ui"}
+    answer = page(request, "fault.html", session, problem.kind.status, **values)
     answer.headers.update(problems.HEADERS.get(problem.kind.status, {}) | problem.headers)
     return answer

@@ -16,7 +16,7 @@ from sagas.definition.step import NEVER, Step
 
 COMPUTED = "input"
 """In place of a cost that comes from the input."""
-Told = Union[int, str, None]
+DeclaredCost = Union[int, str, None]
 
 
 @dataclasses.dataclass(frozen=True, slots=True)
@@ -43,9 +43,9 @@ class DeclaredStep:
         return self.spot.declared
 
     @property
-    def costs(self) -> dict[str, Told]:
+    def costs(self) -> dict[str, DeclaredCost]:
         """Its costs: a number, None (never), or `COMPUTED`."""
-        return {word: _cost(self.step, word) for word in COSTS}
+        return {name: _cost(self.step, name) for name in COSTS}
 
     @property
     def note(self) -> str:
@@ -53,10 +53,10 @@ class DeclaredStep:
         return ", ".join(["for each item"] * self.for_each + ["for some inputs"] * self.conditional)
 
 
-def _cost(step: Step[Any], word: str) -> Told:
-    if callable(step.declared_cost(word)):
+def _cost(step: Step[Any], name: str) -> DeclaredCost:
+    if callable(step.declared_cost(name)):
         return COMPUTED
-    cost = step.cost(word)
+    cost = step.cost(name)
     return None if cost is NEVER else cost
 
 
@@ -85,10 +85,10 @@ def _within(
         if isinstance(part, Inclusion):
             below = (*scope, (part.name, None))
             inner = [*_within(part.inner, below, needs, is_each, is_some)]
-            needed = {need for one in inner for need in one.needs}
-            ends[part.name] = [one.name for one in inner if one.name not in needed]
+            needed = {need for step in inner for need in step.needs}
+            ends[part.name] = [step.name for step in inner if step.name not in needed]
             yield from inner
         else:
-            one = DeclaredStep(Spot(scope, part.name), part, needs, is_each, is_some)
-            ends[part.name] = [one.name]
-            yield one
+            step = DeclaredStep(Spot(scope, part.name), part, needs, is_each, is_some)
+            ends[part.name] = [step.name]
+            yield step

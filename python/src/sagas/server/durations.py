@@ -24,7 +24,7 @@ class Durations:
 
     def of(self, step: Step) -> tuple[int, float, float] | None:
         """How many there are, their median and their 95th percentile; None: there are none."""
-        some = sorted(self._there.get(step, ()))
-        if not some:
+        durations = sorted(self._there.get(step, ()))
+        if not durations:
             return None
-        return len(some), some[(len(some) - 1) // 2], some[math.ceil(0.95 * len(some)) - 1]
+        return len(durations), durations[(len(durations) - 1) // 2], durations[math.ceil(0.95 * len(durations)) - 1]

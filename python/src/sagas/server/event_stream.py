@@ -15,7 +15,7 @@ from sagas.base.events import Event
 
 KEPT = 2000
 MOST_WAITING = 1000
-QUIET = 15.0  # seconds after which a comment shows that the stream is open
+KEEPALIVE = 15.0  # seconds after which a comment shows that the stream is open
 CHECK = 2.0  # seconds between two looks whether its token still counts
 MISSED = "event: missed\ndata: {}\n\n"
 
@@ -33,10 +33,10 @@ class Listener:
     lost: bool = False
 
     def wants(self, event: Event) -> bool:
-        asked = (self.key is None or event.key == self.key) and (
+        is_selected = (self.key is None or event.key == self.key) and (
             self.saga is None or event.saga == self.saga
         )
-        return asked and self.sees(event)
+        return is_selected and self.sees(event)
 
 
 class Hub:
@@ -118,7 +118,7 @@ class Hub:
         """Server-sent events. One named `missed` says that some were lost: look at the sagas
         themselves. It ends once it is not `still` to be."""
         self._listeners[listener] = None
-        told = time.monotonic()
+        last_sent = time.monotonic()
         try:
             events, missed = self.behind(last)
             yield (
@@ -133,7 +133,7 @@ class Hub:
                 while listener.queue and still():
                     count, text = listener.queue.popleft()
                     yield f"id: {self.boot}-{count}\n{text}"
-                    told = time.monotonic()
+                    last_sent = time.monotonic()
                 if listener.lost:
                     yield MISSED
                     return
@@ -143,14 +143,14 @@ class Hub:
                         await listener.awake.wait()
                 if not still():
                     return
-                if time.monotonic() >= told + QUIET:
+                if time.monotonic() >= last_sent + KEEPALIVE:
                     yield ": \n\n"
-                    told = time.monotonic()
+                    last_sent = time.monotonic()
         finally:
             self._listeners.pop(listener, None)
 
 
 def written(event: Event) -> str:
     """An event as a stream has it, without its id."""
-    told = {name: value for name, value in dataclasses.asdict(event).items() if value is not None}
-    return f"event: {event.name}\ndata: {json.dumps(told)}\n\n"
+    fields = {name: value for name, value in dataclasses.asdict(event).items() if value is not None}
+    return f"event: {event.name}\ndata: {json.dumps(fields)}\n\n"

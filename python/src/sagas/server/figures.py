@@ -45,11 +45,11 @@ class Figures:
         self._kept: dict[Scope, Counted] = {}
         self._counting: dict[Scope, asyncio.Task[Counted]] = {}
 
-    async def of(self, some: Scope) -> Counts:
+    async def of(self, scope: Scope) -> Counts:
         """The figures of these sagas."""
-        counted = self._kept.get(some)
+        counted = self._kept.get(scope)
         if counted is None or time.monotonic() > self._until(counted):
-            counted = await asyncio.shield(self._begin(some))
+            counted = await asyncio.shield(self._begin(scope))
         return counted.found
 
     def _until(self, counted: Counted) -> float:
@@ -57,47 +57,47 @@ class Figures:
         of events."""
         return counted.until + (QUIET if counted.seen == self._hub.count else 0.0)
 
-    def _begin(self, some: Scope) -> asyncio.Task[Counted]:
-        counting = self._counting.get(some)
+    def _begin(self, scope: Scope) -> asyncio.Task[Counted]:
+        counting = self._counting.get(scope)
         if counting is None:
-            counting = asyncio.get_running_loop().create_task(self._count(some))
-            self._counting[some] = counting
-            counting.add_done_callback(functools.partial(self._counted, some))
+            counting = asyncio.get_running_loop().create_task(self._count(scope))
+            self._counting[scope] = counting
+            counting.add_done_callback(functools.partial(self._counted, scope))
         return counting
 
     def prime(self) -> None:
         """Count all sagas once, so that nobody waits for that: at the start of a service."""
         self._begin(EVERYTHING)
 
-    async def _count(self, some: Scope) -> Counted:
+    async def _count(self, scope: Scope) -> Counted:
         began, seen = time.monotonic(), self._hub.count
 
         def question() -> Question[Counts]:
-            every = some if some.keys is not None else EVERYTHING  # which has the indexes
+            every = scope if scope.keys is not None else EVERYTHING  # which has the indexes
             counts = yield from lists.counts(every)
-            by_name = {name: of for name, of in counts.items() if some.may_have(name)}
-            if any(not some.has_definition(name) for name in by_name):  # by their keys
-                by_name = yield from lists.counts(some)
-            return by_name, (yield from lists.asked(some))
+            by_name = {name: phases for name, phases in counts.items() if scope.may_have(name)}
+            if any(not scope.has_definition(name) for name in by_name):  # by their keys
+                by_name = yield from lists.counts(scope)
+            return by_name, (yield from lists.asked(scope))
 
-        found = await self._ask(question())
+        counts_of_scope = await self._ask(question())
         now = time.monotonic()
         if len(self._kept) >= MOST_KEPT:
             self._kept.clear()
-        counted = Counted(found, now + max(1.0, 20 * (now - began)), seen)
-        self._kept[some] = counted
+        counted = Counted(counts_of_scope, now + max(1.0, 20 * (now - began)), seen)
+        self._kept[scope] = counted
         return counted
 
-    def _counted(self, some: Scope, task: asyncio.Task[Counted]) -> None:
-        self._counting.pop(some, None)
+    def _counted(self, scope: Scope, task: asyncio.Task[Counted]) -> None:
+        self._counting.pop(scope, None)
         if not task.cancelled() and task.exception():
             logger.debug("the sagas could not be counted: %s", type(task.exception()).__name__)
 
-    def lag(self, some: Scope) -> float | None:
+    def lag(self, scope: Scope) -> float | None:
         """Seconds until these figures are counted anew, where something has happened since they
         were counted; else None.
         """
-        counted = self._kept.get(some)
+        counted = self._kept.get(scope)
         if counted is None or counted.seen == self._hub.count:
             return None
         return max(0.0, counted.until - time.monotonic())

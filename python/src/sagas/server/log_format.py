@@ -17,7 +17,7 @@ class Lines(logging.Formatter):
 
     def format(self, record: logging.LogRecord) -> str:
         at = time.strftime("%Y-%m-%dT%H:%M:%S", time.gmtime(record.created))
-        told = {
+        line = {
             "at": f"{at}.{int(record.msecs):03}Z",
             "level": record.levelname.lower(),
             "logger": record.name,
@@ -25,12 +25,12 @@ class Lines(logging.Formatter):
         }
         fields = getattr(record, "sagas", None)
         if isinstance(fields, dict):
-            told |= {
-                name: value for name, value in fields.items() if name not in told and name != "at"
+            line |= {
+                name: value for name, value in fields.items() if name not in line and name != "at"
             }
         if record.exc_info:
-            told["trace"] = self.formatException(record.exc_info)
-        return json.dumps(told, default=str)
+            line["trace"] = self.formatException(record.exc_info)
+        return json.dumps(line, default=str)
 
 
 class Text(logging.Formatter):
@@ -44,9 +44,9 @@ class Text(logging.Formatter):
         record.message = escaped(record.message)
         return super().formatMessage(record)
 
-    def formatException(self, *words: Any) -> str:
+    def formatException(self, *arguments: Any) -> str:
         return "\n".join(
-            f"    {escaped(line)}" for line in super().formatException(*words).split("\n")
+            f"    {escaped(line)}" for line in super().formatException(*arguments).split("\n")
         )
 
 

@@ -21,7 +21,7 @@ if TYPE_CHECKING:
     from sagas.server.service import Service
 
 SECONDS = (0.01, 0.03, 0.1, 0.3, 1, 3, 10, 30, 100, 300, 1000, 3600, 86400)
-TOLD = {
+OUTCOMES = {
     "step_succeeded": "succeeded",
     "step_retrying": "retrying",
     "step_failed": "failed",
@@ -92,26 +92,26 @@ class Metrics:
         self.requests = self._counter(
             "sagas_http_requests", "Requests, by what they came to", "method", "status"
         )
-        took = Histogram(
+        request_times = Histogram(
             "sagas_http_request_seconds",
             "Time that requests took; long waits are counted apart",
             ["waits"],
             registry=self.registry,
         )
-        self.request_seconds = functools.cache(took.labels)
+        self.request_seconds = functools.cache(request_times.labels)
         self.up = Gauge(
             "sagas_start_time_seconds", "When this service was started", registry=self.registry
         )
         self.up.set(time.time())
         self.registry.register(Now(self))  # type: ignore[arg-type]
 
-    def _counter(self, name: str, told: str, *labels: str) -> Callable[..., Counter]:
+    def _counter(self, name: str, description: str, *labels: str) -> Callable[..., Counter]:
         """A counter's children by their labels, each of which is looked up in a dictionary."""
-        return functools.cache(Counter(name, told, labels, registry=self.registry).labels)
+        return functools.cache(Counter(name, description, labels, registry=self.registry).labels)
 
     def event(self, event: Event) -> None:
         """Something happened."""
-        saga, outcome = event.saga or "", TOLD.get(event.name)
+        saga, outcome = event.saga or "", OUTCOMES.get(event.name)
         if event.name == "saga_started":
             self.started(saga).inc()
         elif event.name in ("saga_ended", "saga_stuck"):
@@ -158,15 +158,15 @@ class Metrics:
             for phase, count in phases.items():
                 sagas.add_metric([saga, phase], count)
         yield sagas
-        asked = GaugeMetricFamily(
+        needed = GaugeMetricFamily(
             "sagas_attention_required",
             "Stuck sagas, compensations that failed permanently, unknown outcomes, exhausted "
             "attempts, stored values that cannot be read, sagas of damaged shards, approvals",
             labels=["reason"],
         )
         for why, count in self.asked.items():
-            asked.add_metric([why], count)
-        yield asked
+            needed.add_metric([why], count)
+        yield needed
         yield from queues_of(self.queues, time.time())
         yield CounterMetricFamily(
             "sagas_tasks_reclaimed",
@@ -196,7 +196,7 @@ class Now:
 
 def queues_of(queues: list[Queue], now: float) -> Iterator[Metric]:
     """What waits for workers."""
-    words: list[tuple[str, str, Callable[[Queue], float]]] = [
+    families: list[tuple[str, str, Callable[[Queue], float]]] = [
         ("sagas_tasks_ready", "Tasks that wait for a worker", lambda queue: queue.ready),
         ("sagas_tasks_claimed", "Tasks that workers have", lambda queue: queue.claimed),
         (
@@ -205,8 +205,8 @@ def queues_of(queues: list[Queue], now: float) -> Iterator[Metric]:
             lambda queue: now - queue.oldest if queue.oldest else 0.0,
         ),
     ]
-    for name, told, value in words:
-        family = GaugeMetricFamily(name, told, labels=["saga", "step", "action"])
+    for name, description, value in families:
+        family = GaugeMetricFamily(name, description, labels=["saga", "step", "action"])
         for queue in queues:
             family.add_metric(
                 [queue.saga, queue.step, "undo" if queue.undo else "run"], max(0.0, value(queue))

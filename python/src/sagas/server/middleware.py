@@ -103,10 +103,10 @@ def forwarded(scope: Scope, trusted: tuple[Network, ...]) -> None:
     client = scope.get("client")
     if not client or not is_among(client[0], trusted):
         return
-    told = [
+    values = [
         value.decode("latin-1") for name, value in scope["headers"] if name == b"x-forwarded-for"
     ]
-    for host in reversed([one.strip() for one in ",".join(told).split(",")]):
+    for host in reversed([address.strip() for address in ",".join(values).split(",")]):
         if not is_address(host):
             break
         scope["client"] = host, 0
@@ -139,10 +139,10 @@ def parted(raw: bytes) -> str | None:
     return "/".join(part.replace("/", SLASH) for part in parts)
 
 
-def foreign(told: dict[bytes, str], host: str) -> str | None:
+def foreign(fields: dict[bytes, str], host: str) -> str | None:
     """By which headers a request comes from a page of another site; None where it does not. Raises
     `ValueError`."""
-    origin, site = told.get(b"origin"), told.get(b"sec-fetch-site")
+    origin, site = fields.get(b"origin"), fields.get(b"sec-fetch-site")
     if origin is not None and urlsplit(origin).netloc != host:
         return (
             f"the request has the Origin {origin[:MOST_SHOWN]!r} and the Host "
@@ -158,8 +158,8 @@ def answer_of(scope: Scope, problem: Problem) -> Response:
     """How a request is refused: in the dashboard with a page, since a person reads it."""
     if scope["path"] != DASHBOARD and not scope["path"].startswith(f"{DASHBOARD}/"):
         return problems.response(problem)
-    told = {"title": problem.kind.title, "text": f"{problem}.", "back": DASHBOARD}
-    page = renderer.render("fault.html", {**told, "session": None, "here": ""})
+    values = {"title": problem.kind.title, "text": f"{problem}.", "back": DASHBOARD}
+    page = renderer.render("fault.html", {**values, "session": None, "here": ""})
     headers = problems.HEADERS.get(problem.kind.status, {}) | problem.headers
     return HTMLResponse(renderer.sent(page), problem.kind.status, headers)
 
@@ -189,24 +189,24 @@ class Guard:
         """Why a request is not even looked at. Raises `ValueError` where its head cannot be
         read."""
         check_headers(scope)
-        told = headers(scope)
-        if b"x-forwarded-for" in told or b"x-forwarded-proto" in told:
+        fields = headers(scope)
+        if b"x-forwarded-for" in fields or b"x-forwarded-proto" in fields:
             forwarded(scope, self.settings.trusted_proxies)
         path = parted(scope.get("raw_path") or scope["path"].encode())
         if path is None:
             return Problem("MalformedRequest", "a part of the path is no UTF-8")
         scope["path"] = path
-        host = told.get(b"host", "")
+        host = fields.get(b"host", "")
         if self.settings.tokens is None and not names_loopback(host):
             return Problem(
                 "UnknownHost", "without a token file only the loopback's own names are answered to"
             )
         if scope["method"] not in ("GET", "HEAD", "OPTIONS"):
-            if why := foreign(told, host):
+            if why := foreign(fields, host):
                 return Problem("CrossOrigin", f"only pages of this service change something: {why}")
-        length, most = told.get(b"content-length"), self.most(scope)
-        if length is not None and (not length.isdigit() or len(length) > 12 or int(length) > most):
-            return too_large(most)
+        length, limit = fields.get(b"content-length"), self.most(scope)
+        if length is not None and (not length.isdigit() or len(length) > 12 or int(length) > limit):
+            return too_large(limit)
         return None
 
     def most(self, scope: Scope) -> int:
@@ -218,9 +218,9 @@ class Guard:
         )
 
 
-def too_large(most: int) -> Problem:
+def too_large(limit: int) -> Problem:
     """A body has more bytes than it may have."""
-    return Problem("BodyTooLarge", f"a body has at most {most} bytes")
+    return Problem("BodyTooLarge", f"a body has at most {limit} bytes")
 
 
 def has_body(scope: Scope) -> bool:
@@ -317,8 +317,8 @@ class Passage:
         if message["type"] == "http.request":
             self._size += len(message.get("body", b""))
             self._is_read = not message.get("more_body", False)
-            if self._size > (most := self.guard.most(self.scope)):
-                await self._refuse(too_large(most))
+            if self._size > (limit := self.guard.most(self.scope)):
+                await self._refuse(too_large(limit))
                 raise Refusal
             if self._is_read and self._connection:
                 self._connection.is_whole()
@@ -343,12 +343,12 @@ class Passage:
         """Sends, with the headers that every answer has."""
         if message["type"] == "http.response.start":
             self.status = message["status"]
-            there = {name.lower() for name, _ in message["headers"]}
-            more = [pair for pair in HEADERS if pair[0] not in there]
-            message["headers"] = [*message["headers"], *more]
-            if self.guard.service.is_stopping and b"connection" not in there:
+            present = {name.lower() for name, _ in message["headers"]}
+            missing = [pair for pair in HEADERS if pair[0] not in present]
+            message["headers"] = [*message["headers"], *missing]
+            if self.guard.service.is_stopping and b"connection" not in present:
                 message["headers"].append((b"connection", b"close"))
-            if self._connection and b"content-length" in there:  # its body follows at once
+            if self._connection and b"content-length" in present:  # its body follows at once
                 self._connection.outlet.hold()
             await self._send(message)
             return

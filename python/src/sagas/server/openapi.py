@@ -82,17 +82,17 @@ def problems_of(operation: Operation) -> dict[int, list[str]]:
     names = [*ALWAYS, *operation.problems]
     names += WITH_TOKEN if operation.may else ()
     names += WITH_BODY if operation.body else ()
-    found: dict[int, list[str]] = {}
+    result: dict[int, list[str]] = {}
     for name in sorted(set(names)):
-        found.setdefault(PROBLEMS[name].status, []).append(name)
-    return dict(sorted(found.items()))
+        result.setdefault(PROBLEMS[name].status, []).append(name)
+    return dict(sorted(result.items()))
 
 
 def answer_of(answer: Answer) -> dict[str, Any]:
     """An answer as the document has it."""
-    told: dict[str, Any] = {"description": answer.told}
+    result: dict[str, Any] = {"description": answer.told}
     if answer.headers:
-        told["headers"] = {
+        result["headers"] = {
             name: {"description": text, "schema": {"type": "string"}}
             for name, text in answer.headers.items()
         }
@@ -101,10 +101,10 @@ def answer_of(answer: Answer) -> dict[str, Any]:
         content = {"schema": {"type": "string"}}
     if answer.example is not None:
         content["examples"] = {"example": {"value": answer.example}}
-    told["content"] = {answer.media_type: content}
+    result["content"] = {answer.media_type: content}
     if answer.or_text:
-        told["content"]["text/plain"] = {"schema": {"type": "string"}}
-    return told
+        result["content"]["text/plain"] = {"schema": {"type": "string"}}
+    return result
 
 
 def title_of(names: list[str]) -> str:
@@ -134,7 +134,7 @@ def problem_of(status: int, names: list[str]) -> dict[str, Any]:
 
 def parameters_of(operation: Operation) -> list[dict[str, Any]]:
     """The parameters of an operation, those of its path first."""
-    found: list[dict[str, Any]] = [
+    parameters: list[dict[str, Any]] = [
         {
             "name": name,
             "in": "path",
@@ -144,56 +144,56 @@ def parameters_of(operation: Operation) -> list[dict[str, Any]]:
         }
         for name in re.findall(r"{(\w+)}", operation.path)
     ]
-    for place, fields in (("query", operation.query), ("header", operation.headers)):
+    for location, fields in (("query", operation.query), ("header", operation.headers)):
         for name, field in fields.items():
             schema = dict(field.schema())
-            told = {"name": name, "in": place, "description": schema.pop("description", "")}
-            found.append({**told, "required": field.is_required, "schema": schema})
-    return found
+            parameter = {"name": name, "in": location, "description": schema.pop("description", "")}
+            parameters.append({**parameter, "required": field.is_required, "schema": schema})
+    return parameters
 
 
 def operation_of(operation: Operation) -> dict[str, Any]:
     """An operation as the document has it."""
     summary, more = operation.told
-    told: dict[str, Any] = {"operationId": operation.name, "tags": [operation.tag]}
-    told["summary"] = summary
+    result: dict[str, Any] = {"operationId": operation.name, "tags": [operation.tag]}
+    result["summary"] = summary
     if more:
-        told["description"] = more
+        result["description"] = more
     if operation.may:
         roles = [role for role, may in ROLES.items() if operation.may in may]
-        told["x-roles"] = roles
-        told["security"] = [{"token": []}]
+        result["x-roles"] = roles
+        result["security"] = [{"token": []}]
     else:
-        told["security"] = []
+        result["security"] = []
     if parameters := parameters_of(operation):
-        told["parameters"] = parameters
+        result["parameters"] = parameters
     if operation.body:
         content: dict[str, Any] = {"schema": operation.body.schema()}
         if operation.body.example is not None:
             content["examples"] = {"example": {"value": operation.body.example}}
-        told["requestBody"] = {
+        result["requestBody"] = {
             "required": not operation.body.is_optional,
             "content": {"application/json": content},
         }
-    found = {str(status): answer_of(one) for status, one in operation.answers.items()}
+    responses = {str(status): answer_of(answer) for status, answer in operation.answers.items()}
     for status, names in problems_of(operation).items():
-        found.setdefault(str(status), {"$ref": f"#/components/responses/{title_of(names)}"})
+        responses.setdefault(str(status), {"$ref": f"#/components/responses/{title_of(names)}"})
     if any(answer.headers.get("ETag") for answer in operation.answers.values()):
-        found["304"] = {"description": "Nothing has changed since `If-None-Match`."}
-    told["responses"] = dict(sorted(found.items()))
-    return told
+        responses["304"] = {"description": "Nothing has changed since `If-None-Match`."}
+    result["responses"] = dict(sorted(responses.items()))
+    return result
 
 
 def document(operations: Iterable[Operation]) -> dict[str, Any]:
     """The document."""
     paths: dict[str, Any] = {}
-    found: dict[str, Record] = {answers.PROBLEM.name: answers.PROBLEM}
+    records_by_name: dict[str, Record] = {answers.PROBLEM.name: answers.PROBLEM}
     shared: dict[str, Any] = {}
-    for one in operations:
-        paths.setdefault(one.path, {})[one.method.lower()] = operation_of(one)
-        for shape in [one.body, *(answer.shape for answer in one.answers.values())]:
-            found |= records(shape) if shape else {}
-        for status, names in problems_of(one).items():
+    for operation in operations:
+        paths.setdefault(operation.path, {})[operation.method.lower()] = operation_of(operation)
+        for shape in [operation.body, *(answer.shape for answer in operation.answers.values())]:
+            records_by_name |= records(shape) if shape else {}
+        for status, names in problems_of(operation).items():
             shared[title_of(names)] = problem_of(status, names)
     return {
         "openapi": "3.1.0",
@@ -206,11 +206,11 @@ def document(operations: Iterable[Operation]) -> dict[str, Any]:
         },
         "jsonSchemaDialect": "https://json-schema.org/draft/2020-12/schema",
         "servers": [{"url": "/"}],
-        "tags": [{"name": name, "description": told} for name, told in TAGS.items()],
+        "tags": [{"name": name, "description": description} for name, description in TAGS.items()],
         "security": [{"token": []}],
         "paths": dict(sorted(paths.items())),
         "components": {
-            "schemas": {name: one.whole() for name, one in sorted(found.items())},
+            "schemas": {name: operation.whole() for name, operation in sorted(records_by_name.items())},
             "responses": dict(sorted(shared.items())),
             "securitySchemes": {
                 "token": {

@@ -105,7 +105,7 @@ class Operation:
         summary, _, more = (self.handler.__doc__ or "").partition("\n\n")
         return " ".join(summary.split()).rstrip("."), " ".join(more.split())
 
-    async def call(self, request: Request, who: Who, is_open: bool) -> Call:
+    async def call(self, request: Request, principal: Who, is_open: bool) -> Call:
         """What a request asks. Raises `Problem`."""
         path = {name: unslashed(text) for name, text in request.path_params.items()}
         try:
@@ -115,7 +115,7 @@ class Operation:
             raise not_found() from None
         query = read_query(self.query, request, is_open)
         body = None if self.body is None else await read_body(self.body, request)
-        return Call(request, who, path, query, body)
+        return Call(request, principal, path, query, body)
 
 
 KEY = Text(most=512, least=1)
@@ -129,28 +129,28 @@ def not_found() -> Problem:
 def read_query(fields: Mapping[str, Field], request: Request, is_open: bool) -> dict[str, Any]:
     """The parameters of a query. `is_open`: of a page, which passes over others. Raises
     `Problem`."""
-    found = {name: field.default for name, field in fields.items()}
+    values = {name: field.default for name, field in fields.items()}
     seen: set[str] = set()
     try:
         for name, text in request.query_params.multi_items():
             shape = fields[name].shape if name in fields else None
             if isinstance(shape, Several):
-                some = [*(found[name] or ()), shape.of.of_text(text, name)]
-                found[name] = shape.read(some, name)
+                texts = [*(values[name] or ()), shape.of.of_text(text, name)]
+                values[name] = shape.read(texts, name)
             elif name in fields and name not in seen and (text or not is_open):
-                found[name] = fields[name].shape.of_text(text, name)
+                values[name] = fields[name].shape.of_text(text, name)
             elif name in seen:
                 raise Invalid(name, "it is there twice")
             elif name not in fields and not is_open:
                 shown = name[:MOST_SHOWN]
                 raise Invalid(shown, f"there is no such parameter{meant(shown, [*fields])}")
             seen.add(name)
-        for name, value in found.items():
+        for name, value in values.items():
             if value is REQUIRED:
                 raise Invalid(name, "it is missing")
     except Invalid as error:
         raise invalid(error) from None
-    return found
+    return values
 
 
 async def read_body(shape: Record, request: Request) -> dict[str, Any]:
@@ -231,11 +231,11 @@ class Resource:
                 "MethodNotAllowed", f"this path has {self.allowed}", headers={"Allow": self.allowed}
             )
         if operation.may is None:
-            who = NOBODY
+            principal = NOBODY
             check_room(request, is_operator=self._is_page and still_of(request) is not None)
         else:
-            who = admit(request, operation.may)
-        call = await operation.call(request, who, self._is_page)
+            principal = admit(request, operation.may)
+        call = await operation.call(request, principal, self._is_page)
         if method == "HEAD" and operation.streams:
             return Response(media_type="text/event-stream")
         return await operation.handler(call)
@@ -255,36 +255,36 @@ class Routes:
         self.tag, self.prefix, self.is_page = tag, prefix, is_page
         self.operations: list[Operation] = []
 
-    def get(self, path: str, name: str = "", **words: Any) -> Callable[[Handler], Handler]:
+    def get(self, path: str, name: str = "", **options: Any) -> Callable[[Handler], Handler]:
         """Declare what `GET` does."""
-        return self._declare("GET", path, name, words)
+        return self._declare("GET", path, name, options)
 
-    def post(self, path: str, name: str = "", **words: Any) -> Callable[[Handler], Handler]:
+    def post(self, path: str, name: str = "", **options: Any) -> Callable[[Handler], Handler]:
         """Declare what `POST` does."""
-        return self._declare("POST", path, name, words)
+        return self._declare("POST", path, name, options)
 
-    def delete(self, path: str, name: str = "", **words: Any) -> Callable[[Handler], Handler]:
+    def delete(self, path: str, name: str = "", **options: Any) -> Callable[[Handler], Handler]:
         """Declare what `DELETE` does."""
-        return self._declare("DELETE", path, name, words)
+        return self._declare("DELETE", path, name, options)
 
     def _declare(
-        self, method: str, path: str, name: str, words: dict[str, Any]
+        self, method: str, path: str, name: str, options: dict[str, Any]
     ) -> Callable[[Handler], Handler]:
         def declare(handler: Handler) -> Handler:
             self.operations.append(
-                Operation(method, self.prefix + path, name, self.tag, handler, **words)
+                Operation(method, self.prefix + path, name, self.tag, handler, **options)
             )
             return handler
 
         return declare
 
 
-def resources(some: list[Routes], refuse: Refuse, refuse_page: Refuse) -> list[Route]:
+def resources(groups: list[Routes], refuse: Refuse, refuse_page: Refuse) -> list[Route]:
     """The routes of a router: one for each path."""
-    found: dict[str, Resource] = {}
-    for routes in some:
-        for one in routes.operations:
+    result: dict[str, Resource] = {}
+    for routes in groups:
+        for operation in routes.operations:
             shown = refuse_page if routes.is_page else refuse
-            resource = found.setdefault(one.path, Resource(one.path, routes.is_page, shown))
-            resource.operations[one.method] = one
-    return [Route(path, resource) for path, resource in found.items()]
+            resource = result.setdefault(operation.path, Resource(operation.path, routes.is_page, shown))
+            resource.operations[operation.method] = operation
+    return [Route(path, resource) for path, resource in result.items()]

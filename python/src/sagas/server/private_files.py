@@ -24,5 +24,5 @@ def warning(path: pathlib.Path) -> str | None:
         return None
     if not mode & (OTHERS_READ | GROUP_WRITES):
         return None
-    what = "every user may read it" if mode & OTHERS_READ else "its group may write it"
-    return f"{path}: {what} (mode {mode & 0o777:04o}). Run chmod 600, or 640 for a group that reads"
+    problem = "every user may read it" if mode & OTHERS_READ else "its group may write it"
+    return f"{path}: {problem} (mode {mode & 0o777:04o}). Run chmod 600, or 640 for a group that reads"

@@ -124,13 +124,13 @@ def of(error: SagasError) -> Problem:
 
 def body(problem: Problem) -> dict[str, Any]:
     """What is answered of a problem."""
-    told: dict[str, Any] = {
+    fields: dict[str, Any] = {
         "type": PREFIX + problem.name,
         "title": problem.kind.title,
         "status": problem.kind.status,
         "detail": str(problem)[:MOST_DETAIL],
     }
-    return told if problem.field is None else {**told, "field": problem.field}
+    return fields if problem.field is None else {**fields, "field": problem.field}
 
 
 def response(problem: Problem) -> Json:

@@ -64,16 +64,16 @@ class Quotas:
         self._places: dict[Place, None] = {}
         self._added: dict[str, Quota] = {}  # what these are in all, by the names of tokens
 
-    def of(self, who: Who) -> Quota:
+    def of(self, principal: Who) -> Quota:
         """The quota of a token."""
-        sagas, size = who.limits.open_sagas, who.limits.open_bytes
+        sagas, size = principal.limits.open_sagas, principal.limits.open_bytes
         default = self._default
         return Quota(
             default.sagas if sagas is None else sagas, default.bytes if size is None else size
         )
 
     async def take(
-        self, who: Who, size: int, is_there: Callable[[], Awaitable[bool]]
+        self, principal: Who, size: int, is_there: Callable[[], Awaitable[bool]]
     ) -> Place | None:
         """Admit a start; None where there is such a saga: it takes no place.
 
@@ -85,38 +85,38 @@ class Quotas:
         Raises:
             Problem: The quota is used up.
         """
-        asked, quota = time.monotonic(), self.of(who)
-        if asked > self._began + OLD:
+        now, quota = time.monotonic(), self.of(principal)
+        if now > self._began + OLD:
             counting = self._begin()
             if self._began == NEVER:
                 await asyncio.shield(counting)
-        if self._left(who.name, quota, size) < 0:
-            while self._began < asked:
+        if self._left(principal.name, quota, size) < 0:
+            while self._began < now:
                 await self._count()
-            if self._left(who.name, quota, size) < 0:
+            if self._left(principal.name, quota, size) < 0:
                 if await is_there():
                     return None
                 raise Problem(
                     "QuotaExceeded",
-                    f"{who.name} may have {quota.sagas:,} open sagas with {quota.bytes:,} bytes of "
+                    f"{principal.name} may have {quota.sagas:,} open sagas with {quota.bytes:,} bytes of "
                     "input in all: wait until some of them have ended",
                 )
-        place = Place(who.name, size)
-        self._places[place] = None
-        self._add(place, 1)
-        return place
+        start = Place(principal.name, size)
+        self._places[start] = None
+        self._add(start, 1)
+        return start
 
-    def _add(self, place: Place, sign: int) -> None:
-        sagas, total = self._added.get(place.name, (0, 0))
-        self._added[place.name] = Quota(sagas + sign, total + sign * place.size)
+    def _add(self, start: Place, sign: int) -> None:
+        sagas, total = self._added.get(start.name, (0, 0))
+        self._added[start.name] = Quota(sagas + sign, total + sign * start.size)
 
-    def done(self, place: Place, is_new: bool) -> None:
+    def done(self, start: Place, is_new: bool) -> None:
         """A start was answered: it made a saga, or none."""
         if is_new:
-            place.done_at = time.monotonic()
-        elif place in self._places:
-            del self._places[place]
-            self._add(place, -1)
+            start.done_at = time.monotonic()
+        elif start in self._places:
+            del self._places[start]
+            self._add(start, -1)
 
     def _left(self, name: str, quota: Quota, size: int) -> int:
         """Below 0 where one more is too many."""
@@ -146,10 +146,10 @@ class Quotas:
             ended = time.monotonic()
             self._next = ended + max(LEAST, SHARE * (ended - began))
             self._began = began
-        places = [one for one in self._places if one.done_at is None or one.done_at > began]
-        self._places, self._added = dict.fromkeys(places), {}
-        for place in places:
-            self._add(place, 1)
+        uncounted = [pending for pending in self._places if pending.done_at is None or pending.done_at > began]
+        self._places, self._added = dict.fromkeys(uncounted), {}
+        for start in uncounted:
+            self._add(start, 1)
 
     async def rest(self) -> None:
         """Wait until nothing is counted."""

@@ -26,13 +26,13 @@ KINDS = {
 
 
 def _environment() -> Environment:
-    found = Environment(
+    environment = Environment(
         loader=FileSystemLoader(HERE / "templates"),
         autoescape=True,
         trim_blocks=True,
         lstrip_blocks=True,
     )
-    found.filters.update(
+    environment.filters.update(
         ago=lambda at: wording.ago(time.time() - at),
         iso=wording.iso,
         clock=wording.clock,
@@ -46,12 +46,12 @@ def _environment() -> Environment:
         outcome=lambda outcome: wording.OUTCOMES[outcome],
         wait=wording.wait,
         decision=lambda decision: wording.DECISIONS[decision],
-        act=lambda what: wording.ACTS.get(what, what),
+        act=lambda command: wording.ACTS.get(command, command),
         cost=cost_text,
         count=lambda number: f"{number:,}",
         path=lambda key: quote(key, safe=""),
     )
-    return found
+    return environment
 
 
 def cost_text(cost: int | str | None) -> str:
@@ -62,11 +62,11 @@ def cost_text(cost: int | str | None) -> str:
 
 
 def _static() -> dict[str, tuple[str, bytes, str]]:
-    found = {}
+    files = {}
     for path in (HERE / "static").iterdir():
         data = path.read_bytes()
-        found[path.name] = KINDS[path.suffix], data, f'"{hashlib.sha256(data).hexdigest()[:16]}"'
-    return found
+        files[path.name] = KINDS[path.suffix], data, f'"{hashlib.sha256(data).hexdigest()[:16]}"'
+    return files
 
 
 ENVIRONMENT = _environment()
@@ -74,9 +74,9 @@ STATIC = _static()
 """Kind, bytes and tag of each file, by name."""
 
 
-def render(template: str, told: dict[str, Any]) -> str:
+def render(template: str, values: dict[str, Any]) -> str:
     """A page."""
-    return ENVIRONMENT.get_template(template).render(told)
+    return ENVIRONMENT.get_template(template).render(values)
 
 
 Within = Callable[[Callable[[], bytes]], Awaitable[bytes]]
@@ -87,15 +87,15 @@ class Page(HTMLResponse):
     """A page, which is made when it is sent: a large one takes long, so it is made `within` a
     thread."""
 
-    def __init__(self, within: Within, template: str, told: dict[str, Any], status: int) -> None:
+    def __init__(self, within: Within, template: str, values: dict[str, Any], status: int) -> None:
         super().__init__(status_code=status)
         del self.headers["content-length"]
-        self._within, self._template, self._told = within, template, told
+        self._within, self._template, self._told = within, template, values
 
-    async def __call__(self, *words: Any) -> None:
+    async def __call__(self, *arguments: Any) -> None:
         self.body = await self._within(lambda: sent(render(self._template, self._told)))
         self.headers["content-length"] = str(len(self.body))
-        await super().__call__(*words)
+        await super().__call__(*arguments)
 
 
 def compile_all() -> None:

@@ -59,20 +59,20 @@ def tagged(request: Request, answer: Response) -> Response:
     return answer
 
 
-def has_tag(told: str, tag: str) -> bool:
+def has_tag(header: str, tag: str) -> bool:
     """Whether a header `If-None-Match` names a tag; weak or not is one for a GET."""
-    return any(one.strip().removeprefix("W/") in (tag, "*") for one in told.split(","))
+    return any(candidate.strip().removeprefix("W/") in (tag, "*") for candidate in header.split(","))
 
 
 def text_of(at: float) -> str:
     """A time as RFC 3339 has it, in UTC and with milliseconds."""
-    found = datetime.datetime.fromtimestamp(at, datetime.timezone.utc)
-    return found.isoformat(timespec="milliseconds").replace("+00:00", "Z")
+    moment = datetime.datetime.fromtimestamp(at, datetime.timezone.utc)
+    return moment.isoformat(timespec="milliseconds").replace("+00:00", "Z")
 
 
-def times(**some: float | None) -> dict[str, Any]:
+def times(**moments: float | None) -> dict[str, Any]:
     """Each time in seconds since 1970, and beside it as text: `started` and `started_at`."""
-    told: dict[str, Any] = {}
-    for name, at in some.items():
-        told[name], told[f"{name}_at"] = at, None if at is None else text_of(at)
-    return told
+    fields: dict[str, Any] = {}
+    for name, at in moments.items():
+        fields[name], fields[f"{name}_at"] = at, None if at is None else text_of(at)
+    return fields

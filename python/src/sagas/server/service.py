@@ -57,11 +57,11 @@ logger, http = logging.getLogger("sagas.server"), logging.getLogger("sagas.http"
 MOST_WORKERS = MOST_THERE = 1000
 SHARED = 200
 """Workers that one service tells another of."""
-FAILED = 5.0
+FAILED_COMMIT = 5.0
 """Seconds for which a commit that failed says that none can be made, unless one is made: behind
 that requests have to come again to tell.
 """
-TOLD = 1.0
+PEER_ANSWER_KEPT = 1.0
 """Seconds for which what another service said of a saga is told again."""
 MOST_DETAIL = 500
 """Characters of an event's detail that other services are told."""
@@ -156,14 +156,14 @@ class Service:
             await peers.open()
             self._peers = peers
 
-    def _heard(self, told: Any) -> None:
-        self.hub.publish(Event(**told))
+    def _heard(self, fields: Any) -> None:
+        self.hub.publish(Event(**fields))
 
-    async def _workers(self, told: None) -> list[Any]:
-        return [[one.name, one.at, one.steps] for one in list(self.workers.values())[-SHARED:]]
+    async def _workers(self, argument: None) -> list[Any]:
+        return [[worker.name, worker.at, worker.steps] for worker in list(self.workers.values())[-SHARED:]]
 
     async def _begun(self, key: str) -> list[Any]:
-        return [dataclasses.astuple(one) for one in self.store.active_attempts(key)]
+        return [dataclasses.astuple(attempt) for attempt in self.store.active_attempts(key)]
 
     def _event(self, event: Event) -> None:
         if event.name == "commit_failed":
@@ -173,8 +173,8 @@ class Service:
         self.metrics.event(event)
         self.webhooks.event(event)
         self.hub.publish(event)
-        if self._peers and self._peers.others and not self._peers.tell(told := told_of(event)):
-            self._peers.tell({**told, "detail": None})
+        if self._peers and self._peers.others and not self._peers.tell(fields := told_of(event)):
+            self._peers.tell({**fields, "detail": None})
         if (hook := self.settings.store.on_event) is not None:
             hook(event)
 
@@ -182,7 +182,7 @@ class Service:
         """None where it takes requests; else why not."""
         if self.stopping.done():
             return "it is about to stop"
-        if self.unwritten is not None and time.monotonic() < self.unwritten + FAILED:
+        if self.unwritten is not None and time.monotonic() < self.unwritten + FAILED_COMMIT:
             return "the store could not be written"
         if not self.store.holds():
             return "the store cannot be reached"
@@ -227,55 +227,55 @@ class Service:
         """What has begun of a saga at the node that drives it; none where it does not say."""
         if self._peers is None:
             return []
-        until, found = self._there.get(view.key, (0.0, list[ActiveAttempt]()))
+        until, attempts = self._there.get(view.key, (0.0, list[ActiveAttempt]()))
         if until > time.monotonic():  # callers ask again and again
-            return found
+            return attempts
         try:
             node = await self._peers.owner(tokens.shard_of(view.token))
             is_other = node and node != self._peers.node
-            told = await self._peers.call(node, "begun", view.key) if node and is_other else []
-            found = [ActiveAttempt(*one) for one in told]
+            rows = await self._peers.call(node, "begun", view.key) if node and is_other else []
+            attempts = [ActiveAttempt(*row) for row in rows]
         except (SagasError, TypeError):  # it does not answer, or is of another release
-            found = []
+            attempts = []
         if len(self._there) >= MOST_THERE:
             self._there.clear()
-        self._there[view.key] = time.monotonic() + TOLD, found
-        return found
+        self._there[view.key] = time.monotonic() + PEER_ANSWER_KEPT, attempts
+        return attempts
 
-    async def queues(self, who: Who) -> list[Queue]:
+    async def queues(self, principal: Who) -> list[Queue]:
         """What waits for workers, at any node, as far as it is theirs to see."""
-        found = await self.store.workers.queues()
+        all_queues = await self.store.workers.queues()
         return [
-            one for one in found if who.does(f"{one.saga}/{one.step}{'/undo' if one.undo else ''}")
+            queue for queue in all_queues if principal.does(f"{queue.saga}/{queue.step}{'/undo' if queue.undo else ''}")
         ]
 
-    async def seen(self, who: Who) -> list[Seen]:
+    async def seen(self, principal: Who) -> list[Seen]:
         """The workers that asked lately, at any node, the latest first, with the steps that are
         theirs to see."""
-        told = await self._peers.ask_all("workers") if self._peers else []
-        others = [Seen(*one) for some in told for one in some]
-        found: dict[str, Seen] = {}
-        for one in sorted([*self.workers.values(), *others], key=lambda one: one.at):
+        replies = await self._peers.ask_all("workers") if self._peers else []
+        others = [Seen(*worker) for reply in replies for worker in reply]
+        latest: dict[str, Seen] = {}
+        for worker in sorted([*self.workers.values(), *others], key=lambda worker: worker.at):
             steps = (
-                one.steps
-                if who.definitions is None
-                else [step for step in one.steps if who.does(step)]
+                worker.steps
+                if principal.definitions is None
+                else [step for step in worker.steps if principal.does(step)]
             )
-            found.pop(one.name, None)
+            latest.pop(worker.name, None)
             if steps:
-                found[one.name] = Seen(one.name, one.at, steps)
-        return list(reversed(found.values()))
+                latest[worker.name] = Seen(worker.name, worker.at, steps)
+        return list(reversed(latest.values()))
 
     # -- what is whose to see
 
-    async def check_sees(self, who: Who, key: str) -> None:
+    async def check_sees(self, principal: Who, key: str) -> None:
         """Raises `NoSuchSaga` where the saga is of a definition, or has a key, that is not theirs
         to see: in the words for a key that nobody has."""
-        if not who.scope.has_key(key):
+        if not principal.scope.has_key(key):
             raise NoSuchSaga(f"no saga has the key {key!r}")
-        if who.definitions is not None:
+        if principal.definitions is not None:
             row = await self.look(one_saga.find(key))
-            if row is None or not who.scope.has_saga(row.saga, key):
+            if row is None or not principal.scope.has_saga(row.saga, key):
                 raise NoSuchSaga(f"no saga has the key {key!r}")
 
     async def is_approval(self, key: str, step: str) -> bool:
@@ -302,11 +302,11 @@ class Service:
 
     async def start(
         self,
-        who: Who,
+        principal: Who,
         size: int,
         saga: Saga,
         key: str,
-        given: Any,
+        input: Any,
         labels: Labels | None = None,
         deadline: float | None = None,
         traceparent: str | None = None,
@@ -314,13 +314,13 @@ class Service:
         """Starts a saga, of which `size` bytes were sent. Raises what `Store.start` raises, and
         `StoreUnavailable` where that takes too long; of a key's saga that is not theirs to see
         nothing is told. Raises `Problem` where the token has too many open sagas."""
-        token = None if self.tokens is None else who.name
-        place = token and await self.quotas.take(who, size, lambda: self._is_there(key))
+        token = None if self.tokens is None else principal.name
+        pending = token and await self.quotas.take(principal, size, lambda: self._is_there(key))
         is_new = False
         try:
             async with asyncio.timeout(self.settings.patience):
                 run = await self.store._start(
-                    token, saga, key, given, labels, deadline, traceparent
+                    token, saga, key, input, labels, deadline, traceparent
                 )
             is_new = run.new
             self.store._replies(key)
@@ -331,16 +331,16 @@ class Service:
                 "may still do so. Send the same request again"
             ) from None
         except KeyConflict:
-            if who.definitions is None:
+            if principal.definitions is None:
                 raise
             try:
-                await self.check_sees(who, key)
+                await self.check_sees(principal, key)
             except NoSuchSaga:
                 raise KeyConflict(f"the key {key!r} is another saga's: take another key") from None
             raise
         finally:
-            if place:
-                self.quotas.done(place, is_new)
+            if pending:
+                self.quotas.done(pending, is_new)
 
     async def _is_there(self, key: str) -> bool:
         return await self.look(one_saga.find(key)) is not None
@@ -355,25 +355,25 @@ class Service:
         name = parted(path.encode())
         return name is not None and any(page.fullmatch(name) for page in self.pages)
 
-    def saga_named(self, who: Who, name: str, version: int | None) -> Saga:
+    def saga_named(self, principal: Who, name: str, version: int | None) -> Saga:
         """The definition of a name; without a version its newest. Raises `DefinitionError`, which
         names those that are theirs to see."""
-        found = [
+        matches = [
             saga
             for saga in self.settings.sagas
             if saga.name == name and version in (None, saga.version)
         ]
-        if not found:
-            there = ", ".join(self.names(who))
+        if not matches:
+            names = ", ".join(self.names(principal))
             raise DefinitionError(
                 "there is no definition "
-                f"{name!r}{'' if version is None else f' of version {version}'}, but {there[:400]}"
+                f"{name!r}{'' if version is None else f' of version {version}'}, but {names[:400]}"
             )
-        return max(found, key=lambda saga: saga.version)
+        return max(matches, key=lambda saga: saga.version)
 
-    def names(self, who: Who) -> list[str]:
+    def names(self, principal: Who) -> list[str]:
         """The definitions that are theirs to see."""
-        return sorted({saga.name for saga in self.settings.sagas if who.sees(saga.name)})
+        return sorted({saga.name for saga in self.settings.sagas if principal.sees(saga.name)})
 
     def words(self) -> set[str]:
         """The steps, and compensations, that workers may ask for, as they ask for them."""
@@ -381,13 +381,13 @@ class Service:
 
     @functools.cached_property
     def _words(self) -> set[str]:
-        found = set()
+        result = set()
         for saga in self.settings.sagas:
             for name, step in saga.declared_steps:
-                found.add(f"{saga.name}/{name}")
+                result.add(f"{saga.name}/{name}")
                 if step.has_compensation:
-                    found.add(f"{saga.name}/{name}/undo")
-        return found
+                    result.add(f"{saga.name}/{name}/undo")
+        return result
 
     def saw(self, worker: str, steps: list[str]) -> None:
         """A worker asked for tasks."""
@@ -403,7 +403,7 @@ class Service:
         self.metrics.request(scope["method"], status, seconds, waits)
         level = logging.ERROR if status >= 500 else logging.INFO
         if http.isEnabledFor(level):
-            told = {
+            fields = {
                 "method": scope["method"],
                 "path": path,
                 "status": status,
@@ -411,13 +411,13 @@ class Service:
                 "from": (scope.get("client") or ["?"])[0],
             }
             if "sagas.who" in scope:
-                told["who"] = scope["sagas.who"]
-            http.log(level, "%s %s %d", scope["method"], path, status, extra={"sagas": told})
+                fields["who"] = scope["sagas.who"]
+            http.log(level, "%s %s %d", scope["method"], path, status, extra={"sagas": fields})
 
 
 def told_of(event: Event) -> dict[str, Any]:
     """An event for other services."""
-    told = {name: value for name, value in dataclasses.asdict(event).items() if value is not None}
+    fields = {name: value for name, value in dataclasses.asdict(event).items() if value is not None}
     if event.detail is not None:
-        told["detail"] = event.detail[:MOST_DETAIL]
-    return told
+        fields["detail"] = event.detail[:MOST_DETAIL]
+    return fields

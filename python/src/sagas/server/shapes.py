@@ -66,24 +66,24 @@ class Text(Shape):
     def read(self, value: Any, field: str) -> str:
         if not isinstance(value, str):
             raise Invalid(field, "must be a string")
-        found = value.strip() if self.strip else value
-        if len(found) < self.least:
+        text = value.strip() if self.strip else value
+        if len(text) < self.least:
             least = "not be empty" if self.least == 1 else f"have at least {self.least} characters"
             raise Invalid(field, f"must {least}")
-        if self.most is not None and len(found) > self.most:
+        if self.most is not None and len(text) > self.most:
             raise Invalid(field, f"must have at most {self.most} characters")
-        if self.pattern is not None and not re.fullmatch(self.pattern, found):
+        if self.pattern is not None and not re.fullmatch(self.pattern, text):
             raise Invalid(field, f"must match {self.pattern}")
-        return found
+        return text
 
     def schema(self) -> Schema:
-        words = {
+        keywords = {
             "minLength": self.least or None,
             "maxLength": self.most,
             "pattern": None if self.pattern is None else f"^{self.pattern}$",
             "format": self.form,
         }
-        return {"type": "string"} | {name: one for name, one in words.items() if one is not None}
+        return {"type": "string"} | {name: value for name, value in keywords.items() if value is not None}
 
 
 @dataclasses.dataclass(frozen=True)
@@ -127,9 +127,9 @@ class Number(Shape):
         return self.read(int(text) if self.whole else float(text), field)
 
     def schema(self) -> Schema:
-        words = {"minimum": self.least, "maximum": self.most}
+        keywords = {"minimum": self.least, "maximum": self.most}
         kind = "integer" if self.whole else "number"
-        return {"type": kind} | {name: one for name, one in words.items() if one is not None}
+        return {"type": kind} | {name: value for name, value in keywords.items() if value is not None}
 
 
 @dataclasses.dataclass(frozen=True)
@@ -161,10 +161,10 @@ class Nullable(Shape):
         return self.shape.of_text(text, field)
 
     def schema(self) -> Schema:
-        told = self.shape.schema()
-        if "$ref" in told or "enum" in told:
-            return {"oneOf": [told, {"type": "null"}]}
-        return told if "type" not in told else {**told, "type": [told["type"], "null"]}
+        inner = self.shape.schema()
+        if "$ref" in inner or "enum" in inner:
+            return {"oneOf": [inner, {"type": "null"}]}
+        return inner if "type" not in inner else {**inner, "type": [inner["type"], "null"]}
 
 
 @dataclasses.dataclass(frozen=True)
@@ -180,12 +180,12 @@ class Several(Shape):
             raise Invalid(field, "must be a list")
         if len(value) < self.least or (self.most is not None and len(value) > self.most):
             raise Invalid(field, f"must have from {self.least} to {self.most} entries")
-        return [self.of.read(one, f"{field}.{place}") for place, one in enumerate(value)]
+        return [self.of.read(item, f"{field}.{index}") for index, item in enumerate(value)]
 
     def schema(self) -> Schema:
-        words = {"minItems": self.least or None, "maxItems": self.most}
-        found = {"type": "array", "items": self.of.schema()}
-        return found | {name: one for name, one in words.items() if one is not None}
+        keywords = {"minItems": self.least or None, "maxItems": self.most}
+        result = {"type": "array", "items": self.of.schema()}
+        return result | {name: value for name, value in keywords.items() if value is not None}
 
 
 @dataclasses.dataclass(frozen=True)
@@ -197,7 +197,7 @@ class Mapped(Shape):
     def read(self, value: Any, field: str) -> dict[str, Any]:
         if not isinstance(value, dict):
             raise Invalid(field, "must be an object")
-        return {name: self.of.read(one, f"{field}.{name}") for name, one in value.items()}
+        return {name: self.of.read(item, f"{field}.{name}") for name, item in value.items()}
 
     def schema(self) -> Schema:
         return {"type": "object", "additionalProperties": self.of.schema()}
@@ -223,12 +223,12 @@ class Field:
 
     def schema(self) -> Schema:
         """Its shape, with what is told of it."""
-        found = self.shape.schema()
+        result = self.shape.schema()
         if self.told:
-            found = {**found, "description": self.told}
+            result = {**result, "description": self.told}
         if not self.is_required and self.default is not None:
-            found = {**found, "default": self.default}
-        return found
+            result = {**result, "default": self.default}
+        return result
 
 
 @dataclasses.dataclass(frozen=True, eq=False)
@@ -251,16 +251,16 @@ class Record(Shape):
     def whole(self) -> Schema:
         """The schema itself, which others refer to."""
         required = [name for name, field in self.fields.items() if field.is_required]
-        found: Schema = {
+        result: Schema = {
             "type": "object",
             "properties": {name: field.schema() for name, field in self.fields.items()},
             "additionalProperties": False,
         }
         if required:
-            found["required"] = required
+            result["required"] = required
         if self.told:
-            found["description"] = self.told
-        return found if self.example is None else {**found, "examples": [self.example]}
+            result["description"] = self.told
+        return result if self.example is None else {**result, "examples": [self.example]}
 
     @property
     def is_optional(self) -> bool:
@@ -268,35 +268,35 @@ class Record(Shape):
         return not any(field.is_required for field in self.fields.values())
 
 
-def read_fields(fields: Mapping[str, Field], value: dict[str, Any], place: str) -> dict[str, Any]:
+def read_fields(fields: Mapping[str, Field], value: dict[str, Any], path: str) -> dict[str, Any]:
     """The values of all fields; those that are not there by their defaults. Raises `Invalid`."""
     for name in value:
         if name not in fields:
             shown = name[:MOST_SHOWN]
-            raise Invalid(within(place, shown), f"there is no such field{meant(shown, [*fields])}")
-    found: dict[str, Any] = {}
+            raise Invalid(within(path, shown), f"there is no such field{meant(shown, [*fields])}")
+    result: dict[str, Any] = {}
     for name, field in fields.items():
         if name in value:
-            found[name] = field.shape.read(value[name], within(place, name))
+            result[name] = field.shape.read(value[name], within(path, name))
         elif field.is_required:
-            raise Invalid(within(place, name), "it is missing")
+            raise Invalid(within(path, name), "it is missing")
         else:
-            found[name] = field.default
-    return found
+            result[name] = field.default
+    return result
 
 
-def within(place: str, name: str) -> str:
+def within(path: str, name: str) -> str:
     """The place of a field of an object."""
-    return f"{place}.{name}" if place else name
+    return f"{path}.{name}" if path else name
 
 
 def records(shape: Shape) -> dict[str, Record]:
     """The records that a shape is made of, by their names."""
     if isinstance(shape, Record):
-        found = {shape.name: shape}
+        result = {shape.name: shape}
         for field in shape.fields.values():
-            found |= records(field.shape)
-        return found
+            result |= records(field.shape)
+        return result
     if isinstance(shape, Nullable):
         return records(shape.shape)
     return records(shape.of) if isinstance(shape, (Several, Mapped)) else {}

@@ -69,11 +69,11 @@ class StepTable:
         self,
         unfolding: Unfolding,
         steps: Sequence[StepView],
-        tolds: Sequence[Told],
+        displays: Sequence[Told],
         choices: Mapping[str, Choice],
         items: Mapping[str, str],
     ) -> None:
-        self._unfolding, self._steps, self._tolds = unfolding, steps, tolds
+        self._unfolding, self._steps, self._tolds = unfolding, steps, displays
         self._choices, self._items = choices, items
         self.blocks = unfolding.groups.blocks(len(steps), unfolding.names)
         self._name_of = {
@@ -105,8 +105,8 @@ class StepTable:
     def _tree(self) -> list[Part]:
         top, nodes = list[Part](), dict[str, Node]()
         for block in self.blocks:
-            parts, some = top, self._unfolding.groups.of(block.steps[0])
-            for group in some[: some.index(block.group)] if block.group else some:
+            parts, enclosing = top, self._unfolding.groups.of(block.steps[0])
+            for group in enclosing[: enclosing.index(block.group)] if block.group else enclosing:
                 if group.name not in nodes:
                     nodes[group.name] = Node(group)
                     parts.append(nodes[group.name])
@@ -123,21 +123,21 @@ class StepTable:
     def _add(self, part: Part, depth: int, shown: list[StepRow], more: list[StepRow]) -> None:
         """Add the rows of a part. The items after the first ones are among the others."""
         if isinstance(part, Block):
-            of = part.group
-            shown.append(self._group(of, depth) if of else self._step(part.steps[0], depth))
+            group = part.group
+            shown.append(self._group(group, depth) if group else self._step(part.steps[0], depth))
             return
         shown.append(self._group(part.group, depth))
-        items = [one for one in part.parts if isinstance(one, Block) and one.item_of]
-        for place, one in enumerate(sorted(items, key=self._urgency)):
-            self._add(one, depth + 1, shown if place < FEW else more, more)
+        items = [item for item in part.parts if isinstance(item, Block) and item.item_of]
+        for index, item in enumerate(sorted(items, key=self._urgency)):
+            self._add(item, depth + 1, shown if index < FEW else more, more)
         for other in part.parts:
             if not (isinstance(other, Block) and other.item_of):
                 self._add(other, depth + 1, shown, more)
 
     def _needs(self, steps: Sequence[int]) -> list[str]:
-        own = {self._name_of[self._steps[step].name] for step in steps}
+        own_names = {self._name_of[self._steps[step].name] for step in steps}
         needed = (self._name_of[need] for step in steps for need in self._steps[step].needs)
-        return [name for name in dict.fromkeys(needed) if len(steps) == 1 or name not in own]
+        return [name for name in dict.fromkeys(needed) if len(steps) == 1 or name not in own_names]
 
     def _step(self, number: int, depth: int) -> StepRow:
         step = self._steps[number]
@@ -167,22 +167,22 @@ class StepTable:
 
     def _decisions(self, steps: list[StepView]) -> str:
         """What the plan decided of a group's steps, and what that costs."""
-        some = [self._choices[step.name] for step in steps if step.name in self._choices]
-        counts = Counter(wording.DECISIONS[choice.decision] for choice in some)
+        choices = [self._choices[step.name] for step in steps if step.name in self._choices]
+        counts = Counter(wording.DECISIONS[choice.decision] for choice in choices)
         cost = sum(
-            (choice.cost_to_keep if choice.kept else choice.cost_to_drop) or 0 for choice in some
+            (choice.cost_to_keep if choice.kept else choice.cost_to_drop) or 0 for choice in choices
         )
-        told = ", ".join(f"{word} {count:,}" for word, count in counts.items())
-        return f"{told}: costs {cost:,}" if cost else told
+        text = ", ".join(f"{decision} {count:,}" for decision, count in counts.items())
+        return f"{text}: costs {cost:,}" if cost else text
 
 
 def errors(steps: Sequence[StepView]) -> str:
     """The first error of a group's steps, and how many more there are."""
-    found = [f"{step.name}: {step.raised or step.said}" for step in steps if _is_bad(step)]
-    if not found:
+    listed = [f"{step.name}: {step.raised or step.said}" for step in steps if _is_bad(step)]
+    if not listed:
         return ""
-    more = f" and {len(found) - 1:,} more" if len(found) > 1 else ""
-    return wording.short(found[0]) + more
+    more = f" and {len(listed) - 1:,} more" if len(listed) > 1 else ""
+    return wording.short(listed[0]) + more
 
 
 def _is_bad(step: StepView) -> bool:

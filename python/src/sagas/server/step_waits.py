@@ -5,7 +5,7 @@ from __future__ import annotations
 from sagas.inspection import wording
 from sagas.inspection.views import SagaView, Waits
 
-AGAIN = {
+REASONS = {
     "unknown": "its outcome is unknown once more",
     "exhausted": "it has used up its attempts once more",
     "approval": "it waits for a decision now",
@@ -21,7 +21,7 @@ def name_of(view: SagaView, step: str, undo: bool) -> str:
     if view.phase != "open":
         return ""
     at = step, undo, None
-    begun = next((one for one in view.stretches if (one.step, one.undo, one.ended) == at), None)
+    begun = next((stretch for stretch in view.stretches if (stretch.step, stretch.undo, stretch.ended) == at), None)
     if begun is None:
         return ""
     held = _held(view, step, undo)
@@ -35,8 +35,8 @@ def words_of(view: SagaView, step: str, undo: bool, now: float) -> str:
         return "it is called again, or is about to be"
     if held.why == "external":
         return f"the worker {held.said} claimed it {wording.ago(now - held.since)}"
-    return AGAIN.get(held.why, "it waits for something else")
+    return REASONS.get(held.why, "it waits for something else")
 
 
 def _held(view: SagaView, step: str, undo: bool) -> Waits | None:
-    return next((one for one in view.held if (one.step, one.undo) == (step, undo)), None)
+    return next((wait for wait in view.held if (wait.step, wait.undo) == (step, undo)), None)

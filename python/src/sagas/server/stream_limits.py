@@ -33,13 +33,13 @@ class Streams:
 
     def take(self, maker: str, dashboard: bool) -> Callable[[], None]:
         """One more; gives what ends it."""
-        place = maker, dashboard
-        self._there[place] += 1
+        key = maker, dashboard
+        self._there[key] += 1
 
         def leave() -> None:
-            self._there[place] -= 1
-            if self._there[place] <= 0:
-                del self._there[place]
+            self._there[key] -= 1
+            if self._there[key] <= 0:
+                del self._there[key]
 
         return leave
 

@@ -22,7 +22,7 @@ def folded(rows: Sequence[Any], urgency: Callable[[Any], tuple[int, ...]]) -> Ro
     """All rows in their order; of many the most urgent ones first, and the others folded."""
     if len(rows) <= 1.5 * FEW:
         return Rows([*rows], [])
-    order = sorted(range(len(rows)), key=lambda place: urgency(rows[place]))
+    order = sorted(range(len(rows)), key=lambda index: urgency(rows[index]))
     return Rows(
-        [rows[place] for place in order[:FEW]], [rows[place] for place in sorted(order[FEW:])]
+        [rows[index] for index in order[:FEW]], [rows[index] for index in sorted(order[FEW:])]
     )

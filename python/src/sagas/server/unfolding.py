@@ -13,7 +13,7 @@ FIELD = Field(
     "the groups whose parts are drawn, by declared names with commas between them; * is each",
     default=None,
 )
-PLACE = "steps"
+ANCHOR = "steps"
 """The part of a page at which a link leads."""
 
 
@@ -30,9 +30,9 @@ class Unfolding:
         names: The names of those that are unfolded.
     """
 
-    def __init__(self, groups: Groups, asked: str | None, base: str) -> None:
+    def __init__(self, groups: Groups, requested: str | None, base: str) -> None:
         self.groups, self._base = groups, base
-        names = names_in(asked)
+        names = names_in(requested)
         self.names = frozenset(groups.found) if ALL in names else groups.known(names)
 
     def link(self, group: Group) -> str:
@@ -49,14 +49,14 @@ class Unfolding:
         """The page with all groups unfolded; None if they are, or there are none."""
         if self.names == frozenset(self.groups.found):
             return None
-        return f"{self._base}?{urlencode({'unfold': ALL}, safe=ALL)}#{PLACE}"
+        return f"{self._base}?{urlencode({'unfold': ALL}, safe=ALL)}#{ANCHOR}"
 
     @property
     def none(self) -> str | None:
         """The page with all groups folded; None if they are."""
-        return f"{self._base}#{PLACE}" if self.names else None
+        return f"{self._base}#{ANCHOR}" if self.names else None
 
     def _address(self, names: Iterable[str]) -> str:
-        some = ",".join(sorted(names))
-        query = f"?{urlencode({'unfold': some}, safe=',/')}" if some else ""
-        return f"{self._base}{query}#{PLACE}"
+        joined = ",".join(sorted(names))
+        query = f"?{urlencode({'unfold': joined}, safe=',/')}" if joined else ""
+        return f"{self._base}{query}#{ANCHOR}"

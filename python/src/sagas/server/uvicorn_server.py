@@ -33,8 +33,8 @@ def protocol(connections: Connections) -> type[asyncio.Protocol]:
     """The protocol of uvicorn's choice, within a `Connection`."""
 
     class Counted(Connection):
-        def __init__(self, **words: Any) -> None:
-            super().__init__(AutoHTTPProtocol(**words), connections)
+        def __init__(self, **options: Any) -> None:
+            super().__init__(AutoHTTPProtocol(**options), connections)
 
     return Counted
 

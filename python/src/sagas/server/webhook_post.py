@@ -72,23 +72,23 @@ async def post(hook: Webhook, delivery: Claimed, seconds: float, allow_local: bo
         security = {}
         if is_secure:
             security = {"ssl": ssl.create_default_context(), "server_hostname": parts.hostname}
-        back, there = await asyncio.open_connection(
+        reader, writer = await asyncio.open_connection(
             address, port, limit=MOST_ANSWER, **security  # type: ignore[arg-type]
         )
         try:
-            there.write(request_of(hook, parts, delivery))
-            await there.drain()
-            return await _status(back)
+            writer.write(request_of(hook, parts, delivery))
+            await writer.drain()
+            return await _status(reader)
         finally:
-            there.transport.abort()
+            writer.transport.abort()
 
 
-async def _status(back: asyncio.StreamReader) -> int:
+async def _status(reader: asyncio.StreamReader) -> int:
     """The status of the answer, past those that only say that there will be one."""
     left, is_first = MOST_ANSWER, True
     while True:
         try:
-            line = await back.readline()
+            line = await reader.readline()
         except ValueError:  # it is longer than the limit
             raise InvalidAnswer("its answer has too many bytes") from None
         left -= len(line)

@@ -27,14 +27,14 @@ LEASE = 3 * PATIENCE
 """Seconds behind which a delivery is posted again whose program has ended."""
 PAUSES = (1.0, 5.0, 25.0, 125.0, 600.0, 600.0, 600.0, 600.0, 600.0)
 """Seconds before each further attempt, at least half of them."""
-LOOK = 5.0
+POLL_INTERVAL = 5.0
 """Seconds between two looks for what other programs have left."""
 HOUR, KEPT, KEPT_FAILED = 3600.0, 7 * 86400.0, 30 * 86400.0
 """Seconds between two deletions, and for which deliveries are kept."""
 GONE = 410
 """The status by which a receiver says that it wants nothing more of this."""
-MOST_SAID = 200
-TOLD = (
+MOST_ERROR = 200
+POSTING_EVENTS = (
     "saga_ended",
     "saga_stuck",
     "saga_undo_failed",
@@ -63,11 +63,11 @@ class Webhooks:
 
     def _told(self, saga: str) -> Hooks:
         """The names of the webhooks that are told of a definition, by type."""
-        found = {
+        names_by_type = {
             kind: tuple(hook.name for hook in self._hooks if hook.wants(kind, saga))
             for kind in TYPES
         }
-        return {kind: names for kind, names in found.items() if names}
+        return {kind: names for kind, names in names_by_type.items() if names}
 
     def begin(self) -> None:
         """Posts from now on. In the loop, with the store open."""
@@ -89,7 +89,7 @@ class Webhooks:
 
     def event(self, event: Event) -> None:
         """Something happened to a saga that this service executes."""
-        if self._awake and event.name in TOLD:
+        if self._awake and event.name in POSTING_EVENTS:
             self.look()
 
     def look(self) -> None:
@@ -102,17 +102,17 @@ class Webhooks:
         forgets, loop = 0.0, asyncio.get_running_loop()
         while True:
             awake.clear()
-            pause = LOOK
+            pause = POLL_INTERVAL
             try:
                 if loop.time() >= forgets:
                     forgets = loop.time() + HOUR
                     await self._deliveries.forget(KEPT, KEPT_FAILED)
-                found = await self._deliveries.claim(hook.name, AT_ONCE, LEASE)
-                if found:
-                    await asyncio.gather(*(self._deliver(hook, one) for one in found))
+                claimed = await self._deliveries.claim(hook.name, AT_ONCE, LEASE)
+                if claimed:
+                    await asyncio.gather(*(self._deliver(hook, delivery) for delivery in claimed))
                     continue
                 due = await self._deliveries.due(hook.name)
-                pause = LOOK if due is None else min(LOOK, max(0.05, due))
+                pause = POLL_INTERVAL if due is None else min(POLL_INTERVAL, max(0.05, due))
             except Closed:
                 return
             except SagasError as error:  # the store does not answer: the next look asks again
@@ -123,20 +123,20 @@ class Webhooks:
                 async with asyncio.timeout(pause):
                     await awake.wait()
 
-    async def _deliver(self, hook: Webhook, one: Claimed) -> None:
+    async def _deliver(self, hook: Webhook, delivery: Claimed) -> None:
         """Posts one, and stores how that went. Raises `StoreUnavailable`, `Closed`."""
         status, error = None, None
         try:
-            status = await post(hook, one, PATIENCE, self._allow_local)
+            status = await post(hook, delivery, PATIENCE, self._allow_local)
         except TimeoutError:
             error = f"TimeoutError: it did not answer within {PATIENCE:g} s"
         except Exception as fault:
-            error = f"{type(fault).__name__}: {fault}"[:MOST_SAID]
-        posted = outcome(status, error, one.attempts)
-        is_kept = await self._deliveries.settle(one.id, one.attempts, posted)
+            error = f"{type(fault).__name__}: {fault}"[:MOST_ERROR]
+        posted = outcome(status, error, delivery.attempts)
+        is_kept = await self._deliveries.settle(delivery.id, delivery.attempts, posted)
         if is_kept and posted.state is DeliveryState.FAILED:
-            told = "webhook %s: %s not delivered, attempt %d was the last"
-            logger.error(told, hook.name, one.id, one.attempts)
+            message = "webhook %s: %s not delivered, attempt %d was the last"
+            logger.error(message, hook.name, delivery.id, delivery.attempts)
 
 
 def outcome(status: int | None, error: str | None, attempts: int) -> Posted:

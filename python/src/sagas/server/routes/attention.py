@@ -36,19 +36,19 @@ def cursor_of(entry: Entry) -> str:
 
 
 def pages(
-    kinds: list[str], of: Filter, step: str | None, after: Place, newest: bool, limit: int
+    kinds: list[str], sagas: Filter, step: str | None, after: Place, newest: bool, limit: int
 ) -> Question[list[Entry]]:
     """A page over several kinds, one behind the other."""
-    found: list[Entry] = []
+    entries: list[Entry] = []
     for kind in kinds:
-        left = limit - len(found)
+        left = limit - len(entries)
         more = yield from attention_pages.entries(
-            kind, of, step, after=after, newest=newest, most=left
+            kind, sagas, step, after=after, newest=newest, most=left
         )
-        found, after = found + more, None
-        if len(found) >= limit:
+        entries, after = entries + more, None
+        if len(entries) >= limit:
             break
-    return found
+    return entries
 
 
 @routes.get(
@@ -82,16 +82,16 @@ async def listed(call: Call) -> Response:
     kind, after = place_of(query["after"])
     kinds = [query["kind"]] if query["kind"] else list(KINDS)
     left = kinds[kinds.index(kind) :] if kind in kinds else kinds
-    of, limit = filters.of(call.who, query), query["limit"]
-    found = await call.service.look(
-        pages(left, of, query["step"], after, query["order"] == "newest", limit)
+    sagas, limit = filters.of(call.who, query), query["limit"]
+    matching = await call.service.look(
+        pages(left, sagas, query["step"], after, query["order"] == "newest", limit)
     )
     _, counts = await call.service.figures.of(call.who.scope)
-    last = found[-1] if len(found) == limit else None
+    last = matching[-1] if len(matching) == limit else None
     more = last and cursor_of(last)
 
-    def told() -> Response:
-        entries = [json_views.entry(one) for one in found]
+    def answer() -> Response:
+        entries = [json_views.entry(entry) for entry in matching]
         return parted({"counts": counts, "entries": entries, "next": more}, "entries")
 
-    return await call.service.threads.answers.do(told)
+    return await call.service.threads.answers.do(answer)

@@ -31,49 +31,49 @@ async def listed(call: Call) -> Response:
     """All of them, with how many sagas there are."""
     if answer := closed(call.request):
         return answer
-    service, who = call.service, looker(call.request)
+    service, principal = call.service, looker(call.request)
     since = service.hub.now
-    counts, _ = await service.figures.of(who.scope)
-    none = dict.fromkeys(COUNTED, 0)
-    found = {name: counts.get(name, none) for name in sorted({*counts, *service.names(who)})}
+    counts, _ = await service.figures.of(principal.scope)
+    no_counts = dict.fromkeys(COUNTED, 0)
+    counts_by_name = {name: counts.get(name, no_counts) for name in sorted({*counts, *service.names(principal)})}
     return shows(
         call.request,
         "definitions.html",
         here="definitions",
         live="/ui/events",
         since=since,
-        counts=found,
+        counts=counts_by_name,
     )
 
 
 @routes.get("/ui/definitions/{name}", query={"unfold": FIELD})
-async def one(call: Call) -> Response:
+async def saga(call: Call) -> Response:
     """One of them: its steps with what is at each, durations, and the costs of recoveries. Of one
     that only another service has, or none any more, its sagas alone."""
     request, name = call.request, call.path["name"]
     if answer := closed(request):
         return answer
-    service, who = call.service, looker(request)
-    some = [saga for saga in service.settings.sagas if saga.name == name and who.sees(name)]
+    service, principal = call.service, looker(request)
+    versions = [saga for saga in service.settings.sagas if saga.name == name and principal.sees(name)]
     since = service.hub.now
-    counts, _ = await service.figures.of(who.scope)
-    if not some and name not in counts:
-        told: dict[str, Any] = {"title": "There is no such definition", "back": "/ui/definitions"}
-        return shows(request, "fault.html", 404, text=f"No definition is named {name}.", **told)
+    counts, _ = await service.figures.of(principal.scope)
+    if not versions and name not in counts:
+        values: dict[str, Any] = {"title": "There is no such definition", "back": "/ui/definitions"}
+        return shows(request, "fault.html", 404, text=f"No definition is named {name}.", **values)
 
     def question() -> Question[tuple[dict[str, AtStep], list[tuple[float, int, int]]]]:
-        return (yield from definitions.at_steps(name, who.scope)), (
-            yield from definitions.costs(name, time.time(), who.scope)
+        return (yield from definitions.at_steps(name, principal.scope)), (
+            yield from definitions.costs(name, time.time(), principal.scope)
         )
 
     at, costs = await service.look(question())
-    of = counts.get(name, dict.fromkeys(COUNTED, 0))
-    over = of["completed"] + of["recovered"] + of["resolved"] + of["stuck"]
-    more: dict[str, Any] = {"name": name, "saga": None, "of": of, "costs": costs}
-    more |= {"share": (over - of["completed"]) / over if over else None}
+    phases = counts.get(name, dict.fromkeys(COUNTED, 0))
+    over = phases["completed"] + phases["recovered"] + phases["resolved"] + phases["stuck"]
+    more: dict[str, Any] = {"name": name, "saga": None, "of": phases, "costs": costs}
+    more |= {"share": (over - phases["completed"]) / over if over else None}
     more |= {"most": max((cost for _, _, cost in costs), default=0)}
-    if some:
-        more |= await steps_told(call, max(some, key=lambda one: one.version), at)
+    if versions:
+        more |= await steps_told(call, max(versions, key=lambda saga: saga.version), at)
     return shows(
         request, "definition.html", here="definitions", live="/ui/events", since=since, **more
     )
@@ -82,7 +82,7 @@ async def one(call: Call) -> Response:
 async def steps_told(call: Call, saga: Saga, at: dict[str, AtStep]) -> dict[str, Any]:
     """What the page has of the steps."""
     declared = declared_steps.of(saga)
-    groups = Groups([one.spot for one in declared])
+    groups = Groups([step.spot for step in declared])
     unfolding = Unfolding(groups, call.query["unfold"], f"/ui/definitions/{saga.name}")
     steps = rows_of(call, saga, declared, at, unfolding)
     picture = functools.partial(drawn, saga, declared, steps)
@@ -133,44 +133,44 @@ def rows_of(
     }
 
     def row(block: Block) -> Row:
-        some = [declared[step] for step in block.steps]
-        own = {name_of[one.name] for one in some}
-        needed = dict.fromkeys(name_of[need] for one in some for need in one.needs)
-        needs = [name for name in needed if name not in own]
-        here = total([at.get(one.name, AtStep()) for one in some])
+        steps = [declared[step] for step in block.steps]
+        own_names = {name_of[step.name] for step in steps}
+        needed = dict.fromkeys(name_of[need] for step in steps for need in step.needs)
+        needs = [name for name in needed if name not in own_names]
+        tally = total([at.get(step.name, AtStep()) for step in steps])
         if block.group is not None:
             href = unfolding.link(block.group)
-            return Row(block.group.title, block.steps, needs, here, href=href)
-        times = durations_of(call, saga, some[0].name)
-        return Row(some[0].name, block.steps, needs, here, some[0], durations=times)
+            return Row(block.group.title, block.steps, needs, tally, href=href)
+        times = durations_of(call, saga, steps[0].name)
+        return Row(steps[0].name, block.steps, needs, tally, steps[0], durations=times)
 
     return [row(block) for block in blocks]
 
 
-def total(some: list[AtStep]) -> AtStep:
+def total(tallies: list[AtStep]) -> AtStep:
     """What is at several steps."""
-    return AtStep(*map(sum, zip(*map(dataclasses.astuple, some))))
+    return AtStep(*map(sum, zip(*map(dataclasses.astuple, tallies))))
 
 
 def durations_of(call: Call, saga: Saga, step: str) -> tuple[Any, Any]:
     """Of its action, and of its compensation."""
-    found = call.service.metrics.durations
-    return found.of((saga.name, step, False)), found.of((saga.name, step, True))
+    durations = call.service.metrics.durations
+    return durations.of((saga.name, step, False)), durations.of((saga.name, step, True))
 
 
 def drawn(saga: Saga, declared: list[DeclaredStep], rows: list[Row]) -> str:
     """The steps with what is at each."""
     boxes = []
     for row in rows:
-        here = row.at
-        state = f"{here.open:,} open" if here.open else "none open"
-        state += f", {here.waits:,} wait" if here.waits else ""
-        counts = ((here.person, "for a person"), (here.failed, "failed"))
+        tally = row.at
+        state = f"{tally.open:,} open" if tally.open else "none open"
+        state += f", {tally.waits:,} wait" if tally.waits else ""
+        counts = ((tally.person, "for a person"), (tally.failed, "failed"))
         note = row.step.note if row.step else ""
-        why = ", ".join([f"{count:,} {word}" for count, word in counts if count] or [note])
-        tone = "person" if here.person else "failed" if here.failed else ""
-        icon = "running" if here.open else "waiting"
-        told = Told(state, why, False, tone or icon, icon)
-        boxes.append(Box(row.title, told, row.steps, row.href, row.step is None))
-    needs = [(one.name, one.needs) for one in declared]
+        why = ", ".join([f"{count:,} {label}" for count, label in counts if count] or [note])
+        tone = "person" if tally.person else "failed" if tally.failed else ""
+        icon = "running" if tally.open else "waiting"
+        display = Told(state, why, False, tone or icon, icon)
+        boxes.append(Box(row.title, display, row.steps, row.href, row.step is None))
+    needs = [(step.name, step.needs) for step in declared]
     return picture.drawn(needs, boxes, f"{saga.name}: its steps, and what is at each")

@@ -38,12 +38,12 @@ class Moment(Shape):
             return Number(0, 1e11).read(value, field)
         try:
             text = str(value)
-            found = datetime.datetime.fromisoformat(text if text.isascii() else "")
+            moment = datetime.datetime.fromisoformat(text if text.isascii() else "")
         except ValueError:
             raise Invalid(field, "it is a time, as 2027-01-31T12:00:00Z") from None
-        if found.tzinfo is None:
+        if moment.tzinfo is None:
             raise Invalid(field, "it has an offset, as 2027-01-31T12:00:00Z")
-        return found.timestamp()
+        return moment.timestamp()
 
     def of_text(self, text: str, field: str) -> float:
         if DECIMAL.fullmatch(text):
@@ -67,22 +67,22 @@ SAGAS: dict[str, Field] = {
 }
 
 
-def of(who: Who, told: Mapping[str, Any], phase: str | None = None) -> Filter:
+def of(principal: Who, parameters: Mapping[str, Any], phase: str | None = None) -> Filter:
     """The filter, of sagas that are theirs to see. Raises `Problem`."""
-    check_definition(who, told["definition"], starts=False)
-    words = {name: told[name] for name in ("search", "started_after", "started_before", "error")}
-    labels = checked(told.get("labels") or labels_of(told.get("label") or ()))
-    return Filter(phase=phase, saga=told["definition"], labels=labels, scope=who.scope, **words)
+    check_definition(principal, parameters["definition"], starts=False)
+    fields = {name: parameters[name] for name in ("search", "started_after", "started_before", "error")}
+    labels = checked(parameters.get("labels") or labels_of(parameters.get("label") or ()))
+    return Filter(phase=phase, saga=parameters["definition"], labels=labels, scope=principal.scope, **fields)
 
 
-def labels_of(told: Iterable[str]) -> dict[str, str]:
+def labels_of(texts: Iterable[str]) -> dict[str, str]:
     """Labels as a query has them, each `name=value`."""
-    return dict(one.partition("=")[::2] for one in told)
+    return dict(text.partition("=")[::2] for text in texts)
 
 
-def cursor_of(place: tuple[float, int]) -> str:
+def cursor_of(position: tuple[float, int]) -> str:
     """The text of a place, which is read as exactly the same."""
-    at, id = place
+    at, id = position
     return f"{Decimal(repr(at)):f}-{id}"  # no exponent, which has signs
 
 

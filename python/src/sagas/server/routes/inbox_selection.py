@@ -42,25 +42,25 @@ class Selection:
         is_whole = verb in WHOLE
         return list(
             dict.fromkeys(
-                (one.key, "", False) if is_whole else (one.key, one.step or "", one.undo)
-                for one in self.entries
+                (entry.key, "", False) if is_whole else (entry.key, entry.step or "", entry.undo)
+                for entry in self.entries
             )
         )
 
 
-def selected(found: list[Entry], fields: Fields) -> Selection:
+def selected(entries: list[Entry], fields: Fields) -> Selection:
     """What was selected of the entries that are there: whole groups, and single ones."""
     groups = {value for name, value in fields if name == "group"}
-    ones = {value for name, value in fields if name == "one"}
+    ids = {value for name, value in fields if name == "one"}
     chosen = []
-    for group in attention_pages.groups(found):
+    for group in attention_pages.groups(entries):
         is_chosen = id_of(group) in groups
-        chosen += [one for one in group.entries if is_chosen or place_of(one) in ones]
+        chosen += [entry for entry in group.entries if is_chosen or place_of(entry) in ids]
     return Selection(chosen, " ".join(map(wait_of, chosen)))
 
 
-def seen(found: list[Entry], waits: str) -> Selection:
+def seen(entries: list[Entry], waits: str) -> Selection:
     """What a form's reader saw of the entries that are there: neither those that came later, nor
     those that wait again."""
     names = set(waits.split())
-    return Selection([one for one in found if wait_of(one) in names], waits)
+    return Selection([entry for entry in entries if wait_of(entry) in names], waits)

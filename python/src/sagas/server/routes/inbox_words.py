@@ -133,6 +133,6 @@ def many(targets: list[Target], verb: str) -> str:
     return f"{undoing}{counted(len(targets), 'step')} of {sagas}"
 
 
-def counted(count: int, word: str) -> str:
+def counted(count: int, noun: str) -> str:
     """A number with its noun."""
-    return f"{count:,} {word}{'' if count == 1 else 's'}"
+    return f"{count:,} {noun}{'' if count == 1 else 's'}"

@@ -97,8 +97,8 @@ async def compensate(call: Call) -> Response:
     Another saga calls the compensation with the result that was reported, until it succeeds."""
     service, step = call.service, call.path["step"]
     await service.check_sees(call.who, call.key)
-    words = {"by": call.who.name, "note": call.body["note"]}
-    await service.in_time(service.store.compensate(call.key, step, **words))
+    options = {"by": call.who.name, "note": call.body["note"]}
+    await service.in_time(service.store.compensate(call.key, step, **options))
     service.figures.forget()
     return Json({"key": call.key, "step": step, "undo": key_of(call.key, step, undo=True)})
 
@@ -114,5 +114,5 @@ async def queues(call: Call) -> Response:
 
     How many tasks are ready, since when the oldest, and how many are taken; of the steps that the
     token may claim."""
-    found = await call.service.queues(call.who)
-    return Json({"queues": [json_views.queue(one) for one in found]})
+    visible = await call.service.queues(call.who)
+    return Json({"queues": [json_views.queue(waiting) for waiting in visible]})

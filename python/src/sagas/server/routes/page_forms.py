@@ -76,12 +76,12 @@ REMOVE: dict[str, Any] = {
 
 
 def asked(
-    request: Request, key: str, words: dict[str, Any], status: int = 200, **more: Any
+    request: Request, key: str, question: dict[str, Any], status: int = 200, **more: Any
 ) -> Response:
     """Asks once more what is to be done to a saga."""
     crumbs = [("/ui/sagas", "Sagas"), (address_of(key), key)]
-    told = {"here": "sagas", "crumbs": crumbs, **words, **more}
-    return shows(request, "confirm.html", status, **told)
+    values = {"here": "sagas", "crumbs": crumbs, **question, **more}
+    return shows(request, "confirm.html", status, **values)
 
 
 async def seen(call: Call) -> SagaView | None:
@@ -93,9 +93,9 @@ async def seen(call: Call) -> SagaView | None:
 
 async def is_approval(call: Call, view: SagaView, step: str, undo: bool) -> bool:
     """Whether a step waits to be approved, or is to be once it begins."""
-    if any((one.step, one.undo, one.why) == (step, undo, "approval") for one in view.held):
+    if any((entry.step, entry.undo, entry.why) == (step, undo, "approval") for entry in view.held):
         return True
-    if undo or not any((one.name, one.state) == (step, "waiting") for one in view.steps):
+    if undo or not any((entry.name, entry.state) == (step, "waiting") for entry in view.steps):
         return False
     with contextlib.suppress(NoSuchSaga, DefinitionError):
         return await call.service.is_approval(call.key, step)
@@ -104,10 +104,10 @@ async def is_approval(call: Call, view: SagaView, step: str, undo: bool) -> bool
 
 def step_words(step: str, outcome: str, undo: bool, approval: bool) -> dict[str, Any]:
     """The question for a step's end."""
-    which = f"undoing {step}" if undo else step
+    attempt = f"undoing {step}" if undo else step
     if outcome == "retry":
         return {
-            "title": f"Retry {which}?",
+            "title": f"Retry {attempt}?",
             "verb": "Retry it",
             "note_title": "What was repaired (a note)",
             "text": "It is called at once, with the same idempotency key.",
@@ -134,7 +134,7 @@ def step_words(step: str, outcome: str, undo: bool, approval: bool) -> dict[str,
         }
     if outcome == "done":
         return {
-            "title": f"Report that {which} is done?",
+            "title": f"Report that {attempt} is done?",
             "verb": "It is done",
             "note_title": "A note",
             "asks_result": not undo,
@@ -145,7 +145,7 @@ def step_words(step: str, outcome: str, undo: bool, approval: bool) -> dict[str,
         }
     if undo:
         return {
-            "title": f"Report that {which} had no effect?",
+            "title": f"Report that {attempt} had no effect?",
             "verb": "It had no effect",
             "danger": True,
             "note_title": "A note",
@@ -156,7 +156,7 @@ def step_words(step: str, outcome: str, undo: bool, approval: bool) -> dict[str,
             ),
         }
     return {
-        "title": f"Report that {which} had no effect?",
+        "title": f"Report that {attempt} had no effect?",
         "verb": "It had no effect",
         "danger": True,
         "note_title": "A note",
@@ -176,14 +176,14 @@ async def abort_page(call: Call) -> Response:
     return asked(call.request, call.key, ABORT, effect=effect)
 
 
-async def effect_of(call: Call, **words: Any) -> str | None:
+async def effect_of(call: Call, **event: Any) -> str | None:
     """What an abort, or the end of a step, would do now, in words."""
     with contextlib.suppress(NoSuchSaga):
         await call.service.check_sees(looker(call.request), call.key)
         view = await call.service.saga(call.key)
         if view is not None:
-            told = functools.partial(saga_pages.effect, view, **words)
-            return await call.service.threads.pages.do(told)
+            compute = functools.partial(saga_pages.effect, view, **event)
+            return await call.service.threads.pages.do(compute)
     return None
 
 
@@ -229,7 +229,7 @@ async def compensate_page(call: Call) -> Response:
 
 @routes.post("/ui/sagas/{key}/steps/{step}/compensate")
 async def compensate(call: Call) -> Response:
-    request, key, words = call.request, call.key, compensate_words(call)
+    request, key, question = call.request, call.key, compensate_words(call)
     session, form = await sent(request)
     note = form.get("note", "").strip()[:2000] or None
     try:
@@ -238,7 +238,7 @@ async def compensate(call: Call) -> Response:
         step = call.path["step"]
         await service.in_time(service.store.compensate(key, step, by=session.who.name, note=note))
     except SagasError as error:
-        return asked(request, key, words, 409, fault=str(problems.of(error)), note=note)
+        return asked(request, key, question, 409, fault=str(problems.of(error)), note=note)
     return back(request, key)
 
 
@@ -257,21 +257,21 @@ async def step_asked(call: Call, view: SagaView | None, status: int = 200, **mor
     results, and what the answer would do. The form has the name of what it answers."""
     name, outcome, undo = call.path["step"], call.path["outcome"], call.query["undo"]
     approval = view is not None and await is_approval(call, view, name, undo)
-    words = step_words(name, outcome, undo, approval)
+    question = step_words(name, outcome, undo, approval)
     if view is not None:
-        words["given"] = [("Input", view.input), ("Results in effect", view.results)]
-        words["waits"] = step_waits.name_of(view, name, undo)
+        question["given"] = [("Input", view.input), ("Results in effect", view.results)]
+        question["waits"] = step_waits.name_of(view, name, undo)
         if outcome == "done" and not undo and (child := child_of(view, name)):
-            words["result"], words["text"] = child_result(child), f"{words['text']} {NO_CHILD}"
+            question["result"], question["text"] = child_result(child), f"{question['text']} {NO_CHILD}"
     if outcome != "retry":
-        words["effect"] = await effect_of(call, **{outcome: name})
-    return asked(call.request, call.key, words, status, **more)
+        question["effect"] = await effect_of(call, **{outcome: name})
+    return asked(call.request, call.key, question, status, **more)
 
 
 def child_of(view: SagaView, step: str) -> str | None:
     """The key of the last child that a step of a saga started."""
-    some = [one.key for one in view.children if children.is_of_step(one.key, view.key, step)]
-    return None if children.undoes_child(view.key) else next(reversed(some), None)
+    keys = [child.key for child in view.children if children.is_of_step(child.key, view.key, step)]
+    return None if children.undoes_child(view.key) else next(reversed(keys), None)
 
 
 def child_result(key: str) -> str:
@@ -285,10 +285,10 @@ def result_of(form: dict[str, str]) -> Any:
     if kind == "text":
         return text
     if kind == "number":
-        found = json_texts.read(text)
-        if isinstance(found, bool) or not isinstance(found, (int, float)):
+        value = json_texts.read(text)
+        if isinstance(value, bool) or not isinstance(value, (int, float)):
             raise ValueError(text)
-        return found
+        return value
     if kind == "yes":
         return {"yes": True, "true": True, "no": False, "false": False}[text.strip().lower()]
     return json_texts.read(text or "null")
@@ -298,24 +298,24 @@ def result_of(form: dict[str, str]) -> Any:
 async def step_said(call: Call) -> Response:
     session, form = await sent(call.request)
     view = await seen(call)
-    again = functools.partial(
+    ask_again = functools.partial(
         step_asked,
         call,
         view,
-        **{word: form.get(word) for word in ("type", "note", "result", "failed")},
+        **{name: form.get(name) for name in ("type", "note", "result", "failed")},
     )
     if view is not None and (fault := moved_on(call, view, form.get("waits", ""))):
-        return await again(409, fault=fault)
+        return await ask_again(409, fault=fault)
     if call.path["outcome"] == "failed" and not form.get("failed", "").strip():
-        return await again(422, fault="Say why.")
+        return await ask_again(422, fault="Say why.")
     try:
         result = result_of(form)
     except (ValueError, KeyError):
-        return await again(422, fault=FAULTS.get(form.get("type", ""), FAULTS["json"]))
+        return await ask_again(422, fault=FAULTS.get(form.get("type", ""), FAULTS["json"]))
     try:
         await report(call, session.who, form, result)
     except SagasError as error:
-        return await again(409, fault=str(problems.of(error)))
+        return await ask_again(409, fault=str(problems.of(error)))
     return back(call.request, call.key)
 
 
@@ -329,18 +329,18 @@ def moved_on(call: Call, view: SagaView, answered: str) -> str | None:
     return f"The step has gone on since you saw this form: {now}. Check it again."
 
 
-async def report(call: Call, who: Who, form: dict[str, str], result: Any) -> None:
+async def report(call: Call, principal: Who, form: dict[str, str], result: Any) -> None:
     """Does to the step what a form says. Raises what the store raises."""
     service, step, outcome = call.service, call.path["step"], call.path["outcome"]
-    await service.check_sees(who, call.key)
+    await service.check_sees(principal, call.key)
     note = form.get("note") or None
-    words: dict[str, Any] = {"undo": call.query["undo"], "by": who.name, "note": note}
+    options: dict[str, Any] = {"undo": call.query["undo"], "by": principal.name, "note": note}
     if outcome == "retry":
-        work = service.store.retry(call.key, step, **words)
+        work = service.store.retry(call.key, step, **options)
     elif outcome == "done":
-        work = service.store.complete(call.key, step, result, **words)
+        work = service.store.complete(call.key, step, result, **options)
     else:
-        work = service.store.fail(call.key, step, form["failed"].strip()[:2000], **words)
+        work = service.store.fail(call.key, step, form["failed"].strip()[:2000], **options)
     await service.in_time(work)
 
 
@@ -351,11 +351,11 @@ async def schedules_page(call: Call) -> Response:
 
 
 async def shown_schedules(
-    request: Request, who: Who, status: int = 200, fault: str | None = None
+    request: Request, principal: Who, status: int = 200, fault: str | None = None
 ) -> Response:
-    found = await schedules.seen(service_of(request), who)
-    words = {"schedules": found, "fault": fault}
-    return shows(request, "schedules.html", status, here="schedules", **words)
+    visible = await schedules.seen(service_of(request), principal)
+    values = {"schedules": visible, "fault": fault}
+    return shows(request, "schedules.html", status, here="schedules", **values)
 
 
 @routes.get("/ui/schedules/{name}/{change}", parts={"change": Choice(("remove",))})
@@ -364,19 +364,19 @@ async def remove_page(call: Call) -> Response:
     if answer := closed(call.request):
         return answer
     name = call.path["name"]
-    if name not in {one.name for one in await schedules.seen(call.service, looker(call.request))}:
+    if name not in {schedule.name for schedule in await schedules.seen(call.service, looker(call.request))}:
         raise NoSuchSchedule(f"no schedule has the name {name!r}")
-    told: dict[str, Any] = {"title": f"Remove the schedule {name}?", **REMOVE}
+    values: dict[str, Any] = {"title": f"Remove the schedule {name}?", **REMOVE}
     crumbs = [("/ui/schedules", "Schedules")]
-    return shows(call.request, "confirm.html", here="schedules", crumbs=crumbs, **told)
+    return shows(call.request, "confirm.html", here="schedules", crumbs=crumbs, **values)
 
 
 @routes.post("/ui/schedules/{name}/{change}", parts={"change": Choice((*schedules.DONE,))})
 async def schedule_changed(call: Call) -> Response:
     session, _ = await sent(call.request)
-    name, what = call.path["name"], call.path["change"]
+    name, change = call.path["name"], call.path["change"]
     try:
-        await schedules.change(service_of(call.request), session.who, name, what)
+        await schedules.change(service_of(call.request), session.who, name, change)
     except SagasError as error:
         return await shown_schedules(call.request, session.who, 409, str(problems.of(error)))
     return RedirectResponse("/ui/schedules", 303)

@@ -46,19 +46,19 @@ async def saga(call: Call) -> Response:
         view = await service.saga(key, is_page=True)
         view = view and families.seen_by(view, looker(request).scope)
     if view is None:
-        told: dict[str, Any] = {"title": "There is no such saga", "back": "/ui/sagas"}
-        return shows(request, "fault.html", 404, text=f"No saga has the key {key}.", **told)
+        values: dict[str, Any] = {"title": "There is no such saga", "back": "/ui/sagas"}
+        return shows(request, "fault.html", 404, text=f"No saga has the key {key}.", **values)
     work = functools.partial(told_of, view, service.approvals, time.time(), call.query["unfold"])
-    told = await service.threads.pages.do(work)
-    return shows(request, "saga.html", since=since, **told)
+    values = await service.threads.pages.do(work)
+    return shows(request, "saga.html", since=since, **values)
 
 
 def told_of(
     view: SagaView, approvals_of: Callable[[str, str], set[str]], now: float, unfold: str | None
 ) -> dict[str, Any]:
     """What the template of a saga asks for. `approvals_of`: of a saga's name and definition."""
-    drawn, tolds = len(view.steps) <= MOST_DRAWN, picture.told_of(view)
-    asks = [one for one in view.held if one.asks]
+    drawn, displays = len(view.steps) <= MOST_DRAWN, picture.told_of(view)
+    asks = [wait for wait in view.held if wait.asks]
     attempts = timeline.of(view, now)
     approvals = set[str]()
     if view.phase == "open" and not view.aborted and view.plan is None:
@@ -68,10 +68,10 @@ def told_of(
     unfolding = Unfolding(groups, unfold, base)
     choices = {choice.step: choice for choice in view.plan.choices} if view.plan else {}
     items = step_items.of(groups.spots, [step.name for step in view.steps], view.shape)
-    table = StepTable(unfolding, view.steps, tolds, choices, items)
+    table = StepTable(unfolding, view.steps, displays, choices, items)
     titles = table.titles()
     svg = functools.partial(
-        picture.svg, view, tolds=tolds, groups=groups, unfold=unfolding.names, link=unfolding.link
+        picture.svg, view, tolds=displays, groups=groups, unfold=unfolding.names, link=unfolding.link
     )
     events = event_rows(view.history, titles)
     return {
@@ -83,7 +83,7 @@ def told_of(
         "base": base,
         "unfolding": unfolding,
         "asks": asks,
-        "helds": {one.step: one for one in view.held},
+        "helds": {wait.step: wait for wait in view.held},
         "early": {
             step.name
             for step in view.steps
@@ -103,7 +103,7 @@ def told_of(
         "few": FEW,
         "all_events": len(events),
         "abort": effect(view, abort=True),
-        "effects": effects(view, [(one.step, one.undo) for one in asks[:MOST_EFFECTS]]),
+        "effects": effects(view, [(wait.step, wait.undo) for wait in asks[:MOST_EFFECTS]]),
     }
 
 
@@ -121,7 +121,7 @@ def effect(view: SagaView, *, abort: bool = False, **step: str) -> str | None:
     if view.phase != "open" or is_refused:
         return None
     for name in step.values():
-        if any((one.name, one.state) == (name, "waiting") for one in view.steps):
+        if any((entry.name, entry.state) == (name, "waiting") for entry in view.steps):
             return f"Store this answer, and use it when {name} starts"
     try:
         if abort:

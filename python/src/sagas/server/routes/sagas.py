@@ -112,8 +112,8 @@ DECIDED = {200: Answer("It is stored.", answers.DECIDED)}
 
 def trace_of(request: Request) -> str | None:
     """The trace context of a request's header; as the standard has it, an invalid one is none."""
-    some = request.headers.getlist("traceparent")
-    return tracing.read(some[0]) if len(some) == 1 else None
+    headers = request.headers.getlist("traceparent")
+    return tracing.read(headers[0]) if len(headers) == 1 else None
 
 
 async def view_of(call: Call, key: str | None = None) -> SagaView:
@@ -125,9 +125,9 @@ async def view_of(call: Call, key: str | None = None) -> SagaView:
     return families.seen_by(view, call.who.scope)
 
 
-async def kept_of(service: Any, who: Who, key: str) -> SagaView:
+async def kept_of(service: Any, principal: Who, key: str) -> SagaView:
     """As `view_of`, with what is kept alone."""
-    await service.check_sees(who, key)
+    await service.check_sees(principal, key)
     return there(await service.kept(key), key)
 
 
@@ -135,10 +135,10 @@ async def answered(call: Call) -> Response:
     """The saga as it is now. Raises `NoSuchSaga`."""
     view = await view_of(call)
 
-    def told() -> Response:
+    def answer() -> Response:
         return tagged(call.request, parted(json_views.saga(view), "results"))
 
-    return told() if is_small(view) else await call.service.threads.answers.do(told)
+    return answer() if is_small(view) else await call.service.threads.answers.do(answer)
 
 
 def is_small(view: SagaView) -> bool:
@@ -186,12 +186,12 @@ async def start(call: Call) -> Response:
     check_definition(call.who, name)
     check_key(call.who, key)
     saga = call.service.saga_named(call.who, name, call.body["version"])
-    words = [call.body[word] for word in ("input", "labels", "deadline")]
-    words.append(trace_of(call.request))
+    arguments = [call.body[field] for field in ("input", "labels", "deadline")]
+    arguments.append(trace_of(call.request))
     size: int = call.request.scope[SIZE]
-    run = await call.service.start(call.who, size, saga, key, *words)
-    told = {"key": key, "definition": saga.name, "version": saga.version, "new": run.new}
-    return Json(told, 201 if run.new else 200, {"Location": f"/v1/sagas/{quote(key, safe='')}"})
+    run = await call.service.start(call.who, size, saga, key, *arguments)
+    fields = {"key": key, "definition": saga.name, "version": saga.version, "new": run.new}
+    return Json(fields, 201 if run.new else 200, {"Location": f"/v1/sagas/{quote(key, safe='')}"})
 
 
 @routes.get(
@@ -218,10 +218,10 @@ async def listed(call: Call) -> Response:
     query = call.query
     limit, before = query["limit"], filters.position_of(query["after"])
     page = pages.page(before=before, most=limit, of=filters.of(call.who, query, query["phase"]))
-    found = await call.service.look(page)
-    last = pages.position_of(found[-1]) if len(found) == limit else None
+    summaries = await call.service.look(page)
+    last = pages.position_of(summaries[-1]) if len(summaries) == limit else None
     more = last and filters.cursor_of(last)
-    return Json({"sagas": [json_views.summary(one) for one in found], "next": more})
+    return Json({"sagas": [json_views.summary(summary) for summary in summaries], "next": more})
 
 
 @routes.get("/sagas/{key}", "getSaga", may=May.LOOK, answers={200: SAGA}, problems=("NoSuchSaga",))
@@ -298,14 +298,14 @@ async def what_if(call: Call) -> Response:
     if suppose["abort"]:
         children.check_abortable(call.key)
 
-    def told() -> Response:
+    def answer() -> Response:
         try:
-            found = what_if_module.of(view, abort=suppose["abort"], failed=step)
+            forecast = what_if_module.of(view, abort=suppose["abort"], failed=step)
         except ValueError as error:
             raise Problem("InvalidRequest", f"fail: {error}", "fail") from None
-        return Json(json_views.what_if(found))
+        return Json(json_views.what_if(forecast))
 
-    return await call.service.threads.answers.do(told)
+    return await call.service.threads.answers.do(answer)
 
 
 @routes.get(
@@ -359,9 +359,9 @@ async def certificate(call: Call) -> Response:
 
 async def check_reports(call: Call, key: str, step: str, undo: bool) -> None:
     """Raises `Problem` where somebody may not say how this step ended."""
-    who = call.who
-    await call.service.check_sees(who, key)
-    if who.may(May.OPERATE):
+    principal = call.who
+    await call.service.check_sees(principal, key)
+    if principal.may(May.OPERATE):
         return
     try:
         why = f"{step[:64]!r} is no approval: an operator says how any other step ended"
@@ -369,18 +369,18 @@ async def check_reports(call: Call, key: str, step: str, undo: bool) -> None:
     except DefinitionError as error:
         is_approval, why = False, f"{error}: ask one that has it"
     if not is_approval:
-        raise Problem("Forbidden", f"{who.name} is an approver, and {why}")
+        raise Problem("Forbidden", f"{principal.name} is an approver, and {why}")
 
 
 async def decided(call: Call, outcome: str, value: Any) -> Response:
     """Says how a step ended."""
     step, body, store = call.path["step"], call.body, call.service.store
     await check_reports(call, call.key, step, body["undo"])
-    words = {word: body[word] for word in ("undo", "early", "note") if word in body}
-    words["by"] = call.who.name
-    deeds: dict[str, Any] = {"complete": store.complete, "fail": store.fail, "retry": store.retry}
+    options = {name: body[name] for name in ("undo", "early", "note") if name in body}
+    options["by"] = call.who.name
+    commands: dict[str, Any] = {"complete": store.complete, "fail": store.fail, "retry": store.retry}
     value = () if outcome == "retry" else (value,)
-    await call.service.in_time(deeds[outcome](call.key, step, *value, **words))
+    await call.service.in_time(commands[outcome](call.key, step, *value, **options))
     return Json({"key": call.key, "step": step, "kept": True})
 
 
@@ -464,7 +464,7 @@ async def events(call: Call) -> Response:
 
 def stream(
     request: Request,
-    who: Who,
+    principal: Who,
     listener: Listener,
     since: Optional[str],
     still: Callable[[], bool],
@@ -474,7 +474,7 @@ def stream(
     `still` to be.
 
     Raises `Problem` where there are too many."""
-    service, name = service_of(request), maker(request, who)
+    service, name = service_of(request), maker(request, principal)
     if full := service.streams.full(name, dashboard):
         raise Problem("TooManyStreams", full)
     last = request.headers.get("last-event-id") or since

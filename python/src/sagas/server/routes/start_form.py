@@ -46,7 +46,7 @@ async def start(call: Call) -> Response:
         )
     try:
         size = len(form.get("input", ""))
-        given = json_texts.read(form.get("input") or "null")
+        input = json_texts.read(form.get("input") or "null")
     except ValueError as error:
         return asked(
             request,
@@ -58,7 +58,7 @@ async def start(call: Call) -> Response:
     check_definition(session.who, definition)
     try:
         saga = service.saga_named(session.who, definition, None)
-        await service.start(session.who, size, saga, key, given)
+        await service.start(session.who, size, saga, key, input)
     except SagasError as error:
         return asked(request, form, str(problems.of(error)), 409)
     service.figures.forget()

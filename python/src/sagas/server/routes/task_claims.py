@@ -26,7 +26,7 @@ from sagas.server.responses import Json, parted
 from sagas.server.threads import LARGE
 
 NAME = "[a-z][a-z0-9_-]{0,31}"
-WORD = re.compile(rf"({NAME})/((?:{NAME}/)*?{NAME})(/undo)?\Z")
+STEP_NAME = re.compile(rf"({NAME})/((?:{NAME}/)*?{NAME})(/undo)?\Z")
 HEARTBEATS = 3
 """How many heartbeats fit into a lease, so that two of them may be lost."""
 MOST_WRITTEN = 512
@@ -36,25 +36,25 @@ PATIENCE = 25.0
 """Seconds that a claim may take, in addition to those that it waits for tasks."""
 
 
-def words_of(steps: list[str], place: str = "steps") -> list[Word]:
+def words_of(steps: list[str], path: str = "steps") -> list[Word]:
     """The steps that are asked for. Raises `Problem`."""
-    found: list[Word] = []
+    steps_found: list[Word] = []
     for number, step in enumerate(steps):
-        word = _word_of(step)
-        if word is None:
-            where = f"{place}.{number}"
+        parsed = _parse_step(step)
+        if parsed is None:
+            location = f"{path}.{number}"
             raise Problem(
                 "InvalidRequest",
-                f"{where}: {step[:80]!r}: a step is saga/step, or saga/step/undo",
-                where,
+                f"{location}: {step[:80]!r}: a step is saga/step, or saga/step/undo",
+                location,
             )
-        found.append(word)
-    return found
+        steps_found.append(parsed)
+    return steps_found
 
 
 @functools.lru_cache(1000)  # workers ask for the same again
-def _word_of(step: str) -> Word | None:
-    told = WORD.match(step)
+def _parse_step(step: str) -> Word | None:
+    told = STEP_NAME.match(step)
     return (told[1], told[2], "undo" if told[3] else "run") if told else None
 
 
@@ -69,36 +69,36 @@ class Claimed:
     @property
     def is_large(self) -> bool:
         """Whether its values take long to be read and written."""
-        return sum(one.size for one in self.tasks) > LARGE
+        return sum(task.size for task in self.tasks) > LARGE
 
     def told(self) -> dict[str, Any]:
         """The answer as JSON has it."""
-        return {"tasks": [json_views.task(one, self.now) for one in self.tasks], **self.more}
+        return {"tasks": [json_views.task(task, self.now) for task in self.tasks], **self.more}
 
 
-def _texts(one: LeasedTask) -> list[str]:
+def _texts(leased: LeasedTask) -> list[str]:
     """The values of a task, as they are stored."""
-    texts = one.task.texts
-    return [one.given, texts["input"], texts["result"] or "", *texts["results"].values()]
+    texts = leased.task.texts
+    return [leased.given, texts["input"], texts["result"] or "", *texts["results"].values()]
 
 
 async def claimed(call: Call, body: dict[str, Any]) -> Claimed:
     """Claims, as long as the client is there; none where the service is about to stop."""
-    found = await _claimed(call, body, body["limit"], body["wait"])
-    return _answer(call, body, await _handed(call, found))
+    tasks = await _claimed(call, body, body["limit"], body["wait"])
+    return _answer(call, body, await _handed(call, tasks))
 
 
 async def answered(
-    call: Call, made: Callable[[Any], Any], found: Claimed | None, *path: str
+    call: Call, made: Callable[[Any], Any], claim: Claimed | None, *path: str
 ) -> Response:
     """The answer, `made` of what is told of a claim, which is where the path leads. A task that
     cannot be written is set aside, so that it keeps no other from its worker."""
-    if found is None:
+    if claim is None:
         return Json(made(None))
-    if not any(map(_is_too_deep, found.tasks)):
+    if not any(map(_is_too_deep, claim.tasks)):
         with contextlib.suppress(CannotDecode):
-            return await _written(call, made, found, *path)
-    return await _written(call, made, await _writable(call, found), *path)
+            return await _written(call, made, claim, *path)
+    return await _written(call, made, await _writable(call, claim), *path)
 
 
 def _is_too_deep(task: LeasedTask) -> bool:
@@ -106,28 +106,28 @@ def _is_too_deep(task: LeasedTask) -> bool:
     return any(is_deeper(text, MOST_WRITTEN) for text in _texts(task))
 
 
-async def _written(call: Call, made: Callable[[Any], Any], found: Claimed, *path: str) -> Response:
-    if not found.is_large:
-        return Json(made(found.told()))
-    told = found.told
+async def _written(call: Call, made: Callable[[Any], Any], claim: Claimed, *path: str) -> Response:
+    if not claim.is_large:
+        return Json(made(claim.told()))
+    body_of_claim = claim.told
     return await call.service.threads.answers.do(
-        lambda: parted(made(told()), *path, "tasks", "*", "results")
+        lambda: parted(made(body_of_claim()), *path, "tasks", "*", "results")
     )
 
 
-async def _writable(call: Call, found: Claimed) -> Claimed:
+async def _writable(call: Call, claim: Claimed) -> Claimed:
     """The claim without the tasks that no answer can have, which are set aside."""
     tasks: list[LeasedTask] = []
-    for task in found.tasks:
+    for task in claim.tasks:
         try:
             if _is_too_deep(task):
                 raise CannotDecode(f"it has more than {MOST_WRITTEN} levels of lists and objects")
-            json_views.task(task, found.now)
+            json_views.task(task, claim.now)
             tasks.append(task)
         except CannotDecode as error:
             workers = call.service.store.workers
             await workers.set_aside(task, str(error), holder=call.who.name)
-    return dataclasses.replace(found, tasks=tasks)
+    return dataclasses.replace(claim, tasks=tasks)
 
 
 class NextClaim:
@@ -194,17 +194,17 @@ def _is_gone(call: Call) -> bool:
     return is_gone
 
 
-async def _handed(call: Call, found: list[LeasedTask]) -> list[LeasedTask]:
+async def _handed(call: Call, tasks: list[LeasedTask]) -> list[LeasedTask]:
     """What the client gets. If it is gone, others may claim that at once."""
     if not _is_gone(call):
-        return found
-    await _give_back(call, found)
+        return tasks
+    await _give_back(call, tasks)
     return []
 
 
-async def _give_back(call: Call, found: list[LeasedTask]) -> None:
+async def _give_back(call: Call, tasks: list[LeasedTask]) -> None:
     with contextlib.suppress(SagasError):  # then the leases end by themselves
-        await call.service.store.workers.give_back(found, holder=call.who.name)
+        await call.service.store.workers.give_back(tasks, holder=call.who.name)
 
 
 def worker_of(call: Call, body: dict[str, Any]) -> str:
@@ -244,10 +244,10 @@ async def _claimed(call: Call, body: dict[str, Any], limit: int, wait: float) ->
         return claiming.result() if await _is_over(call, claiming, wait, end) else []
 
 
-def _answer(call: Call, body: dict[str, Any], found: list[LeasedTask]) -> Claimed:
+def _answer(call: Call, body: dict[str, Any], tasks: list[LeasedTask]) -> Claimed:
     more = {
         "heartbeat_seconds": round(body["lease"] / HEARTBEATS, 3),
         "repeat_statuses": problems.REPEAT,
         "unknown_steps": sorted(set(body["steps"]) - call.service.words()),
     }
-    return Claimed(found, more, call.service.store.now())
+    return Claimed(tasks, more, call.service.store.now())

@@ -17,7 +17,7 @@ from sagas.server.routes.tasks import LEASE, MORE, check_next
 from sagas.server.shapes import Anything, Choice, Field, Flag, Nullable, Record, Several, Text
 
 routes = Routes("workers", "/v1/tasks")
-MOST = 100
+MOST_REPORTS = 100
 """How many tasks one request reports at most."""
 REPORT = Record(
     "TaskReport",
@@ -32,7 +32,7 @@ REPORT = Record(
 )
 REPORTS = Record(
     "TaskReports",
-    {"reports": Field(Several(REPORT, least=1, most=MOST), "each as if sent alone"), **MORE},
+    {"reports": Field(Several(REPORT, least=1, most=MOST_REPORTS), "each as if sent alone"), **MORE},
     example={
         "reports": [
             {"attempt_id": "c0ffee-1-car-run-1", "lease": "1.c0ffee", "outcome": "complete"}
@@ -41,7 +41,7 @@ REPORTS = Record(
 )
 
 
-def outcome_of(report: dict[str, Any], place: int) -> dict[str, Any]:
+def outcome_of(report: dict[str, Any], index: int) -> dict[str, Any]:
     """How a task ended, as the store takes it. Raises `Problem`."""
     outcome, error = report["outcome"], report["error"]
     if outcome == "complete":
@@ -49,8 +49,8 @@ def outcome_of(report: dict[str, Any], place: int) -> dict[str, Any]:
     if outcome == "unknown":
         return {"unknown": error or "the worker does not know"}
     if error is None:
-        where = f"reports.{place}.error"
-        raise Problem("InvalidRequest", f"{where}: it is missing", where)
+        location = f"reports.{index}.error"
+        raise Problem("InvalidRequest", f"{location}: it is missing", location)
     return {"error": error, "final": report["final"]}
 
 
@@ -59,14 +59,14 @@ async def _kept(
 ) -> dict[str, Any]:
     """Keeps one report; gives what is answered of it."""
     attempt_id = report["attempt_id"]
-    told: dict[str, Any] = {"attempt_id": attempt_id, "kept": True, "repeated": False}
+    fields: dict[str, Any] = {"attempt_id": attempt_id, "kept": True, "repeated": False}
     try:
         kept = await call.service.store.workers.report(
             attempt_id, report["lease"], holder=call.who.name, stored=claim.stored, **outcome
         )
     except SagasError as error:
-        return {**told, "kept": False, "problem": problems.body(problems.of(error))}
-    return {**told, "repeated": not kept, "problem": None}
+        return {**fields, "kept": False, "problem": problems.body(problems.of(error))}
+    return {**fields, "repeated": not kept, "problem": None}
 
 
 @routes.post(
@@ -82,10 +82,10 @@ async def report(call: Call) -> Response:
     Each report counts as if it was sent alone, and has its own problem if it is not stored. Repeat
     those whose problem has a status that is worth repeating."""
     body, more = call.body, call.body["next"]
-    outcomes = [outcome_of(one, place) for place, one in enumerate(body["reports"])]
+    outcomes = [outcome_of(entry, index) for index, entry in enumerate(body["reports"])]
     check_next(call, more)
     async with NextClaim(call, more, len(outcomes)) as claim:
-        some = (_kept(call, claim, *one) for one in zip(body["reports"], outcomes))
-        told = await asyncio.gather(*some)
-        found = await claim.answer()
-        return await answered(call, lambda next: {"reports": told, "next": next}, found, "next")
+        stored = (_kept(call, claim, *entry) for entry in zip(body["reports"], outcomes))
+        answers_of_reports = await asyncio.gather(*stored)
+        claimed = await claim.answer()
+        return await answered(call, lambda next: {"reports": answers_of_reports, "next": next}, claimed, "next")

@@ -89,7 +89,7 @@ CLAIMED_EXAMPLE = {
     "unknown_steps": [],
 }
 REPORTED = {200: Answer("It is stored.", answers.REPORTED)}
-OWN = ("NoSuchTask", "InvalidLease", "LeaseLost", "OwnerUnavailable")
+OF_LEASES = ("NoSuchTask", "InvalidLease", "LeaseLost", "OwnerUnavailable")
 
 
 @routes.post(
@@ -110,8 +110,8 @@ async def claim(call: Call) -> Response:
     if call.service.is_stopping:
         raise Problem("Stopping", "the service is about to stop: ask again in a while")
     with waiting(call.request, call.who, Kind.CLAIM):
-        found = await claimed(call, call.body)
-    return await answered(call, lambda told: told, found)
+        tasks = await claimed(call, call.body)
+    return await answered(call, lambda claimed_tasks: claimed_tasks, tasks)
 
 
 @routes.post(
@@ -134,7 +134,7 @@ async def end(call: Call) -> Response:
     "heartbeat",
     may=May.WORK,
     body=HEARTBEAT,
-    problems=OWN,
+    problems=OF_LEASES,
     answers={200: Answer("The lease holds.", answers.HELD)},
 )
 async def heartbeat(call: Call) -> Response:
@@ -174,9 +174,9 @@ async def _report(call: Call, **outcome: Any) -> Response:
             stored=claim.stored,
             **outcome,
         )
-        told = {"kept": True, "repeated": not kept}
-        found = await claim.answer()
-        return await answered(call, lambda next: {**told, "next": next}, found, "next")
+        fields = {"kept": True, "repeated": not kept}
+        claimed = await claim.answer()
+        return await answered(call, lambda next: {**fields, "next": next}, claimed, "next")
 
 
 @routes.post(
@@ -185,7 +185,7 @@ async def _report(call: Call, **outcome: Any) -> Response:
     may=May.WORK,
     body=COMPLETE,
     answers=REPORTED,
-    problems=(*OWN, "ConflictingReport", "NotSerializable"),
+    problems=(*OF_LEASES, "ConflictingReport", "NotSerializable"),
 )
 async def complete(call: Call) -> Response:
     """Report that a task is done.
@@ -202,7 +202,7 @@ async def complete(call: Call) -> Response:
     may=May.WORK,
     body=FAIL,
     answers=REPORTED,
-    problems=(*OWN, "ConflictingReport"),
+    problems=(*OF_LEASES, "ConflictingReport"),
 )
 async def fail(call: Call) -> Response:
     """Report that a task had no effect.
@@ -217,7 +217,7 @@ async def fail(call: Call) -> Response:
     may=May.WORK,
     body=UNKNOWN,
     answers=REPORTED,
-    problems=(*OWN, "ConflictingReport"),
+    problems=(*OF_LEASES, "ConflictingReport"),
 )
 async def unknown(call: Call) -> Response:
     """Report that the outcome is unknown.

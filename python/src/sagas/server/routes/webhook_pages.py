@@ -26,10 +26,10 @@ LOOKS = {"pending": "open", "delivered": "completed", "failed": "stuck"}
 """The badge of a state: that of a phase that means as much."""
 
 
-def url(**given: Any) -> str:
+def url(**parameters: Any) -> str:
     """The page with this filter."""
-    words = {name: value for name, value in given.items() if value}
-    return f"/ui/webhooks?{urlencode(words)}" if words else "/ui/webhooks"
+    query = {name: value for name, value in parameters.items() if value}
+    return f"/ui/webhooks?{urlencode(query)}" if query else "/ui/webhooks"
 
 
 @routes.get("/ui/webhooks", query=FILTERED)
@@ -39,14 +39,14 @@ async def listed(call: Call) -> Response:
         return answer
     webhooks.check_all(looker(call.request))
     state, webhook = call.query["state"], call.query["webhook"]
-    found = await call.service.look(deliveries.listed(state, webhook, LISTED + 1))
+    listed_deliveries = await call.service.look(deliveries.listed(state, webhook, LISTED + 1))
     return shows(
         call.request,
         "webhooks.html",
         here="webhooks",
-        deliveries=found[:LISTED],
+        deliveries=listed_deliveries[:LISTED],
         most=LISTED,
-        more=len(found) > LISTED,
+        more=len(listed_deliveries) > LISTED,
         states=(None, *STATES),
         looks=LOOKS,
         state=state,

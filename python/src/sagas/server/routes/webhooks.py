@@ -21,41 +21,41 @@ from sagas.storage.deliveries import DeliveryState
 
 logger = logging.getLogger("sagas.server")
 routes = Routes("operators", "/v1")
-AGAIN = Record("RedeliverRequest", {}, "Nothing is to be said.")
+REDELIVER = Record("RedeliverRequest", {}, "Nothing is to be said.")
 
 
-def told_of(one: Delivery) -> dict[str, Any]:
+def told_of(delivery: Delivery) -> dict[str, Any]:
     """A delivery, without what it is signed by."""
     return {
-        "id": one.id,
-        "webhook": one.webhook,
-        "type": one.type,
-        "key": one.key,
-        **times(at=one.at),
-        "state": one.state,
-        "attempts": one.attempts,
-        "status": one.status,
-        "error": one.error,
-        **times(due=one.due),
+        "id": delivery.id,
+        "webhook": delivery.webhook,
+        "type": delivery.type,
+        "key": delivery.key,
+        **times(at=delivery.at),
+        "state": delivery.state,
+        "attempts": delivery.attempts,
+        "status": delivery.status,
+        "error": delivery.error,
+        **times(due=delivery.due),
     }
 
 
-def check_all(who: Who) -> None:
+def check_all(principal: Who) -> None:
     """Raises `Problem` where somebody is kept to some definitions."""
-    if who.definitions is not None:
-        raise Problem("Forbidden", f"{who.name} is kept to some definitions")
+    if principal.definitions is not None:
+        raise Problem("Forbidden", f"{principal.name} is kept to some definitions")
 
 
-async def again(service: Service, who: Who, id: str) -> Delivery:
+async def again(service: Service, principal: Who, id: str) -> Delivery:
     """Have a delivery posted again. Raises `Problem`."""
-    check_all(who)
+    check_all(principal)
     done = await service.store.deliveries.redeliver(id)
-    one = await service.look(deliveries.one(id)) if done else None
-    if one is None:
+    delivery = await service.look(deliveries.one(id)) if done else None
+    if delivery is None:
         raise Problem("NoSuchDelivery", f"no delivery has the id {id[:64]!r}")
-    logger.info("%s has the delivery %s posted again", who.name, one.id)
+    logger.info("%s has the delivery %s posted again", principal.name, delivery.id)
     service.webhooks.look()
-    return one
+    return delivery
 
 
 @routes.get(
@@ -75,17 +75,17 @@ async def listed(call: Call) -> Response:
     Those of the store: of all services that share it."""
     check_all(call.who)
     query = call.query
-    found = await call.service.look(
+    listed_deliveries = await call.service.look(
         deliveries.listed(query["state"], query["webhook"], query["limit"])
     )
-    return Json({"deliveries": [told_of(one) for one in found]})
+    return Json({"deliveries": [told_of(delivery) for delivery in listed_deliveries]})
 
 
 @routes.post(
     "/webhooks/deliveries/{id}/redeliver",
     "redeliver",
     may=May.OPERATE,
-    body=AGAIN,
+    body=REDELIVER,
     answers={200: Answer("It is pending again.", answers.DELIVERY)},
     problems=("NoSuchDelivery",),
 )
