@@ -914,9 +914,9 @@ def test_an_audit_of_what_is_being_written(place: str) -> None:
     """Rows and events are of one moment, at each of them."""
     kind = shop()
 
-    def differences() -> list[audits.Judged]:
+    def differences() -> list[audits.ShardAudit]:
         with Snapshot(place) as store:
-            judged = [audits.judge(store, log) for log, _, _ in store.rows(audits.SHARDS)]
+            judged = [audits.audit_shard(store, log) for log, _, _ in store.rows(audits.SHARDS)]
         return [one for one in judged if not one.is_good]
 
     async def main() -> None:

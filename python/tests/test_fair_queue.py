@@ -9,7 +9,7 @@ import time
 from hypothesis import given
 from hypothesis import strategies as st
 
-from sagas.server.fair_queue import LONG, MAKER, FairQueue
+from sagas.server.fair_queue import LONG, CURRENT_CLIENT, FairQueue
 from sagas.server.threads import Pool
 
 
@@ -112,7 +112,7 @@ def test_a_pool() -> None:
             return name
 
         def ask(maker: str, name: str) -> asyncio.Task[str]:
-            MAKER.set(maker)
+            CURRENT_CLIENT.set(maker)
             return asyncio.ensure_future(pool.do(lambda: work(name)))
 
         evil = [ask("evil", f"e{number}") for number in range(30)]

@@ -139,7 +139,7 @@ def test_cursors_round_trip() -> None:
     floats += [0.0, 1e-7, 5e-324, 1e16, 1e22, 2.0**60, -1.5, 1795934845.949, 0.1 + 0.2]
     for at in floats:
         text = filters.cursor_of((at, 1_048_577))
-        assert filters.place_of(text) == (at, 1_048_577) and "e" not in text
+        assert filters.parse_position(text) == (at, 1_048_577) and "e" not in text
         assert len(text) > 64 or filters.CURSOR.read(text, "after") == text
     assert filters.cursor_of((1795934845.949, 1048577)) == "1795934845.949-1048577"
-    assert filters.place_of(f"1.5-{10**30}") == (1.5, 2**62)
+    assert filters.parse_position(f"1.5-{10**30}") == (1.5, 2**62)

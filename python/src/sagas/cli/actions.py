@@ -45,12 +45,12 @@ def ask(path: str, key: str, command: str, value: Any, timeout: float) -> tuple[
     with admin.writing(path) as link:
         if command in ("complete", "fail") and is_repeated(link, key, command, value):
             return True, True
-        saga_id = what_is_asked(link, key, command, value)
+        saga_id = target_of(link, key, command, value)
         if saga_id is None:
             return WITHDRAWN, True
         number = link.leave(saga_id, command, json.dumps(value))
         if number is None and saga_id < 0:  # it is a saga by now
-            saga_id = what_is_asked(link, key, command, value) or saga_id
+            saga_id = target_of(link, key, command, value) or saga_id
             number = link.leave(saga_id, command, json.dumps(value))
         if number is None:
             raise gone(key)
@@ -71,7 +71,7 @@ def gone(key: str) -> Trouble:
     return Trouble(f"saga {key} was deleted meanwhile")
 
 
-def what_is_asked(link: admin.Source, key: str, command: str, value: Any) -> int | None:
+def target_of(link: admin.Source, key: str, command: str, value: Any) -> int | None:
     """The id of the saga that is asked; below 0 that of a client's start. None: that start, which
     no node had taken, is withdrawn. Raises `Trouble` where nothing can be asked."""
     rows = link.ask(SAGA, key)
@@ -267,7 +267,9 @@ def answer(
 
     All of them are asked before the first answer is waited for."""
     if not options.all:
-        return request(path, options, command, report_of(options) | report, f"{options.step} {done}", refused)
+        return request(
+            path, options, command, report_of(options) | report, f"{options.step} {done}", refused
+        )
     why = Suspension.EXHAUSTED.value
     sagas = filter_of(options)
     with Snapshot(path) as store:
@@ -289,12 +291,20 @@ def show_answers(
 ) -> int:
     """Says what came of it for each step."""
     outcomes = [
-        reason(entry) if isinstance(entry, dict) else str(gone(step.key)) if entry is False else entry
+        reason(entry)
+        if isinstance(entry, dict)
+        else str(gone(step.key))
+        if entry is False
+        else entry
         for step, entry in zip(waits, answers)
     ]
     if options.json:
-        steps = [{"key": entry.key, "step": entry.step, "kind": kind_of(entry.undo)} for entry in waits]
-        show_json([entry | {"asked": command, "answer": text} for entry, text in zip(steps, outcomes)])
+        steps = [
+            {"key": entry.key, "step": entry.step, "kind": kind_of(entry.undo)} for entry in waits
+        ]
+        show_json(
+            [entry | {"asked": command, "answer": text} for entry, text in zip(steps, outcomes)]
+        )
     for entry, text in zip(waits, outcomes) if not options.json else ():
         if isinstance(text, str):  # somebody else was faster
             complain(text)

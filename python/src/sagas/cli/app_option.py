@@ -17,7 +17,7 @@ HELP = (
 )
 
 
-def words_of_app(part: argparse.ArgumentParser) -> argparse.ArgumentParser:
+def add_app_option(part: argparse.ArgumentParser) -> argparse.ArgumentParser:
     """Add the option; return the parser."""
     part.add_argument("--app", metavar="MODULE:NAME", help=HELP)
     return part

@@ -105,7 +105,7 @@ def ran(
 
 
 @dataclasses.dataclass
-class Judged:
+class ShardAudit:
     """A shard: what `sagas audit` says of its events, whether that is yes, and where its rows
     differ from them.
     """
@@ -119,13 +119,13 @@ class Judged:
         return self.is_allowed and not self.differences
 
 
-def judge(store: Snapshot, log: int) -> Judged:
+def audit_shard(store: Snapshot, log: int) -> ShardAudit:
     """Verifies the events of a shard, and then compares its rows with them. Raises `Trouble`."""
     texts = [text for _, text in store.rows(queries.TEXTS, log, log)]
     lines, _ = queries.joined(store.rows(queries.LINES, log))
     with contextlib.closing(program.Texts([protocol.HEADER + lines, *texts])) as opened:
         done = ran(["audit", *opened.paths], opened)
-        result = Judged((done.stdout or done.stderr).strip(), done.returncode == GOOD)
+        result = ShardAudit((done.stdout or done.stderr).strip(), done.returncode == GOOD)
         if not result.is_allowed:
             return result
         events = Events(log, lines)
@@ -148,7 +148,9 @@ def compare_sagas(rows: Sequence[Row], events: Events) -> list[str]:
             differences.append(f"{key}: a row, and no events")
             continue
         if index != events.places[id]:
-            differences.append(f"{key}: the row has definition {index}, the events {events.places[id]}")
+            differences.append(
+                f"{key}: the row has definition {index}, the events {events.places[id]}"
+            )
         row = phase, parsed(outcome), bool(recovered), bool(undo_failed)
         standing_of_events = events.standings[id]
         if row != standing_of_events:
@@ -197,7 +199,8 @@ def compare_attempts(
             listed = dict(enumerate(names[events.places[id]] if id in events.places else ()))
             location = f"{keys.get(id, f'saga {id}')}: {listed.get(step, step)}, {action} {count}"
             differences.append(
-                f"{location}: the row says {row or 'nothing'}, the events {event_of_log or 'nothing'}"
+                f"{location}: the row says {row or 'nothing'}, "
+                f"the events {event_of_log or 'nothing'}"
             )
     return differences
 
@@ -218,7 +221,7 @@ def audit(path: str, options: argparse.Namespace) -> int:
         logs = store.rows(SHARDS)
         progress = Progress("shards", len(logs))
         for done, (log, name, closed) in enumerate(logs, 1):
-            result = judge(store, log)
+            result = audit_shard(store, log)
             reports.append(
                 {
                     "shard": log,

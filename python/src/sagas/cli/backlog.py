@@ -98,7 +98,7 @@ def stats(path: str, options: argparse.Namespace) -> int:
     """Count sagas by name and phase."""
     with Snapshot(path) as store:
         name, counted = store.link.name, store.ask(lists.counts())
-        needed = store.ask(lists.asked())
+        needed = store.ask(lists.attention_counts())
     undo_failed = needed["undo_failed"]
     persons = sum(needed[why] for why in ("unknown", "exhausted", "cannot_decode", "approval"))
     if options.json:
@@ -136,7 +136,9 @@ def definitions(path: str, options: argparse.Namespace) -> int:
     if options.json:
         show_json([dataclasses.asdict(count) for count in counts])
     else:
-        rows = [(count.saga, count.version, count.open, count.undoable, count.total) for count in counts]
+        rows = [
+            (count.saga, count.version, count.open, count.undoable, count.total) for count in counts
+        ]
         print(table(["SAGA", "VERSION", "OPEN", "UNDOABLE", "TOTAL"], rows))
     return GOOD
 
@@ -176,7 +178,14 @@ def attention(path: str, options: argparse.Namespace) -> int:
         show_json([dataclasses.asdict(entry) for entry in entries])
         return GOOD
     cells = [
-        (entry.key, entry.saga, NEEDS[entry.why], _meant(entry), moment(entry.since), short(_detail(entry)))
+        (
+            entry.key,
+            entry.saga,
+            NEEDS[entry.why],
+            _meant(entry),
+            moment(entry.since),
+            short(_detail(entry)),
+        )
         for entry in entries
     ]
     print(table(["KEY", "SAGA", "WHY", "STEP", "SINCE", "DETAIL"], cells))

@@ -22,7 +22,7 @@ WAITS = "requested; it takes effect when its program handles it"
 LEFT_OUT = "left out, because it undoes a child"
 
 
-def words_of_filter(part: argparse.ArgumentParser, prefix: str) -> None:
+def add_filter_options(part: argparse.ArgumentParser, prefix: str) -> None:
     """The options that say which sagas are meant."""
     part.add_argument("--saga", metavar="NAME", help=f"{prefix}only sagas of this name")
     part.add_argument(
@@ -34,7 +34,7 @@ def words_of_filter(part: argparse.ArgumentParser, prefix: str) -> None:
     )
 
 
-def words_of_limit(part: argparse.ArgumentParser, noun: str) -> None:
+def add_limit_option(part: argparse.ArgumentParser, noun: str) -> None:
     """The option that says how many are listed."""
     part.add_argument(
         "--limit",
@@ -84,7 +84,9 @@ def abort_all(path: str, options: argparse.Namespace) -> int:
     answers |= dict.fromkeys(result.waiting) | result.refused
     answers |= dict.fromkeys(result.undoing, LEFT_OUT)
     if options.json:
-        show_json([{"key": key, "asked": "abort", "answer": answer} for key, answer in answers.items()])
+        show_json(
+            [{"key": key, "asked": "abort", "answer": answer} for key, answer in answers.items()]
+        )
     else:
         lines = dict.fromkeys(result.done, "aborted") | dict.fromkeys(result.waiting, WAITS)
         lines |= result.refused | dict.fromkeys(result.undoing, LEFT_OUT)

@@ -16,7 +16,7 @@ from sagas.storage.blob_option import blobs_of
 SECRET = "SELECT value FROM secrets WHERE name = 'leases'"
 
 
-def words_of_blobs(part: argparse.ArgumentParser) -> argparse.ArgumentParser:
+def add_blobs_option(part: argparse.ArgumentParser) -> argparse.ArgumentParser:
     """Add the option; return the parser."""
     help_text = "the values: a directory, or a blob store of a module"
     part.add_argument("--blobs", metavar="DIR|MODULE:NAME", required=True, help=help_text)

@@ -6,7 +6,7 @@ import argparse
 import contextlib
 import dataclasses
 
-from sagas.cli.batches import words_of_limit
+from sagas.cli.batches import add_limit_option
 from sagas.cli.formatting import GOOD, moment, short, show_json, table
 from sagas.cli.snapshot import Snapshot
 from sagas.inspection import deliveries as questions
@@ -17,14 +17,14 @@ from sagas.storage.admin import Trouble
 from sagas.storage.deliveries import REDELIVER, DeliveryState
 
 
-def words_of_deliveries(part: argparse.ArgumentParser) -> None:
+def add_deliveries_options(part: argparse.ArgumentParser) -> None:
     """The options of `deliveries`."""
     part.add_argument("change", nargs="?", choices=["redeliver"], help="what to do with ID")
     part.add_argument("id", metavar="ID", nargs="?", help="the delivery's id")
     states = [state.value for state in DeliveryState]
     part.add_argument("--state", choices=states, help="only deliveries in this state")
     part.add_argument("--webhook", metavar="NAME", help="only deliveries to this webhook")
-    words_of_limit(part, "deliveries, the newest first")
+    add_limit_option(part, "deliveries, the newest first")
 
 
 def deliveries(path: str, options: argparse.Namespace) -> int:
@@ -42,7 +42,9 @@ def deliveries(path: str, options: argparse.Namespace) -> int:
         show_json(change) if options.json else print(f"{options.id}: {change['state']}")
         return GOOD
     with Snapshot(path) as store:
-        listed = store.ask(questions.listed(options.state, options.webhook, options.limit or lists.ALL))
+        listed = store.ask(
+            questions.listed(options.state, options.webhook, options.limit or lists.ALL)
+        )
     if options.json:
         show_json([dataclasses.asdict(delivery) for delivery in listed])
         return GOOD
@@ -55,4 +57,13 @@ def row_of(delivery: Delivery) -> tuple[object, ...]:
     """A delivery as a person reads it."""
     answer = short(delivery.error) if delivery.error else delivery.status or ""
     at = moment(delivery.at)
-    return delivery.id, delivery.webhook, delivery.type, delivery.key, at, delivery.state, delivery.attempts, str(answer)
+    return (
+        delivery.id,
+        delivery.webhook,
+        delivery.type,
+        delivery.key,
+        at,
+        delivery.state,
+        delivery.attempts,
+        str(answer),
+    )

@@ -64,11 +64,19 @@ def list_sagas(path: str, options: argparse.Namespace) -> int:
             )
         )
     if options.json:
-        show_json([{w: v for w, v in summary_json(summary).items() if w != "id"} for summary in listed])
+        show_json(
+            [{w: v for w, v in summary_json(summary).items() if w != "id"} for summary in listed]
+        )
     else:
         heads = ["KEY", "SAGA", "PHASE", "STARTED", "ENDED"]
         cells = [
-            [summary.key, summary.saga, phase_of(summary), moment(summary.started), moment(summary.ended)]
+            [
+                summary.key,
+                summary.saga,
+                phase_of(summary),
+                moment(summary.started),
+                moment(summary.ended),
+            ]
             for summary in listed
         ]
         if any(summary.labels for summary in listed):
@@ -169,7 +177,9 @@ def show_steps(view: SagaView) -> None:
     for step in view.steps:
         undo = undos.get(step.name) if step.state == "undo_failed" else None
         early = f"reported early: {step.early}" if step.early else None
-        detail = "; ".join(filter(None, [short(str(step.progress or "") or step.said), undo, early]))
+        detail = "; ".join(
+            filter(None, [short(str(step.progress or "") or step.said), undo, early])
+        )
         times = moment(step.began), moment(step.ended)
         state = state_text(step.state, is_over=view.phase != "open")
         cells.append((step.name, state, step.attempts, *times, detail))
@@ -183,7 +193,9 @@ def log(path: str, options: argparse.Namespace) -> int:
     if options.json:
         show_json([dataclasses.asdict(event) for event in events])
     else:
-        rows = [(moment(event.at), event.event, event.step or "", detail_of(event)) for event in events]
+        rows = [
+            (moment(event.at), event.event, event.step or "", detail_of(event)) for event in events
+        ]
         print(table(["TIME", "EVENT", "STEP", "DETAIL"], rows))
     return GOOD
 

@@ -138,7 +138,7 @@ def init(name: str, role: str | None) -> str:
     return f"{database}: {message}{f'; {role} may use them' if role else ''}"
 
 
-def words_of_role(part: argparse.ArgumentParser) -> None:
+def add_role_option(part: argparse.ArgumentParser) -> None:
     """The option for least rights."""
     part.add_argument(
         "--role", metavar="NAME", help="grant this role what a node and a client need, and no more"

@@ -31,7 +31,7 @@ EVENT = re.compile(r'"saga":(\d+)')
 
 
 @dataclasses.dataclass
-class Judged:
+class ShardCheck:
     """A shard: how many events its record has, what the program says of it, where its event log
     has gaps, and what was lost. It is good if the program says yes and there is no gap."""
 
@@ -81,7 +81,7 @@ def save(path: pathlib.Path, text: str) -> None:
         raise Trouble(f"{path}: {error.strerror}. Name a folder by --save", CANNOT) from error
 
 
-class Judge:
+class RecordChecker:
     """Judges the shards of a store, as of one moment."""
 
     def __init__(
@@ -92,11 +92,11 @@ class Judge:
         folder: str | None = None,
         judge: Callable[[str], tuple[bool, str]] | None = None,
     ) -> None:
-        self._store, self._records, self._judge = store, records, judge or judged
+        self._store, self._records, self._judge = store, records, judge or audit_record
         self._is_synchronous, self._folder = is_synchronous, folder
         ((self._timeline,),) = store.rows(LINE)
 
-    def all(self) -> list[Judged]:
+    def all(self) -> list[ShardCheck]:
         """Each shard of the store, and each one that was recorded."""
         names: dict[int, str] = {shard: name for shard, name in self._store.rows(SHARDS)}
         numbers = sorted({*names, *self._records.shards()})
@@ -107,7 +107,7 @@ class Judge:
             progress.at(done)
         return checked
 
-    def _shard(self, shard: int, name: str) -> Judged:
+    def _shard(self, shard: int, name: str) -> ShardCheck:
         takeovers = [
             Takeover(epoch, node.rpartition("/")[2], last, timeline)
             for epoch, node, last, timeline in self._store.rows(TAKEOVERS, shard)
@@ -125,7 +125,7 @@ class Judge:
         gaps = gaps_of(chunks)
         good = is_allowed and not gaps
         lost = sorted({id for id, _ in seen if id not in over})
-        return Judged(shard, name, record.events, good, answer, gaps, record.losses, lost)
+        return ShardCheck(shard, name, record.events, good, answer, gaps, record.losses, lost)
 
     def _chunks(self, shard: int) -> tuple[list[Chunk], dict[int, int]]:
         """Return the chunks of a shard, and for each of its sagas the number of events of the shard
@@ -154,7 +154,7 @@ def gaps_of(chunks: Sequence[Chunk]) -> list[str]:
     return gaps
 
 
-def judged(text: str) -> tuple[bool, str]:
+def audit_record(text: str) -> tuple[bool, str]:
     """What `sagas audit --fleet` says of a record, and whether it is yes. Raises `Trouble` where
     it gives no answer.
     """
@@ -173,7 +173,7 @@ def record(path: str, options: argparse.Namespace) -> int:
     is_database(path)
     records = read(options.files)  # before the store is read, which has all of it by then
     with Snapshot(path) as store:
-        checked = Judge(store, records, options.sync, options.save).all()
+        checked = RecordChecker(store, records, options.sync, options.save).all()
     if options.json:
         show_json([shown(shard) for shard in checked])
     else:
@@ -184,12 +184,12 @@ def record(path: str, options: argparse.Namespace) -> int:
     return GOOD if all(shard.is_whole for shard in checked) else NO
 
 
-def cells(shard: Judged) -> tuple[object, ...]:
+def cells(shard: ShardCheck) -> tuple[object, ...]:
     """A row of the table."""
     return shard.shard, shard.name, shard.events, "yes" if shard.good else "NO", shard.answer
 
 
-def shown(shard: Judged) -> dict[str, Any]:
+def shown(shard: ShardCheck) -> dict[str, Any]:
     """A shard for programs."""
     fields: dict[str, Any] = json.loads(json.dumps(dataclasses.asdict(shard)))
     fields["losses"] = [
@@ -199,7 +199,7 @@ def shown(shard: Judged) -> dict[str, Any]:
     return fields
 
 
-def lost(shard: Judged) -> list[str]:
+def lost(shard: ShardCheck) -> list[str]:
     """Return where a shard has gaps, and what of it was acknowledged and does not exist any
     more."""
     lines = [f"shard {shard.shard}: gap: {gap}" for gap in shard.gaps]

@@ -12,7 +12,7 @@ from sagas.runtime import retention
 from sagas.storage.admin import Trouble
 
 
-def words_of_prune(part: argparse.ArgumentParser) -> None:
+def add_prune_options(part: argparse.ArgumentParser) -> None:
     """Its options."""
     either = part.add_mutually_exclusive_group(required=True)
     either.add_argument(

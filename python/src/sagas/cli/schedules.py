@@ -9,7 +9,7 @@ import time
 from collections.abc import Callable
 
 from sagas.base.errors import NoSuchSchedule
-from sagas.cli.app_option import read_by, words_of_app
+from sagas.cli.app_option import read_by, add_app_option
 from sagas.cli.formatting import GOOD, complain, moment, show_json, table
 from sagas.cli.snapshot import Snapshot
 from sagas.definition.serialization import write as written
@@ -25,11 +25,11 @@ CHANGES: dict[str, tuple[str, Callable[[Schedules, str], str | None]]] = {
 }
 
 
-def words_of_schedules(part: argparse.ArgumentParser) -> None:
+def add_schedules_options(part: argparse.ArgumentParser) -> None:
     """The options of `schedules`."""
     part.add_argument("change", nargs="?", choices=[*CHANGES], help="what to do with NAME")
     part.add_argument("name", metavar="NAME", nargs="?", help="the schedule's name")
-    words_of_app(part)
+    add_app_option(part)
 
 
 def schedules(path: str, options: argparse.Namespace) -> int:
@@ -52,17 +52,25 @@ def schedules(path: str, options: argparse.Namespace) -> int:
         listed = store.ask(lists.schedules())
     if options.json:
         read = read_by(options)
-        listed = [dataclasses.replace(schedule, input=read(written(schedule.input))) for schedule in listed]
+        listed = [
+            dataclasses.replace(schedule, input=read(written(schedule.input)))
+            for schedule in listed
+        ]
         show_json([dataclasses.asdict(schedule) for schedule in listed])
     else:
-        rows = [(schedule.name, schedule.saga, when(schedule), *times(schedule), schedule.error or "") for schedule in listed]
+        rows = [
+            (schedule.name, schedule.saga, when(schedule), *times(schedule), schedule.error or "")
+            for schedule in listed
+        ]
         print(table(["NAME", "SAGA", "TIMES", "LAST", "NEXT", "ERROR"], rows))
     return GOOD
 
 
 def when(schedule: Schedule) -> str:
     """The times of a schedule as a person reads them."""
-    return f"{schedule.cron} {schedule.timezone}" if schedule.cron else f"every {schedule.every:g} s"
+    return (
+        f"{schedule.cron} {schedule.timezone}" if schedule.cron else f"every {schedule.every:g} s"
+    )
 
 
 def times(schedule: Schedule) -> tuple[str, str]:

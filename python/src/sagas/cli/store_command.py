@@ -16,18 +16,18 @@ from sagas.base.errors import SagasError
 from sagas.base.option_values import not_negative
 from sagas.cli import nodes as nodes_module
 from sagas.cli.actions import abort, compensate, complete, fail, retry
-from sagas.cli.app_option import words_of_app
+from sagas.cli.app_option import add_app_option
 from sagas.cli.audits import audit
-from sagas.cli.blobs import own_blobs, words_of_blobs
+from sagas.cli.blobs import own_blobs, add_blobs_option
 from sagas.cli.backlog import attention, definitions, pending, stats, stuck
-from sagas.cli.batches import resolve, words_of_filter, words_of_limit
-from sagas.cli.deliveries import deliveries, words_of_deliveries
+from sagas.cli.batches import resolve, add_filter_options, add_limit_option
+from sagas.cli.deliveries import deliveries, add_deliveries_options
 from sagas.cli.formatting import CANNOT, INTERRUPTED, complain, drop_output, escape
 from sagas.cli.inspect import draw, export, list_sagas, log, plan, show
 from sagas.cli.maintenance import init, migrate, nodes
 from sagas.cli.records import record
-from sagas.cli.retention import prune, words_of_prune
-from sagas.cli.schedules import schedules, words_of_schedules
+from sagas.cli.retention import prune, add_prune_options
+from sagas.cli.schedules import schedules, add_schedules_options
 from sagas.storage.admin import Trouble
 from sagas.storage.queries import PHASES
 
@@ -114,16 +114,16 @@ def parser() -> argparse.ArgumentParser:
 
     add_looks(add)
     add_asks(add)
-    words_of_schedules(add("schedules", schedules))
-    words_of_deliveries(add("deliveries", deliveries))
+    add_schedules_options(add("schedules", schedules))
+    add_deliveries_options(add("deliveries", deliveries))
     add("audit", audit)
     add_files(add("record", record))
     add("nodes", nodes)
     add("migrate", migrate)
-    nodes_module.words_of_role(add("init", init))
-    words_of_app(add("export", export, key=True))
-    words_of_prune(add("prune", prune))
-    words_of_blobs(add("own-blobs", own_blobs))
+    nodes_module.add_role_option(add("init", init))
+    add_app_option(add("export", export, key=True))
+    add_prune_options(add("prune", prune))
+    add_blobs_option(add("own-blobs", own_blobs))
     return top
 
 
@@ -138,12 +138,12 @@ def add_looks(add: Add) -> None:
             "failed compensation"
         ),
     )
-    words_of_filter(part, "")
+    add_filter_options(part, "")
     part.add_argument("--after", metavar="KEY", help="continue after the saga with this key")
     part.add_argument("--newest", action="store_true", help="list the newest first")
-    words_of_limit(part, "sagas")
-    words_of_app(add("show", show, key=True))
-    words_of_app(add("log", log, key=True))
+    add_limit_option(part, "sagas")
+    add_app_option(add("show", show, key=True))
+    add_app_option(add("log", log, key=True))
     add("plan", plan, key=True).add_argument(
         "--text", action="store_true", help="print it in the form that `sagas` reads to check it"
     )
@@ -166,7 +166,7 @@ def add_looks(add: Add) -> None:
     add("stats", stats)
     add("definitions", definitions)
     add("stuck", stuck)
-    words_of_limit(add("attention", attention), "entries")
+    add_limit_option(add("attention", attention), "entries")
     add("pending", pending)
 
 
@@ -175,13 +175,13 @@ def add_asks(add: Add) -> None:
     part = add("abort", abort)
     part.add_argument("key", metavar="KEY", nargs="?", help="the saga's key")
     part.add_argument("--all", action="store_true", help="every open saga, instead of KEY")
-    words_of_filter(part, "with --all: ")
+    add_filter_options(part, "with --all: ")
     part.add_argument(
         "--yes", action="store_true", help="with --all: abort them (default: only count them)"
     )
     add_note(part)
     add_timeout(part)
-    part = words_of_app(add("complete", complete))
+    part = add_app_option(add("complete", complete))
     add_steps(part, "complete")
     add_early(part)
     part.add_argument(
@@ -207,7 +207,7 @@ def add_asks(add: Add) -> None:
     part.add_argument(
         "--all", action="store_true", help="every saga that nobody has resolved, instead of KEYs"
     )
-    words_of_filter(part, "with --all: ")
+    add_filter_options(part, "with --all: ")
     part.add_argument("--count", action="store_true", help="with --all: only count them")
     part.add_argument("--note", required=True, metavar="TEXT", help="what was done about it")
 
@@ -219,7 +219,7 @@ def add_steps(part: argparse.ArgumentParser, verb: str) -> None:
     part.add_argument(
         "--all", action="store_true", help="each step whose attempts are used up, without KEY"
     )
-    words_of_filter(part, "with --all: ")
+    add_filter_options(part, "with --all: ")
     part.add_argument("--step", metavar="NAME", dest="only", help="with --all: only this step")
     part.add_argument(
         "--yes", action="store_true", help=f"with --all: {verb} them (default: only count them)"

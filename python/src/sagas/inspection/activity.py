@@ -17,7 +17,7 @@ BEGUN = ("running", "undoing")
 """The states of a step of which an attempt has begun."""
 
 
-def known(view: SagaView, active: Iterable[ActiveAttempt], now: float) -> SagaView:
+def with_active_attempts(view: SagaView, active: Iterable[ActiveAttempt], now: float) -> SagaView:
     """A saga with what its node says of what has begun. A worker whose lease has run out has
     nothing any more.
     """
@@ -28,7 +28,9 @@ def known(view: SagaView, active: Iterable[ActiveAttempt], now: float) -> SagaVi
         if entry.why != "external" or (entry.until or 0.0) > now
     }
     gone: dict[tuple[str, bool], Waits] = {
-        (entry.step, entry.undo): entry for entry in view.held if (entry.step, entry.undo) not in waiting
+        (entry.step, entry.undo): entry
+        for entry in view.held
+        if (entry.step, entry.undo) not in waiting
     }
     running = {at for at, entry in waiting.items() if entry.why == "external"}
     for entry in active:
@@ -39,7 +41,11 @@ def known(view: SagaView, active: Iterable[ActiveAttempt], now: float) -> SagaVi
         if not entry.waits:
             running.add(at)
             waiting.pop(at, None)  # for what it waited before
-        elif at in waiting and waiting[at].why == "external" and entry.waits in ("external", "worker"):
+        elif (
+            at in waiting
+            and waiting[at].why == "external"
+            and entry.waits in ("external", "worker")
+        ):
             pass  # another node gave it out
         elif entry.waits != "external" and (at not in waiting or waiting[at].why != entry.waits):
             waiting[at] = _waits(view, entry, stretch.began, gone.pop(at, None))

@@ -18,7 +18,7 @@ from sagas.inspection.question import Query, Question
 from sagas.storage.filters import Filter
 from sagas.storage.queries import DAMAGED, DAMAGED_SINCE, PHASES
 
-Place = Optional[tuple[float, int, int]]
+EntryPosition = Optional[tuple[float, int, int]]
 """The last entry of the page before: the start of its saga, that, and its step, or -1."""
 APPROVAL = "approval"
 KINDS = (*(reason.value for reason in AttentionReason), APPROVAL)
@@ -77,7 +77,7 @@ class Entry:
     kind: str
     started: float
     id: int
-    place: int
+    step_index: int
     key: str
     saga: str
     step: str | None
@@ -114,7 +114,7 @@ def entries(
     step: str | None = None,
     undo: bool | None = None,
     *,
-    after: Place = None,
+    after: EntryPosition = None,
     newest: bool = False,
     most: int = 100,
 ) -> Question[list[Entry]]:

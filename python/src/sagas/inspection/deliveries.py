@@ -53,7 +53,9 @@ def listed(state: str | None, webhook: str | None, most: int) -> Question[list[D
 
 def _of(*row: Any) -> Delivery:
     delivery = Delivery(*row)
-    return dataclasses.replace(delivery, due=(delivery.due or delivery.at) if delivery.state == "pending" else None)
+    return dataclasses.replace(
+        delivery, due=(delivery.due or delivery.at) if delivery.state == "pending" else None
+    )
 
 
 def one(id: str) -> Question[Delivery | None]:

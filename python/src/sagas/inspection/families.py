@@ -34,6 +34,12 @@ def of(id: int, key: str) -> Question[tuple[Relative | None, list[Relative]]]:
     """The parent of a saga, if it has one, and its children in the order of their starts."""
     above = yield Query(PARENT, (id,))
     below = yield Query(CHILDREN.format(most=MOST_CHILDREN), (id,))
-    parent = [Relative(relative, saga, phase, key[len(relative + BELOW) :]) for relative, saga, phase in above]
-    children = [Relative(relative, saga, phase, relative[len(key + BELOW) :]) for relative, saga, phase in below]
+    parent = [
+        Relative(relative, saga, phase, key[len(relative + BELOW) :])
+        for relative, saga, phase in above
+    ]
+    children = [
+        Relative(relative, saga, phase, relative[len(key + BELOW) :])
+        for relative, saga, phase in below
+    ]
     return parent[0] if parent else None, children

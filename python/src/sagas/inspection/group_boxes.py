@@ -12,7 +12,7 @@ MOST_ITEMS = 12
 """Items of an unfolded group that are boxes of a picture; the others are one box."""
 
 
-class Told(NamedTuple):
+class StepDisplay(NamedTuple):
     """What a step's box says: its state in words, and why; its colour and its icon. `left`: it
     is not run.
     """
@@ -30,7 +30,7 @@ class Box(NamedTuple):
     """
 
     title: str
-    told: Told
+    display: StepDisplay
     steps: list[int]
     href: Optional[str] = None
     alone: bool = False
@@ -40,21 +40,27 @@ Link = Callable[[Group], Optional[str]]
 """Where a click on a group leads."""
 
 
-def urgency(display: Told) -> int:
+def urgency(display: StepDisplay) -> int:
     """What failed comes first, then what asks a person, then what is under way."""
     return {"failed": 0, "undo_failed": 0, "person": 1, "running": 2, "undoing": 2}.get(
         display.tone, 3 if display.tone != "waiting" else 4
     )
 
 
-def counted(displays: Sequence[Told]) -> Told:
+def counted(displays: Sequence[StepDisplay]) -> StepDisplay:
     """Return the state of several steps: how many are in each, the urgent ones first."""
     counts = Counter(display.state for display in displays)
     first = {display.state: display for display in reversed(displays)}
     states = sorted(counts, key=lambda state: urgency(first[state]))
     state, *others = [f"{counts[state]:,} {state}" for state in states]
     display = first[states[0]]
-    return Told(state, ", ".join(others), all(display.left for display in displays), display.tone, display.icon)
+    return StepDisplay(
+        state,
+        ", ".join(others),
+        all(display.left for display in displays),
+        display.tone,
+        display.icon,
+    )
 
 
 def blocks_of(groups: Groups, count: int, unfold: Collection[str]) -> list[Block]:
@@ -65,7 +71,10 @@ def blocks_of(groups: Groups, count: int, unfold: Collection[str]) -> list[Block
 
 
 def boxes_of(
-    blocks: list[Block], names: Sequence[str], displays: Sequence[Told], link: Link | None = None
+    blocks: list[Block],
+    names: Sequence[str],
+    displays: Sequence[StepDisplay],
+    link: Link | None = None,
 ) -> list[Box]:
     """The boxes of a picture. Of the items of an unfolded group some are drawn, the urgent ones
     first, and the others as one.
@@ -87,7 +96,9 @@ def boxes_of(
     return boxes
 
 
-def _few(boxes: list[Box], name: str, items: list[int], displays: Sequence[Told]) -> list[Box]:
+def _few(
+    boxes: list[Box], name: str, items: list[int], displays: Sequence[StepDisplay]
+) -> list[Box]:
     """The boxes, with those items of a group as one that are many, and not urgent."""
     rest = sorted(items, key=lambda step: urgency(displays[step]))[MOST_ITEMS:]
     if len(rest) < 2:

@@ -22,7 +22,7 @@ class Item:
     layer: int
     left: list[int] = dataclasses.field(default_factory=list)
     right: list[int] = dataclasses.field(default_factory=list)
-    place: float = 0.0
+    lay_out: float = 0.0
     y: float = 0.0
 
     @property
@@ -67,7 +67,9 @@ class Layout:
         self.items = [Item(step, layer) for step, layer in enumerate(self.of)]
         self.chains: dict[tuple[int, int], list[int]] = {}
         passing = sum(
-            self.of[step] - self.of[need] - 1 for step, needed in enumerate(needs) for need in needed
+            self.of[step] - self.of[need] - 1
+            for step, needed in enumerate(needs)
+            for need in needed
         )
         for step, needed in enumerate(needs):
             for index, need in enumerate(needed):
@@ -98,7 +100,7 @@ class Layout:
                 wanted = {
                     number: self._middle(
                         self.items[number].left if forward else self.items[number].right,
-                        self.items[number].place,
+                        self.items[number].lay_out,
                     )
                     for number in layer
                 }
@@ -107,11 +109,11 @@ class Layout:
 
     def _number(self, layer: list[int]) -> None:
         for position, number in enumerate(layer):
-            self.items[number].place = (position + 0.5) / len(layer)
+            self.items[number].lay_out = (position + 0.5) / len(layer)
 
     def _middle(self, neighbors: list[int], default: float) -> float:
         return (
-            sum(self.items[number].place for number in neighbors) / len(neighbors)
+            sum(self.items[number].lay_out for number in neighbors) / len(neighbors)
             if neighbors
             else default
         )
@@ -128,7 +130,9 @@ class Layout:
                     item = self.items[number]
                     neighbors = item.left if forward else item.right
                     wanted.append(
-                        sum(self.items[neighbor].y for neighbor in neighbors) / len(neighbors) if neighbors else item.y
+                        sum(self.items[neighbor].y for neighbor in neighbors) / len(neighbors)
+                        if neighbors
+                        else item.y
                     )
                 self._put(layer, wanted)
 
@@ -165,6 +169,6 @@ class Layout:
         return item.layer * (WIDTH + GAP_X), item.y
 
 
-def place(needs: Sequence[Sequence[int]]) -> Placed:
+def lay_out(needs: Sequence[Sequence[int]]) -> Placed:
     """The layout of steps by what each needs."""
     return Layout(needs).placed()

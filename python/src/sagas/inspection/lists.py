@@ -104,7 +104,9 @@ def counts(scope: Scope = EVERYTHING) -> Question[Counts]:
     """How many sagas there are, by name and phase."""
     result: Counts = {}
     condition, parameters = scope.where()
-    rows = yield Query(COUNTS.format(condition), (*parameters, *parameters, *parameters, *parameters))
+    rows = yield Query(
+        COUNTS.format(condition), (*parameters, *parameters, *parameters, *parameters)
+    )
     for saga, phase, count in sorted(rows, key=lambda row: str(row[1]) != "completed"):
         phases = result.setdefault(saga, dict.fromkeys(COUNTED, 0))
         phases[phase] += count
@@ -186,7 +188,7 @@ def undoing(sagas: Filter) -> Question[int]:
     return int(rows[0][0])
 
 
-def asked(scope: Scope = EVERYTHING) -> Question[dict[str, int]]:
+def attention_counts(scope: Scope = EVERYTHING) -> Question[dict[str, int]]:
     """How many things wait for a person: stuck sagas, sagas of which a compensation failed
     permanently, reports that were not used, approvals, attempts that are exhausted, whose outcome
     is unknown, or whose stored values cannot be read, and open sagas whose shard is damaged."""

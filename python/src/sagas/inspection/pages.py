@@ -167,7 +167,9 @@ def _rows(
     if most is None:
         query = f"SELECT {SUMMARY} FROM sagas s WHERE {condition}"
     else:  # of others no labels are put together
-        page_of_ids = f"SELECT s.id FROM sagas s WHERE {condition} ORDER BY {_order(at, newest)} LIMIT ?"
+        page_of_ids = (
+            f"SELECT s.id FROM sagas s WHERE {condition} ORDER BY {_order(at, newest)} LIMIT ?"
+        )
         query = f"SELECT {SUMMARY} FROM ({page_of_ids}) lot CROSS JOIN sagas s WHERE s.id = lot.id"
         parameters.append(most)
     summaries = map(summary_of, (yield Query(query, (*parameters,))))

@@ -13,8 +13,8 @@ from sagas.engine.plan import Choice
 from sagas.inspection import wording
 from sagas.inspection.activity import state_of
 from sagas.inspection.folding import folded
-from sagas.inspection.group_boxes import Box, Link, Told, blocks_of, boxes_of, urgency
-from sagas.inspection.layout import GAP_X, HEIGHT, WIDTH, Placed, Point, place
+from sagas.inspection.group_boxes import Box, Link, StepDisplay, blocks_of, boxes_of, urgency
+from sagas.inspection.layout import GAP_X, HEIGHT, WIDTH, Placed, Point, lay_out
 from sagas.inspection.views import SagaView, Waits
 
 MARGIN = 6
@@ -64,7 +64,7 @@ def shorten_name(text: str, most: int) -> str:
     )
 
 
-def told_of(view: SagaView) -> list[Told]:
+def displays_of(view: SagaView) -> list[StepDisplay]:
     """What the boxes say, by step."""
     choices = (
         {choice.step: choice for choice in view.plan.choices}
@@ -107,7 +107,7 @@ def told_of(view: SagaView) -> list[Told]:
             )
         elif wait and wait.why not in ("external", "ordered"):
             state, icon = "waits", "waiting"
-        result.append(Told(state, why, left, tone, icon))
+        result.append(StepDisplay(state, why, left, tone, icon))
     return result
 
 
@@ -208,7 +208,7 @@ def titled(equal: list[Box]) -> Box:
 def spoken(view: SagaView, shown: list[Box]) -> str:
     """The picture in words."""
     steps = "; ".join(
-        f"{box.title} {box.told.state}{' (' + box.told.why + ')' if box.told.why else ''}"
+        f"{box.title} {box.display.state}{' (' + box.display.why + ')' if box.display.why else ''}"
         for box in shown
     )
     return f"{view.saga} {view.key}, {view.phase}: {steps}"
@@ -218,7 +218,7 @@ def svg(
     view: SagaView,
     style: str = "",
     *,
-    displays: list[Told] | None = None,
+    displays: list[StepDisplay] | None = None,
     groups: Groups | None = None,
     unfold: Collection[str] = (),
     link: Link | None = None,
@@ -227,7 +227,7 @@ def svg(
 
     `unfold`: the groups whose parts are drawn; `link`: where a click on a group leads.
     """
-    displays = told_of(view) if displays is None else displays
+    displays = displays_of(view) if displays is None else displays
     groups = Groups.read(view.definition) if groups is None else groups
     steps = [(step.name, step.needs) for step in view.steps]
     shown = boxes_of(
@@ -236,18 +236,21 @@ def svg(
     return drawn(steps, shown, spoken(view, shown), style)
 
 
-def ordered(needs: list[list[int]], displays: list[Told]) -> Placed:
+def ordered(needs: list[list[int]], displays: list[StepDisplay]) -> Placed:
     """The places of boxes, the urgent ones of a layer above the others as far as lines allow."""
     order = sorted(range(len(needs)), key=lambda box: urgency(displays[box]))
     number = {box: count for count, box in enumerate(order)}
-    layout = place([[number[need] for need in needs[box]] for box in order])
+    layout = lay_out([[number[need] for need in needs[box]] for box in order])
     corners = [layout.corners[number[box]] for box in range(len(needs))]
     return dataclasses.replace(layout, corners=corners)
 
 
-def plain_boxes(steps: list[tuple[str, list[str]]], displays: list[Told]) -> list[Box]:
+def plain_boxes(steps: list[tuple[str, list[str]]], displays: list[StepDisplay]) -> list[Box]:
     """A box for each step."""
-    return [Box(name, display, [index]) for index, ((name, _), display) in enumerate(zip(steps, displays))]
+    return [
+        Box(name, display, [index])
+        for index, ((name, _), display) in enumerate(zip(steps, displays))
+    ]
 
 
 def needs_of(steps: list[tuple[str, list[str]]], shown: list[Box]) -> list[list[int]]:
@@ -261,14 +264,16 @@ def needs_of(steps: list[tuple[str, list[str]]], shown: list[Box]) -> list[list[
     return result
 
 
-def drawn(steps: list[tuple[str, list[str]]], shown: list[Box], description: str, style: str = "") -> str:
+def drawn(
+    steps: list[tuple[str, list[str]]], shown: list[Box], description: str, style: str = ""
+) -> str:
     """Boxes of steps with their needs, and the picture in words. Many equal ones are one box, but
     for those that stand alone.
     """
-    looks = [object() if box.alone else box.told for box in shown]
+    looks = [object() if box.alone else box.display for box in shown]
     groups = folded(needs_of(steps, shown), looks)
     joined = [titled([shown[index] for index in group.steps]) for group in groups]
-    placed = ordered([group.needs for group in groups], [box.told for box in joined])
+    placed = ordered([group.needs for group in groups], [box.display for box in joined])
     needs = [
         f'<path class="need" marker-end="url(#to)" d="{line(points)}"/>'
         for points in placed.lines.values()

@@ -24,7 +24,7 @@ class Query:
     `is_long`: it may give many megabytes, so that nothing waits in an event loop for a file."""
 
     text: str
-    words: tuple[Any, ...] = ()
+    parameters: tuple[Any, ...] = ()
     is_long: bool = False
 
 
@@ -46,7 +46,7 @@ class StoreReader:
         try:
             query = next(question)
             while True:
-                query = question.send(self._reader.rows(query.text, *query.words))
+                query = question.send(self._reader.rows(query.text, *query.parameters))
         except StopIteration as end:
             answer: T = end.value
             return answer
@@ -71,7 +71,7 @@ class AsyncStoreReader:
             query = next(question)
             while True:
                 read = self._read_long if query.is_long else self._read
-                query = question.send(await read(query.text, *query.words))
+                query = question.send(await read(query.text, *query.parameters))
         except StopIteration as end:
             answer: T = end.value
             return answer

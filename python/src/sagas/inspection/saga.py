@@ -227,10 +227,16 @@ def steps_of(
     """The steps of a saga as they stand. `progress`: by step, action and attempt; `early`: what was
     reported of steps before they have begun.
     """
-    now = {(entry.step, entry.undo): entry.attempt for entry in history.stretches() if entry.ended is None}
+    now = {
+        (entry.step, entry.undo): entry.attempt
+        for entry in history.stretches()
+        if entry.ended is None
+    }
     last, done, errors = last_values(attempts), results_of(attempts), errors_of(attempts)
     skipped = Counter(
-        entry.step for entry in attempts if not entry.undo and not was_called(entry.outcome, entry.value)
+        entry.step
+        for entry in attempts
+        if not entry.undo and not was_called(entry.outcome, entry.value)
     )
     steps = []
     for index, step in enumerate(listed_steps.of(definition)):

@@ -161,7 +161,9 @@ def _times(
         if not was_called(end.outcome, end.value):
             outcome = "not_called"
     last = now if stretch.ended is None else stretch.ended
-    decisions_of_attempt = [note for note in notes if _is_of(note, stretch) and note.at <= last + 1.0]
+    decisions_of_attempt = [
+        note for note in notes if _is_of(note, stretch) and note.at <= last + 1.0
+    ]
     return AttemptTimes(
         stretch.step,
         stretch.undo,
@@ -179,7 +181,10 @@ def _times(
 
 def _is_of(note: Note, stretch: Stretch) -> bool:
     """Whether it was said of this attempt; a report may come before its step begins."""
-    is_undo, is_early = note.told.get("kind") == "undo", note.what != "retry" and stretch.attempt == 1
+    is_undo, is_early = (
+        note.told.get("kind") == "undo",
+        note.what != "retry" and stretch.attempt == 1,
+    )
     is_same = (note.told.get("step"), is_undo) == (stretch.step, stretch.undo)
     return is_same and (note.at >= stretch.began or is_early)
 
@@ -271,7 +276,9 @@ def _ready(view: SagaView) -> dict[Key, float]:
             undo = STARTS[word]
             number = counts[name, undo] = counts.get((name, undo), 0) + 1
             before = _before(name, undo, above if undo else needs)
-            ready[name, undo, number] = max([planned, *(done.get(earlier, 0.0) for earlier in before)])
+            ready[name, undo, number] = max(
+                [planned, *(done.get(earlier, 0.0) for earlier in before)]
+            )
         elif word in OUTCOMES:
             done[name, word.startswith("undo")] = at
     return ready

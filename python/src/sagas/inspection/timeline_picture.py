@@ -74,7 +74,9 @@ def drawn(
     )
     at = Scale(first, now, left, scale)
     bars = "".join(
-        bar(attempt, at, TOP + ROW * rows[attempt.step]) for attempt in shown if attempt.step not in titles
+        bar(attempt, at, TOP + ROW * rows[attempt.step])
+        for attempt in shown
+        if attempt.step not in titles
     )
     for title, members in by_group(shown, titles).items():
         bars += group_bar(title, members, at, TOP + ROW * rows[title])
@@ -119,7 +121,8 @@ def tone_of(attempt: AttemptTimes) -> str:
 def bar(attempt: AttemptTimes, at: Scale, top: float) -> str:
     """An attempt, a part for each of its spans."""
     parts = "".join(part(span, at, top) for span in attempt.spans)
-    return f'<g class="run {tone_of(attempt)}"><title>{escape(told(attempt, at.now))}</title>{parts}</g>'
+    title = escape(describe(attempt, at.now))
+    return f'<g class="run {tone_of(attempt)}"><title>{title}</title>{parts}</g>'
 
 
 ORDER = ("waiting", "committed", "undone", "running", "missed", "undo_failed", "failed")
@@ -184,7 +187,7 @@ def part(span: Span, at: Scale, top: float) -> str:
     )
 
 
-def told(attempt: AttemptTimes, now: float) -> str:
+def describe(attempt: AttemptTimes, now: float) -> str:
     """An attempt in words."""
     action = "compensation" if attempt.undo else "action"
     outcome = wording.OUTCOMES.get(attempt.outcome or "", "under way")

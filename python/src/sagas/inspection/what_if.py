@@ -91,7 +91,7 @@ def _assumed(view: SagaView, aborted: bool) -> dict[str, str]:
     return assumed
 
 
-def words(forecast: WhatIf) -> str:
+def describe(forecast: WhatIf) -> str:
     """What would be done, for a person: "Undo car and hotel, keep flight: costs 15"."""
     if forecast.plan.cost is None:
         because = " and ".join(forecast.plan.blocking_steps)
@@ -107,20 +107,20 @@ def words(forecast: WhatIf) -> str:
     return f"{text[0].upper()}{text[1:]}: costs {forecast.plan.cost:,}{more}"
 
 
-def aborted_words(view: SagaView) -> str:
+def describe_abort(view: SagaView) -> str:
     """What an abort would do now."""
-    return words(of(view, abort=True))
+    return describe(of(view, abort=True))
 
 
-def failed_words(view: SagaView, step: str) -> str:
+def describe_failure(view: SagaView, step: str) -> str:
     """What becomes of a saga once a step, or its compensation, has failed permanently."""
-    return words(of(view, failed=step))
+    return describe(of(view, failed=step))
 
 
-def done_words(view: SagaView, step: str) -> str:
+def describe_completion(view: SagaView, step: str) -> str:
     """What becomes of a saga once a step, or its compensation, is done."""
     if view.aborted or any(other.state in RECOVERS for other in view.steps):
-        return words(of(view, done=step))
+        return describe(of(view, done=step))
     done = {other.name for other in view.steps if other.state == "committed"} | {step}
     left = [other for other in view.steps if other.name not in done]
     if not left:

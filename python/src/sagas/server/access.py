@@ -12,20 +12,20 @@ from collections.abc import Iterator
 
 from starlette.requests import Request
 
-from sagas.server.auth import LOCAL, ROLES, May, Who
-from sagas.server.fair_queue import MAKER
+from sagas.server.auth import LOCAL_PRINCIPAL, ROLES, Permission, Principal
+from sagas.server.fair_queue import CURRENT_CLIENT
 from sagas.server.middleware import CROWDING, LEAVE, LOGIN, SERVICE, SLASH
 from sagas.server.places import Kind
 from sagas.server.problems import Problem
 from sagas.server.service import Service
 
-WHO = "sagas.who"
+PRINCIPAL_NAME = "sagas.who"
 """In a scope: the name of whoever asks, for the log."""
-OWNER = "sagas.owner"
-"""In a scope: the `Who`, once the route has let the request in."""
+PRINCIPAL = "sagas.owner"
+"""In a scope: the `Principal`, once the route has let the request in."""
 SIZE = "sagas.size"
 """In a scope: the bytes of the body, once it was read."""
-PLACE = "sagas.place"
+HAS_SLOT = "sagas.place"
 """In a scope: that the request has taken one of its token's places."""
 ANY_TIME = ("/health/", "/ui/static/", LOGIN)
 """Paths that are answered however many connections there are: at once, and without a token."""
@@ -42,11 +42,11 @@ def address(request: Request) -> str:
     return request.client.host if request.client else "?"
 
 
-def whose(request: Request) -> Who:
+def authenticate(request: Request) -> Principal:
     """Whose bearer token the request has. Raises `Problem`."""
     service = service_of(request)
     if service.tokens is None:
-        return LOCAL
+        return LOCAL_PRINCIPAL
     kind, _, token = request.headers.get("authorization", "").partition(" ")
     bearer = token.strip() if kind.lower() == "bearer" else ""
     principal = service.tokens.find(bearer) if bearer else None
@@ -69,37 +69,37 @@ def _why_not(service: Service, token: str) -> str:
     return "this token is not in the token file: `sagas token` makes one"
 
 
-def limited(request: Request, principal: Who) -> None:
+def count_request(request: Request, principal: Principal) -> None:
     """Counts the request. Raises `Problem` where its maker makes too many."""
-    if not service_of(request).rates.take(maker(request, principal)):
+    if not service_of(request).rates.take(client_key(request, principal)):
         raise Problem("TooManyRequests", "too many requests; wait a second")
 
 
-def maker(request: Request, principal: Who) -> str:
+def client_key(request: Request, principal: Principal) -> str:
     """What requests and streams are counted by: the token, or without tokens the address."""
     return principal.digest or address(request)
 
 
-def occupy(request: Request, principal: Who) -> None:
+def occupy(request: Request, principal: Principal) -> None:
     """Take one of the token's places, until the request is over. Raises `Problem`."""
-    MAKER.set(maker(request, principal))
-    if PLACE not in request.scope:
-        leave = service_of(request).places.take(maker(request, principal), Kind.CONNECTION)
-        request.scope[PLACE] = True
+    CURRENT_CLIENT.set(client_key(request, principal))
+    if HAS_SLOT not in request.scope:
+        leave = service_of(request).places.take(client_key(request, principal), Kind.CONNECTION)
+        request.scope[HAS_SLOT] = True
         request.scope[LEAVE].append(leave)
 
 
 @contextlib.contextmanager
-def waiting(request: Request, principal: Who, kind: Kind) -> Iterator[None]:
+def waiting(request: Request, principal: Principal, kind: Kind) -> Iterator[None]:
     """The request waits. Raises `Problem` where too many of the token do."""
-    leave = service_of(request).places.take(maker(request, principal), kind)
+    leave = service_of(request).places.take(client_key(request, principal), kind)
     try:
         yield
     finally:
         leave()
 
 
-def check_room(request: Request, is_operator: bool) -> None:
+def check_capacity(request: Request, is_operator: bool) -> None:
     """Raises `Problem` where the places that are left are for health and for operators."""
     why = request.scope[CROWDING]
     if why and not is_operator and not request.scope["path"].startswith(ANY_TIME):
@@ -108,20 +108,22 @@ def check_room(request: Request, is_operator: bool) -> None:
         )
 
 
-def admit(request: Request, permission: May) -> Who:
+def authorize(request: Request, permission: Permission) -> Principal:
     """Who asks, by the headers. Raises `Problem` where they do not say that this may be done."""
-    principal = whose(request)
-    request.scope[WHO] = principal.name
-    if not principal.may(permission):
+    principal = authenticate(request)
+    request.scope[PRINCIPAL_NAME] = principal.name
+    if not principal.has_permission(permission):
         roles = " or ".join(role for role, may in ROLES.items() if permission in may)
-        reason = f"{principal.name} ({', '.join(sorted(principal.roles))}) may not {permission.value}"
+        reason = (
+            f"{principal.name} ({', '.join(sorted(principal.roles))}) may not {permission.value}"
+        )
         raise Problem("Forbidden", f"{reason}: take a token of the role {roles}")
     has_tokens = service_of(request).tokens is not None
-    check_room(request, is_operator=has_tokens and principal.may(May.OPERATE))
-    limited(request, principal)
+    check_capacity(request, is_operator=has_tokens and principal.has_permission(Permission.OPERATE))
+    count_request(request, principal)
     occupy(request, principal)
-    request.scope[OWNER] = principal
-    request.scope[CHECK] = functools.partial(check_still, request, principal)
+    request.scope[PRINCIPAL] = principal
+    request.scope[CHECK] = functools.partial(check_unchanged, request, principal)
     return principal
 
 
@@ -135,16 +137,16 @@ async def body_of(request: Request) -> bytes:
     return body
 
 
-def is_still(request: Request, principal: Who) -> bool:
+def is_unchanged(request: Request, principal: Principal) -> bool:
     """Whether the token is in its file as it was when it was looked up, and has not expired."""
     tokens = service_of(request).tokens
     return tokens is None or tokens.of(principal.digest) == principal
 
 
-def check_still(request: Request, principal: Who) -> None:
+def check_unchanged(request: Request, principal: Principal) -> None:
     """Raises `Problem` where the token has ended since the request was let in, or was changed."""
-    if not is_still(request, principal):
-        whose(request)  # raises where it has ended
+    if not is_unchanged(request, principal):
+        authenticate(request)  # raises where it has ended
         raise rights_changed()
 
 
@@ -153,21 +155,23 @@ def rights_changed() -> Problem:
     return Problem("RightsChanged", "the rights of your token have changed. Send the request again")
 
 
-def check_definition(principal: Who, definition: str | None, starts: bool = True) -> None:
+def check_definition(principal: Principal, definition: str | None, starts: bool = True) -> None:
     """Raises `Problem` where sagas of this definition are not the token's to see. `starts`: they
     are to be started, and not only to be looked at; no caller starts those that undo children."""
     sees = principal.sees if starts else principal.scope.may_have
     if definition is not None and not sees(definition):
-        raise Problem("Forbidden", f"{principal.name} has no right to the definition {definition[:64]!r}")
+        raise Problem(
+            "Forbidden", f"{principal.name} has no right to the definition {definition[:64]!r}"
+        )
 
 
-def check_key(principal: Who, key: str) -> None:
+def check_key(principal: Principal, key: str) -> None:
     """Raises `Problem` where sagas with this key are not the token's to start."""
     if not principal.scope.has_key(key):
         raise Problem("Forbidden", f"{principal.name} has no right to the key {key[:64]!r}")
 
 
-def check_steps(principal: Who, steps: list[str]) -> None:
+def check_steps(principal: Principal, steps: list[str]) -> None:
     """Raises `Problem` where tasks of some of these steps are not the token's to take."""
     forbidden = sorted({step for step in steps if not principal.does(step)})
     if forbidden:

@@ -59,7 +59,7 @@ def _options_of(location: str, store: Store) -> dict[str, Any]:
     for name in REFUSED:
         if name in set_options and set_options[name] != defaults[name].default:
             raise ValueError(
-                f"--app {location}: its store has {name}=, which a service cannot have. Leave it out, "
-                "or name a list of sagas"
+                f"--app {location}: its store has {name}=, which a service cannot have. "
+                "Leave it out, or name a list of sagas"
             )
     return {name: value for name, value in set_options.items() if name not in NOT_TAKEN_OVER}

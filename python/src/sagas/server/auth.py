@@ -44,7 +44,7 @@ KEY = re.compile(r"(?!.*/:)[^*]{0,511}(?:[^*]|\*)")
 """A key, or with a `*` at the end what keys begin with."""
 
 
-class May(enum.Enum):
+class Permission(enum.Enum):
     """What a token may be good for. A route asks for one of these."""
 
     LOOK = "look at sagas"
@@ -56,11 +56,11 @@ class May(enum.Enum):
 
 
 ROLES = {
-    "caller": frozenset({May.LOOK, May.START}),
-    "approver": frozenset({May.LOOK, May.APPROVE}),
-    "worker": frozenset({May.WORK}),
-    "operator": frozenset(May),
-    "metrics": frozenset({May.MEASURE}),
+    "caller": frozenset({Permission.LOOK, Permission.START}),
+    "approver": frozenset({Permission.LOOK, Permission.APPROVE}),
+    "worker": frozenset({Permission.WORK}),
+    "operator": frozenset(Permission),
+    "metrics": frozenset({Permission.MEASURE}),
 }
 """What each role may."""
 
@@ -84,7 +84,7 @@ class Limits:
 
 
 @dataclasses.dataclass(frozen=True, slots=True)
-class Who:
+class Principal:
     """Somebody with a token. An operator may do what callers, approvers and workers may, and read
     the metrics."""
 
@@ -93,7 +93,7 @@ class Who:
     digest: str = ""
     limits: Limits = Limits()
 
-    def may(self, permission: May) -> bool:
+    def has_permission(self, permission: Permission) -> bool:
         return any(permission in ROLES[role] for role in self.roles)
 
     @property
@@ -130,11 +130,11 @@ class Who:
         )
 
 
-LOCAL = Who("local", frozenset(ROLES))
+LOCAL_PRINCIPAL = Principal("local", frozenset(ROLES))
 """Whoever comes over the loopback where there are no tokens."""
 
 
-NOBODY = Who("nobody", frozenset())
+ANONYMOUS = Principal("nobody", frozenset())
 """Whoever asks for what needs no token: may do nothing else."""
 
 
@@ -142,7 +142,7 @@ def digest_of(token: str) -> str:
     return hashlib.sha256(token.encode(errors="replace")).hexdigest()
 
 
-def read(path: pathlib.Path) -> dict[str, Who]:
+def read(path: pathlib.Path) -> dict[str, Principal]:
     """The token file: tables `[[token]]`, each with `name`, `roles`, and `sha256`, the token's
     digest. Raises `TokenFault`."""
     return _found(path, _text_of(path))
@@ -157,7 +157,7 @@ def _text_of(path: pathlib.Path) -> str:
         raise TokenFault(f"{path}: cannot be read: {error}") from error
 
 
-def _found(path: pathlib.Path, text: str) -> dict[str, Who]:
+def _found(path: pathlib.Path, text: str) -> dict[str, Principal]:
     """The tokens of the file's text. Raises `TokenFault`."""
     try:
         document = tomllib.loads(text)
@@ -168,7 +168,7 @@ def _found(path: pathlib.Path, text: str) -> dict[str, Who]:
     entries = document.get("token", [])
     if set(document) - {"token"} or not isinstance(entries, list):
         raise TokenFault(f"{path}: only [[token]] tables are allowed")
-    result: dict[str, Who] = {}
+    result: dict[str, Principal] = {}
     for number, entry in enumerate(entries, 1):
         try:
             principal = _read_one(entry)
@@ -178,7 +178,7 @@ def _found(path: pathlib.Path, text: str) -> dict[str, Who]:
     return result
 
 
-def _read_one(entry: Any) -> Who:
+def _read_one(entry: Any) -> Principal:
     """The owner of a token. Raises `ValueError`."""
     unknown = sorted(set(entry) - set(KEYS)) if isinstance(entry, dict) else ["?"]
     if unknown:  # a limit that is misspelt would be none
@@ -199,7 +199,7 @@ def _read_one(entry: Any) -> Who:
             "sha256 must be a digest of 64 hexadecimal digits, as `sagas token` writes it"
         )
     limits = limits_of(roles, entry)
-    return Who(name, frozenset(roles), digest, limits)
+    return Principal(name, frozenset(roles), digest, limits)
 
 
 def limits_of(roles: Collection[str], table: Mapping[str, Any]) -> Limits:
@@ -319,13 +319,13 @@ class Tokens:
             return 0, 0, 0
         return status.st_mtime_ns, status.st_size, status.st_ino
 
-    def find(self, token: str) -> Who | None:
+    def find(self, token: str) -> Principal | None:
         """Whose token it is. It is looked up by its digest, so that no time tells of a part of
         it.
         """
         return self.of(digest_of(token))
 
-    def of(self, digest: str) -> Who | None:
+    def of(self, digest: str) -> Principal | None:
         """Whose token has this digest; None where it has expired."""
         principal = self._of(digest)
         return None if principal is None or principal.is_over else principal
@@ -335,7 +335,7 @@ class Tokens:
         principal = self._of(digest_of(token))
         return principal is not None and principal.is_over
 
-    def _of(self, digest: str) -> Who | None:
+    def _of(self, digest: str) -> Principal | None:
         now = time.monotonic()
         if now - self._looked > RELOAD_INTERVAL:
             self._looked = now
@@ -359,7 +359,7 @@ class Tokens:
 class Session:
     """Somebody at the page. `csrf` goes with each form."""
 
-    who: Who
+    principal: Principal
     csrf: str
     until: float
 
@@ -375,7 +375,7 @@ class Sessions:
         self.seconds = seconds
         self._there: OrderedDict[str, Session] = OrderedDict()
 
-    def begin(self, principal: Who) -> tuple[str, Session]:
+    def begin(self, principal: Principal) -> tuple[str, Session]:
         """A new session; gives the cookie's value."""
         name = secrets.token_urlsafe(32)
         session = self._there[digest_of(name)] = Session(

@@ -8,15 +8,15 @@ from typing import Any
 
 from starlette.requests import Request
 
-from sagas.server.access import check_still, service_of
-from sagas.server.auth import Who
+from sagas.server.access import check_unchanged, service_of
+from sagas.server.auth import Principal
 from sagas.server.event_stream import CHECK
 from sagas.server.middleware import FOLLOWED, GONE
 
 
 async def first(
     request: Request,
-    principal: Who,
+    principal: Principal,
     work: "asyncio.Future[Any]",
     seconds: float,
     *ends: "asyncio.Future[None]",
@@ -30,7 +30,7 @@ async def first(
     until = loop.time() + seconds
     try:
         while not await _any_done(futures, min(slice, until - loop.time())):
-            check_still(request, principal)
+            check_unchanged(request, principal)
             if loop.time() >= until:
                 return False
         return work.done()

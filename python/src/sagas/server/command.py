@@ -32,7 +32,7 @@ from sagas.server.quotas import Quota
 from sagas.server.settings import (
     LOOPBACK,
     Network,
-    PlaceSettings,
+    ConcurrencySettings,
     Settings,
     StoreSettings,
     StreamSettings,
@@ -177,6 +177,12 @@ def add_sagas(result: argparse.ArgumentParser) -> None:
         help="with --retention: first write each shard into its own subfolder of DIR "
         f"({OF_APP} or none)",
     )
+    add_values(result)
+    add_webhooks(result)
+
+
+def add_values(result: argparse.ArgumentParser) -> None:
+    """Add the options that say how values are stored."""
     result.add_argument(
         "--codec",
         metavar="MODULE:NAME",
@@ -194,6 +200,10 @@ def add_sagas(result: argparse.ArgumentParser) -> None:
         metavar="BYTES",
         help=f"size above which --blobs keeps a value ({OF_APP} or 65536)",
     )
+
+
+def add_webhooks(result: argparse.ArgumentParser) -> None:
+    """Add the options of webhooks."""
     result.add_argument(
         "--webhooks",
         type=pathlib.Path,
@@ -291,7 +301,9 @@ def add_limits(result: argparse.ArgumentParser) -> None:
 def networks_of(text: str) -> tuple[Network, ...]:
     """Networks, or single addresses, with commas between. Raises `argparse.ArgumentTypeError`."""
     try:
-        return tuple(ipaddress.ip_network(network.strip()) for network in text.split(",") if network.strip())
+        return tuple(
+            ipaddress.ip_network(network.strip()) for network in text.split(",") if network.strip()
+        )
     except ValueError as error:
         raise argparse.ArgumentTypeError(
             f"{error}; use networks or addresses, for example 10.0.0.0/8,192.0.2.7"
@@ -330,22 +342,22 @@ def app_of(location: str | None) -> AppStore | None:
         raise Trouble(str(error)) from error
 
 
-def options_of(arguments_of_command: argparse.Namespace, app: AppStore | None) -> dict[str, Any]:
+def options_of(parsed: argparse.Namespace, app: AppStore | None) -> dict[str, Any]:
     """How the store is opened: as the options say, else as a store of `--app`. Raises `Trouble`."""
     result = dict(app.options) if app else {}
     set_options = {
-        "concurrency": arguments_of_command.concurrency,
-        "codec": arguments_of_command.codec and loaded("--codec", arguments_of_command.codec),
-        "context": arguments_of_command.context and loaded("--context", arguments_of_command.context),
-        "blobs": blobs_of(arguments_of_command.blobs),
-        "blob_threshold": arguments_of_command.blob_threshold,
+        "concurrency": parsed.concurrency,
+        "codec": parsed.codec and loaded("--codec", parsed.codec),
+        "context": parsed.context and loaded("--context", parsed.context),
+        "blobs": blobs_of(parsed.blobs),
+        "blob_threshold": parsed.blob_threshold,
         "retention": None
-        if arguments_of_command.retention is None
-        else datetime.timedelta(seconds=arguments_of_command.retention),
-        "archive_dir": arguments_of_command.archive_dir,
-        "node": arguments_of_command.node,
-        "lease": arguments_of_command.lease,
-        "record": arguments_of_command.record,
+        if parsed.retention is None
+        else datetime.timedelta(seconds=parsed.retention),
+        "archive_dir": parsed.archive_dir,
+        "node": parsed.node,
+        "lease": parsed.lease,
+        "record": parsed.record,
     }
     result |= {name: value for name, value in set_options.items() if value is not None}
     try:
@@ -357,61 +369,62 @@ def options_of(arguments_of_command: argparse.Namespace, app: AppStore | None) -
     return result
 
 
-def settings_of(arguments_of_command: argparse.Namespace) -> Settings:
+def settings_of(parsed: argparse.Namespace) -> Settings:
     """What the words come to. Raises `Trouble`, `DefinitionError`."""
-    host, port = listen_of(arguments_of_command.listen)
-    if arguments_of_command.token_file is not None and not arguments_of_command.token_file.exists():
+    host, port = listen_of(parsed.listen)
+    if parsed.token_file is not None and not parsed.token_file.exists():
         raise Trouble(
-            f"--token-file {arguments_of_command.token_file}: file does not exist; create it with "
-            f"`sagas token {arguments_of_command.token_file} NAME operator`"
+            f"--token-file {parsed.token_file}: file does not exist; create it with "
+            f"`sagas token {parsed.token_file} NAME operator`"
         )
-    if arguments_of_command.token_file is None and not is_loopback(host):
+    if parsed.token_file is None and not is_loopback(host):
         raise Trouble(
-            f"--listen {arguments_of_command.listen}: without --token-file, only a loopback address is allowed; "
+            f"--listen {parsed.listen}: without --token-file, only a loopback address is "
+            "allowed; "
             f"use 127.0.0.1:{port}, or create a file with `sagas token FILE NAME operator`"
         )
-    sagas = definition_files.read(arguments_of_command.definitions) if arguments_of_command.definitions else []
-    app = app_of(arguments_of_command.app)
+    sagas = definition_files.read(parsed.definitions) if parsed.definitions else []
+    app = app_of(parsed.app)
     sagas += app.sagas if app else []
     if not sagas:
         raise Trouble("nothing to serve: pass --definitions DIR or --app MODULE:NAME")
     try:
-        factory.check_name(arguments_of_command.path)
+        factory.check_name(parsed.path)
     except InvalidStore as error:
         raise Trouble(str(error)) from error
-    if not factory.is_url(arguments_of_command.path):
-        if arguments_of_command.record:
+    if not factory.is_url(parsed.path):
+        if parsed.record:
             raise Trouble("--record needs a postgresql:// URL: a file has one program, and no node")
-        file = pathlib.Path(arguments_of_command.path)
+        file = pathlib.Path(parsed.path)
         if file.is_dir():
             raise Trouble(f"{file} is a directory; pass the path of a file")
         if not file.absolute().parent.is_dir():
             raise Trouble(f"directory {file.parent} does not exist; create it first")
-    options = options_of(arguments_of_command, app)
+    options = options_of(parsed, app)
     seconds, on_event = options.pop("shutdown_timeout", None), options.pop("on_event", None)
     more: dict[str, Any] = {}
     if seconds is not None:
         more["shutdown_timeout"] = arguments.time("shutdown_timeout", seconds, none=False)
     return Settings(
-        arguments_of_command.path,
+        parsed.path,
         sagas,
         host,
         port,
-        arguments_of_command.token_file,
-        WebhookSettings(arguments_of_command.webhooks, arguments_of_command.local_webhooks),
-        most_body=arguments_of_command.most_body,
-        streams=StreamSettings(most_each=arguments_of_command.most_streams),
-        places=PlaceSettings(
-            arguments_of_command.most_connections,
-            arguments_of_command.most_waits,
-            arguments_of_command.most_claims,
-            arguments_of_command.most_token_connections,
-            arguments_of_command.most_address_connections,
-            arguments_of_command.kept_connections,
+        parsed.token_file,
+        WebhookSettings(parsed.webhooks, parsed.local_webhooks),
+        most_body=parsed.most_body,
+        streams=StreamSettings(most_each=parsed.most_streams),
+        places=ConcurrencySettings(
+            parsed.most_connections,
+            parsed.most_waits,
+            parsed.most_claims,
+            parsed.most_token_connections,
+            parsed.most_address_connections,
+            parsed.kept_connections,
         ),
-        rate=arguments_of_command.rate,
-        quota=Quota(arguments_of_command.open_sagas, arguments_of_command.open_bytes),
-        trusted_proxies=arguments_of_command.trusted_proxies,
+        rate=parsed.rate,
+        quota=Quota(parsed.open_sagas, parsed.open_bytes),
+        trusted_proxies=parsed.trusted_proxies,
         store=StoreSettings(options, on_event),
         **more,
     )
@@ -467,12 +480,12 @@ def overdue() -> None:
     os._exit(OVERDUE)
 
 
-def main(arguments_of_command: list[str]) -> int:
+def main(argv: list[str]) -> int:
     """Runs `sagas serve`; gives its status: 0 stopped, 1 a definition, 2 usage, 4 a file,
     130 interrupted while it starts.
     """
     try:
-        return serve(parser().parse_args(arguments_of_command))
+        return serve(parser().parse_args(argv))
     except Trouble as trouble:
         print(f"sagas serve: {trouble}", file=sys.stderr)
         return USAGE
@@ -545,9 +558,9 @@ def token_parser() -> argparse.ArgumentParser:
     return result
 
 
-def token(arguments_of_command: list[str]) -> int:
+def token(argv: list[str]) -> int:
     """Runs `sagas token`: prints a new token, and puts its digest into the file."""
-    options = token_parser().parse_args(arguments_of_command)
+    options = token_parser().parse_args(argv)
     if not options.name.isprintable() or not 0 < len(options.name) <= 64:
         print("sagas token: invalid name: use 1 to 64 printable characters", file=sys.stderr)
         return USAGE

@@ -16,7 +16,7 @@ from typing import Any
 
 from sagas.server.problems import Problem, body
 from sagas.server.request_framing import Malformed, RequestFraming
-from sagas.server.settings import LOOPBACK, Network, PlaceSettings, is_among
+from sagas.server.settings import LOOPBACK, Network, ConcurrencySettings, is_among
 
 Peer = tuple[str, int]
 """The client's end of a connection: no two that are open have the same."""
@@ -299,7 +299,7 @@ class Connections:
         most: int,
         head_time: float,
         send_time: float,
-        places: PlaceSettings = PlaceSettings(),
+        places: ConcurrencySettings = ConcurrencySettings(),
         trusted: tuple[Network, ...] = LOOPBACK,
     ) -> None:
         self.most, self.head_time, self.send_time = most, head_time, send_time

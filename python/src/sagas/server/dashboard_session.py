@@ -14,15 +14,15 @@ from starlette.responses import HTMLResponse, RedirectResponse, Response
 from sagas.server import problems, renderer
 from sagas.server.access import (
     CHECK,
-    OWNER,
-    WHO,
+    PRINCIPAL,
+    PRINCIPAL_NAME,
     body_of,
-    limited,
+    count_request,
     occupy,
     rights_changed,
     service_of,
 )
-from sagas.server.auth import LOCAL, May, Session, Who
+from sagas.server.auth import LOCAL_PRINCIPAL, Permission, Session, Principal
 from sagas.server.problems import Problem
 
 COOKIE = "sagas_session"
@@ -38,39 +38,44 @@ def cookie_of(request: Request) -> str:
 
 def session_of(request: Request) -> Session | None:
     """The session of an operator, with what its token says now; None where there is none."""
-    session = still_of(request)
+    session = current_session(request)
     if session is not None:
-        request.scope[WHO], request.scope[OWNER] = session.who.name, session.who
-        request.scope[CHECK] = functools.partial(check_still, request, session.who)
-        limited(request, session.who)
-        occupy(request, session.who)
+        request.scope[PRINCIPAL_NAME], request.scope[PRINCIPAL] = (
+            session.principal.name,
+            session.principal,
+        )
+        request.scope[CHECK] = functools.partial(check_unchanged, request, session.principal)
+        count_request(request, session.principal)
+        occupy(request, session.principal)
     return session
 
 
-def still_of(request: Request) -> Session | None:
+def current_session(request: Request) -> Session | None:
     """As `session_of`, without a count of it."""
     service = service_of(request)
     session = service.sessions.find(request.cookies.get(cookie_of(request), ""))
     if session is None:
         return None
-    principal = LOCAL if service.tokens is None else service.tokens.of(session.who.digest)
-    if principal is None or not principal.may(May.OPERATE):
+    principal = (
+        LOCAL_PRINCIPAL if service.tokens is None else service.tokens.of(session.principal.digest)
+    )
+    if principal is None or not principal.has_permission(Permission.OPERATE):
         return None  # its token is not in the file any more, or has expired
-    session.who = principal
+    session.principal = principal
     return session
 
 
-def check_still(request: Request, principal: Who) -> None:
+def check_unchanged(request: Request, principal: Principal) -> None:
     """Raises `Problem` where the session has ended since the request was let in, or its token was
     changed."""
-    session = still_of(request)
+    session = current_session(request)
     if session is None:
-        raise expired()
-    if session.who != principal:
+        raise expired_form()
+    if session.principal != principal:
         raise rights_changed()
 
 
-def expired() -> Problem:
+def expired_form() -> Problem:
     """A form is of no session, or of another one."""
     return Problem(
         "ExpiredForm",
@@ -79,17 +84,17 @@ def expired() -> Problem:
     )
 
 
-def looker(request: Request) -> Who:
-    """Who looks at a page that is not `closed`."""
-    principal: Who = (
-        request.scope.get(OWNER, LOCAL)
+def viewer_of(request: Request) -> Principal:
+    """Who looks at a page that is not `login_redirect`."""
+    principal: Principal = (
+        request.scope.get(PRINCIPAL, LOCAL_PRINCIPAL)
         if service_of(request).tokens is None
-        else request.scope[OWNER]
+        else request.scope[PRINCIPAL]
     )
     return principal
 
 
-def begin(request: Request, response: Response, principal: Who) -> Session:
+def begin(request: Request, response: Response, principal: Principal) -> Session:
     """A new session, and its cookie."""
     name, session = service_of(request).sessions.begin(principal)
     response.set_cookie(
@@ -124,7 +129,7 @@ def login_first(request: Request) -> Response:
     return RedirectResponse(f"/ui/login?{urlencode(parameters)}", 303)
 
 
-def shows(request: Request, template: str, status: int = 200, **values: Any) -> Response:
+def show_page(request: Request, template: str, status: int = 200, **values: Any) -> Response:
     """The page for whoever is logged in; over the loopback without tokens everybody is."""
     session = session_of(request)
     if session is not None:
@@ -132,13 +137,13 @@ def shows(request: Request, template: str, status: int = 200, **values: Any) -> 
     if service_of(request).tokens is not None:
         return login_first(request)
     response = Response()
-    session = begin(request, response, LOCAL)
+    session = begin(request, response, LOCAL_PRINCIPAL)
     shown_page = page(request, template, session, status, **values)
     shown_page.headers["set-cookie"] = response.headers["set-cookie"]
     return shown_page
 
 
-def closed(request: Request) -> Response | None:
+def login_redirect(request: Request) -> Response | None:
     """What somebody gets who has to log in first."""
     if service_of(request).tokens is None or session_of(request) is not None:
         return None
@@ -174,7 +179,7 @@ async def sent_fields(request: Request, most: int) -> tuple[Session, list[tuple[
     session = session_of(request)
     fields = await fields_of(request, most) if session else []
     if session is None or not session.sent(dict(fields).get("csrf", "")):
-        raise expired()
+        raise expired_form()
     return session, fields
 
 

@@ -74,7 +74,7 @@ class File:
             self.text = path.read_text(encoding="utf-8")
         except (OSError, UnicodeDecodeError) as error:
             raise DefinitionError(f"{path}: cannot be read: {error}") from error
-        self.told = self._parsed()
+        self.document = self._parsed()
         self._lines = Lines(self.text)
 
     def _parsed(self) -> Json:
@@ -132,7 +132,7 @@ def read_one(path: pathlib.Path) -> Saga:
 
 def _manners(service_file: File) -> dict[str, Json]:
     """What the second file says, by step. Raises `Fault`."""
-    document = service_file.told
+    document = service_file.document
     steps = document.get("step", {})
     unknown = set(document) - {"step"}
     if unknown or not isinstance(steps, dict):
@@ -156,7 +156,9 @@ def _check_manner(name: str, options: Any) -> None:
             f"{kind} has no key {option!r}; its keys are {', '.join(sorted(KEYS[kind]))}", option
         )
     for option in ("timeout", "until", "max_unknown"):
-        if option in options and not (is_number(options[option]) and 0 <= options[option] <= MOST_WITHIN):
+        if option in options and not (
+            is_number(options[option]) and 0 <= options[option] <= MOST_WITHIN
+        ):
             raise fault(f"{option} must be a number from 0 to {MOST_WITHIN:,.0f}", option)
     backoff = options.get("backoff", {})
     if (
@@ -178,7 +180,7 @@ def is_number(value: Any) -> bool:
 
 def _built(file: File, service_file: File | None) -> Saga:
     """The saga of these files. Raises `Fault`, `DefinitionError`."""
-    document, options_of_steps = file.told, _manners(service_file) if service_file else {}
+    document, options_of_steps = file.document, _manners(service_file) if service_file else {}
     _check_keys(document)
     try:
         saga = Saga(document["name"], version=version_of(file.text))
@@ -223,7 +225,9 @@ def _check_keys(document: Json) -> None:
             raise Fault(f"invalid definition: step {index + 1} has no name", "step", index, "name")
 
 
-def _add(saga: Saga, file: File, service_file: File | None, index: int, step: Json, options: Json) -> None:
+def _add(
+    saga: Saga, file: File, service_file: File | None, index: int, step: Json, options: Json
+) -> None:
     """One more step. Raises `Fault`, or `DefinitionError` with the line of the step, or of its key
     that is named."""
     kind = options.get("kind", "work")

@@ -27,4 +27,8 @@ class Durations:
         durations = sorted(self._there.get(step, ()))
         if not durations:
             return None
-        return len(durations), durations[(len(durations) - 1) // 2], durations[math.ceil(0.95 * len(durations)) - 1]
+        return (
+            len(durations),
+            durations[(len(durations) - 1) // 2],
+            durations[math.ceil(0.95 * len(durations)) - 1],
+        )

@@ -14,7 +14,7 @@ from collections import OrderedDict, deque
 from typing import Generic, TypeVar
 
 J = TypeVar("J")
-MAKER: contextvars.ContextVar[str] = contextvars.ContextVar("maker", default="")
+CURRENT_CLIENT: contextvars.ContextVar[str] = contextvars.ContextVar("maker", default="")
 """For whom the task that runs now works: a token, or without tokens an address."""
 LONG = 0.01
 """Seconds on the average from which on a maker's work takes long."""
@@ -48,14 +48,14 @@ class FairQueue(Generic[J]):
 
     def put(self, name: str, job: J) -> None:
         """A maker has one more piece of work."""
-        maker = self._known.get(name)
-        if maker is None:
-            maker = self._known[name] = _Maker()
+        client_key = self._known.get(name)
+        if client_key is None:
+            client_key = self._known[name] = _Maker()
         self._known.move_to_end(name)
-        if not maker.jobs and not maker.running:  # nobody saves up time
-            maker.used = max(maker.used, self._floor)
-        maker.jobs.append(job)
-        self._ready[name] = maker
+        if not client_key.jobs and not client_key.running:  # nobody saves up time
+            client_key.used = max(client_key.used, self._floor)
+        client_key.jobs.append(job)
+        self._ready[name] = client_key
         self._forget()
 
     def take(self) -> tuple[str, J] | None:
@@ -66,37 +66,39 @@ class FairQueue(Generic[J]):
         candidates = [item for item in self._ready.items() if self._may_run(*item)]
         if not candidates:
             return None
-        name, maker = min(candidates, key=lambda item: item[1].used)
-        job = maker.jobs.popleft()
-        if not maker.jobs:
+        name, client_key = min(candidates, key=lambda item: item[1].used)
+        job = client_key.jobs.popleft()
+        if not client_key.jobs:
             del self._ready[name]
-        maker.running += 1
+        client_key.running += 1
         self._running += 1
-        if maker.computed >= LONG:
+        if client_key.computed >= LONG:
             self._computing.add(name)
-        self._floor = max(self._floor, maker.used)
+        self._floor = max(self._floor, client_key.used)
         return name, job
 
     def done(self, name: str, seconds: float, computed: float) -> None:
         """A piece of work that was taken has taken so long, and computed for a part of that."""
         self._running -= 1
         self._computing.discard(name)
-        maker = self._known[name]
-        maker.running -= 1
-        maker.used += seconds
-        maker.mean += WEIGHT * (seconds - maker.mean)
-        maker.computed += WEIGHT * (computed - maker.computed)
+        client_key = self._known[name]
+        client_key.running -= 1
+        client_key.used += seconds
+        client_key.mean += WEIGHT * (seconds - client_key.mean)
+        client_key.computed += WEIGHT * (computed - client_key.computed)
 
-    def _may_run(self, name: str, maker: _Maker[J]) -> bool:
+    def _may_run(self, name: str, client_key: _Maker[J]) -> bool:
         """Whether it may have one more thread."""
-        if maker.computed >= LONG and name in self._computing:
+        if client_key.computed >= LONG and name in self._computing:
             return False
-        return maker.running < (self._threads if maker.mean < LONG else max(1, self._threads - 1))
+        return client_key.running < (
+            self._threads if client_key.mean < LONG else max(1, self._threads - 1)
+        )
 
     def _forget(self) -> None:
         """The maker that had no work for longest is forgotten where too many are known."""
         if len(self._known) > MOST_KNOWN:
-            name, maker = next(iter(self._known.items()))
+            name, client_key = next(iter(self._known.items()))
             self._known.move_to_end(name)
-            if not maker.jobs and not maker.running:
+            if not client_key.jobs and not client_key.running:
                 del self._known[name]

@@ -78,7 +78,7 @@ class Figures:
             by_name = {name: phases for name, phases in counts.items() if scope.may_have(name)}
             if any(not scope.has_definition(name) for name in by_name):  # by their keys
                 by_name = yield from lists.counts(scope)
-            return by_name, (yield from lists.asked(scope))
+            return by_name, (yield from lists.attention_counts(scope))
 
         counts_of_scope = await self._ask(question())
         now = time.monotonic()

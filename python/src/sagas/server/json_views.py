@@ -24,7 +24,9 @@ def summary(saga_summary: Summary) -> dict[str, Any]:
         "key": saga_summary.key,
         "definition": saga_summary.saga,
         "phase": saga_summary.phase,
-        **times(started=saga_summary.started, ended=saga_summary.ended, deadline=saga_summary.deadline),
+        **times(
+            started=saga_summary.started, ended=saga_summary.ended, deadline=saga_summary.deadline
+        ),
         "undo_failed": saga_summary.undo_failed,
         "labels": saga_summary.labels,
         "note": saga_summary.note,
@@ -63,7 +65,12 @@ def held(wait: Waits) -> dict[str, Any]:
 
 def relative(related: Relative) -> dict[str, Any]:
     """A saga's parent, or one of its children."""
-    return {"key": related.key, "definition": related.saga, "phase": related.phase, "step": related.step}
+    return {
+        "key": related.key,
+        "definition": related.saga,
+        "phase": related.phase,
+        "step": related.step,
+    }
 
 
 def saga(view: SagaView) -> dict[str, Any]:
@@ -108,7 +115,9 @@ def timeline(view: SagaView, now: float) -> dict[str, Any]:
     """What each attempt did, and what people did."""
     return {
         "attempts": [attempt_times(entry) for entry in timeline_module.of(view, now)],
-        "decisions": [{**entry, **times(at=entry["at"])} for entry in timeline_module.decisions(view)],
+        "decisions": [
+            {**entry, **times(at=entry["at"])} for entry in timeline_module.decisions(view)
+        ],
     }
 
 
@@ -151,7 +160,11 @@ def certificate(certified: Plan) -> dict[str, Any]:
 
 def what_if(forecast: WhatIf) -> dict[str, Any]:
     """What would be done, with its certificate."""
-    fields = {"cost": forecast.plan.cost, "plan": plan(forecast.plan), "certificate": certificate(forecast.plan)}
+    fields = {
+        "cost": forecast.plan.cost,
+        "plan": plan(forecast.plan),
+        "certificate": certificate(forecast.plan),
+    }
     return {**fields, "assumed": forecast.assumed}
 
 
@@ -206,7 +219,12 @@ def schedule(stored: Schedule) -> dict[str, Any]:
 
 def queue(waiting: Queue) -> dict[str, Any]:
     """What waits for workers of a step."""
-    fields = {"definition": waiting.saga, "step": waiting.step, "undo": waiting.undo, "ready": waiting.ready}
+    fields = {
+        "definition": waiting.saga,
+        "step": waiting.step,
+        "undo": waiting.undo,
+        "ready": waiting.ready,
+    }
     return {**fields, "claimed": waiting.claimed, **times(oldest=waiting.oldest)}
 
 

@@ -56,7 +56,7 @@ class Metrics:
         self.registry = CollectorRegistry()
         self._service = service
         self.counts: dict[str, dict[str, int]] = {}
-        self.asked: dict[str, int] = {}
+        self.attention_counts: dict[str, int] = {}
         self.durations = Durations()
         self._began: OrderedDict[Begun, float] = OrderedDict()
         self.started = self._counter("sagas_started", "Sagas that were started", "saga")
@@ -145,7 +145,7 @@ class Metrics:
 
     async def text(self) -> bytes:
         """All figures, as Prometheus reads them."""
-        self.counts, self.asked = await self._service.figures.of(EVERYTHING)
+        self.counts, self.attention_counts = await self._service.figures.of(EVERYTHING)
         self.queues = await self._service.store.workers.queues()
         return generate_latest(self.registry)
 
@@ -164,7 +164,7 @@ class Metrics:
             "attempts, stored values that cannot be read, sagas of damaged shards, approvals",
             labels=["reason"],
         )
-        for why, count in self.asked.items():
+        for why, count in self.attention_counts.items():
             needed.add_metric([why], count)
         yield needed
         yield from queues_of(self.queues, time.time())

@@ -80,7 +80,7 @@ def _file() -> tuple[bytes, str]:
 def problems_of(operation: Operation) -> dict[int, list[str]]:
     """The problems of an operation by their statuses."""
     names = [*ALWAYS, *operation.problems]
-    names += WITH_TOKEN if operation.may else ()
+    names += WITH_TOKEN if operation.permission else ()
     names += WITH_BODY if operation.body else ()
     result: dict[int, list[str]] = {}
     for name in sorted(set(names)):
@@ -90,7 +90,7 @@ def problems_of(operation: Operation) -> dict[int, list[str]]:
 
 def answer_of(answer: Answer) -> dict[str, Any]:
     """An answer as the document has it."""
-    result: dict[str, Any] = {"description": answer.told}
+    result: dict[str, Any] = {"description": answer.description}
     if answer.headers:
         result["headers"] = {
             name: {"description": text, "schema": {"type": "string"}}
@@ -154,13 +154,13 @@ def parameters_of(operation: Operation) -> list[dict[str, Any]]:
 
 def operation_of(operation: Operation) -> dict[str, Any]:
     """An operation as the document has it."""
-    summary, more = operation.told
+    summary, more = operation.documentation
     result: dict[str, Any] = {"operationId": operation.name, "tags": [operation.tag]}
     result["summary"] = summary
     if more:
         result["description"] = more
-    if operation.may:
-        roles = [role for role, may in ROLES.items() if operation.may in may]
+    if operation.permission:
+        roles = [role for role, may in ROLES.items() if operation.permission in may]
         result["x-roles"] = roles
         result["security"] = [{"token": []}]
     else:
@@ -210,7 +210,9 @@ def document(operations: Iterable[Operation]) -> dict[str, Any]:
         "security": [{"token": []}],
         "paths": dict(sorted(paths.items())),
         "components": {
-            "schemas": {name: operation.whole() for name, operation in sorted(records_by_name.items())},
+            "schemas": {
+                name: operation.whole() for name, operation in sorted(records_by_name.items())
+            },
             "responses": dict(sorted(shared.items())),
             "securitySchemes": {
                 "token": {

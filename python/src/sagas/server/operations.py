@@ -16,9 +16,9 @@ from starlette.routing import Route
 from sagas.base.errors import SagasError
 from sagas.definition.validation import meant
 from sagas.server import json_texts, problems
-from sagas.server.access import admit, body_of, check_room, service_of, unslashed
-from sagas.server.auth import NOBODY, May, Who
-from sagas.server.dashboard_session import still_of
+from sagas.server.access import authorize, body_of, check_capacity, service_of, unslashed
+from sagas.server.auth import ANONYMOUS, Permission, Principal
+from sagas.server.dashboard_session import current_session
 from sagas.server.middleware import Receive, Scope, Send
 from sagas.server.problems import Problem
 from sagas.server.service import Service
@@ -43,7 +43,7 @@ class Call:
     """A request that was let in and read: who makes it, and the values of its parts."""
 
     request: Request
-    who: Who
+    principal: Principal
     path: Mapping[str, Any]
     query: Mapping[str, Any]
     body: Any
@@ -69,7 +69,7 @@ class Answer:
     """An answer of an operation: JSON of a shape, or another media type. `or_text`: by a parameter
     also as plain text."""
 
-    told: str
+    description: str
     shape: Shape | None = None
     media_type: str = "application/json"
     example: Any = None
@@ -90,7 +90,7 @@ class Operation:
     name: str
     tag: str
     handler: Handler
-    may: May | None = None
+    permission: Permission | None = None
     parts: Mapping[str, Shape] = dataclasses.field(default_factory=dict)
     query: Mapping[str, Field] = dataclasses.field(default_factory=dict)
     headers: Mapping[str, Field] = dataclasses.field(default_factory=dict)
@@ -100,12 +100,12 @@ class Operation:
     streams: bool = False
 
     @property
-    def told(self) -> tuple[str, str]:
+    def documentation(self) -> tuple[str, str]:
         """Its summary and its description."""
         summary, _, more = (self.handler.__doc__ or "").partition("\n\n")
         return " ".join(summary.split()).rstrip("."), " ".join(more.split())
 
-    async def call(self, request: Request, principal: Who, is_open: bool) -> Call:
+    async def call(self, request: Request, principal: Principal, is_open: bool) -> Call:
         """What a request asks. Raises `Problem`."""
         path = {name: unslashed(text) for name, text in request.path_params.items()}
         try:
@@ -230,11 +230,13 @@ class Resource:
             raise Problem(
                 "MethodNotAllowed", f"this path has {self.allowed}", headers={"Allow": self.allowed}
             )
-        if operation.may is None:
-            principal = NOBODY
-            check_room(request, is_operator=self._is_page and still_of(request) is not None)
+        if operation.permission is None:
+            principal = ANONYMOUS
+            check_capacity(
+                request, is_operator=self._is_page and current_session(request) is not None
+            )
         else:
-            principal = admit(request, operation.may)
+            principal = authorize(request, operation.permission)
         call = await operation.call(request, principal, self._is_page)
         if method == "HEAD" and operation.streams:
             return Response(media_type="text/event-stream")
@@ -285,6 +287,8 @@ def resources(groups: list[Routes], refuse: Refuse, refuse_page: Refuse) -> list
     for routes in groups:
         for operation in routes.operations:
             shown = refuse_page if routes.is_page else refuse
-            resource = result.setdefault(operation.path, Resource(operation.path, routes.is_page, shown))
+            resource = result.setdefault(
+                operation.path, Resource(operation.path, routes.is_page, shown)
+            )
             resource.operations[operation.method] = operation
     return [Route(path, resource) for path, resource in result.items()]

@@ -25,4 +25,6 @@ def warning(path: pathlib.Path) -> str | None:
     if not mode & (OTHERS_READ | GROUP_WRITES):
         return None
     problem = "every user may read it" if mode & OTHERS_READ else "its group may write it"
-    return f"{path}: {problem} (mode {mode & 0o777:04o}). Run chmod 600, or 640 for a group that reads"
+    return (
+        f"{path}: {problem} (mode {mode & 0o777:04o}). Run chmod 600, or 640 for a group that reads"
+    )

@@ -15,7 +15,7 @@ from typing import NamedTuple
 from sagas.base.errors import SagasError
 from sagas.inspection import lists
 from sagas.inspection.question import Question
-from sagas.server.auth import Who
+from sagas.server.auth import Principal
 from sagas.server.problems import Problem
 
 OLD = 10.0
@@ -35,7 +35,7 @@ class Quota(NamedTuple):
 
 
 @dataclasses.dataclass(eq=False, slots=True)
-class Place:
+class PendingStart:
     """A start that no count has.
 
     Attributes:
@@ -61,10 +61,10 @@ class Quotas:
         self._counted: lists.OpenByToken = {}
         self._began = self._next = NEVER
         self._counting: asyncio.Task[None] | None = None
-        self._places: dict[Place, None] = {}
+        self._pending: dict[PendingStart, None] = {}
         self._added: dict[str, Quota] = {}  # what these are in all, by the names of tokens
 
-    def of(self, principal: Who) -> Quota:
+    def of(self, principal: Principal) -> Quota:
         """The quota of a token."""
         sagas, size = principal.limits.open_sagas, principal.limits.open_bytes
         default = self._default
@@ -73,8 +73,8 @@ class Quotas:
         )
 
     async def take(
-        self, principal: Who, size: int, is_there: Callable[[], Awaitable[bool]]
-    ) -> Place | None:
+        self, principal: Principal, size: int, is_there: Callable[[], Awaitable[bool]]
+    ) -> PendingStart | None:
         """Admit a start; None where there is such a saga: it takes no place.
 
         Args:
@@ -98,24 +98,24 @@ class Quotas:
                     return None
                 raise Problem(
                     "QuotaExceeded",
-                    f"{principal.name} may have {quota.sagas:,} open sagas with {quota.bytes:,} bytes of "
-                    "input in all: wait until some of them have ended",
+                    f"{principal.name} may have {quota.sagas:,} open sagas with "
+                    f"{quota.bytes:,} bytes of input in all: wait until some of them have ended",
                 )
-        start = Place(principal.name, size)
-        self._places[start] = None
+        start = PendingStart(principal.name, size)
+        self._pending[start] = None
         self._add(start, 1)
         return start
 
-    def _add(self, start: Place, sign: int) -> None:
+    def _add(self, start: PendingStart, sign: int) -> None:
         sagas, total = self._added.get(start.name, (0, 0))
         self._added[start.name] = Quota(sagas + sign, total + sign * start.size)
 
-    def done(self, start: Place, is_new: bool) -> None:
+    def done(self, start: PendingStart, is_new: bool) -> None:
         """A start was answered: it made a saga, or none."""
         if is_new:
             start.done_at = time.monotonic()
-        elif start in self._places:
-            del self._places[start]
+        elif start in self._pending:
+            del self._pending[start]
             self._add(start, -1)
 
     def _left(self, name: str, quota: Quota, size: int) -> int:
@@ -146,8 +146,12 @@ class Quotas:
             ended = time.monotonic()
             self._next = ended + max(LEAST, SHARE * (ended - began))
             self._began = began
-        uncounted = [pending for pending in self._places if pending.done_at is None or pending.done_at > began]
-        self._places, self._added = dict.fromkeys(uncounted), {}
+        uncounted = [
+            pending
+            for pending in self._pending
+            if pending.done_at is None or pending.done_at > began
+        ]
+        self._pending, self._added = dict.fromkeys(uncounted), {}
         for start in uncounted:
             self._add(start, 1)
 

@@ -61,7 +61,9 @@ def tagged(request: Request, answer: Response) -> Response:
 
 def has_tag(header: str, tag: str) -> bool:
     """Whether a header `If-None-Match` names a tag; weak or not is one for a GET."""
-    return any(candidate.strip().removeprefix("W/") in (tag, "*") for candidate in header.split(","))
+    return any(
+        candidate.strip().removeprefix("W/") in (tag, "*") for candidate in header.split(",")
+    )
 
 
 def text_of(at: float) -> str:

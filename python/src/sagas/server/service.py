@@ -36,12 +36,12 @@ from sagas.inspection.stored_values import stored
 from sagas.inspection.views import SagaView
 from sagas.runtime.leased_tasks import Queue
 from sagas.server import declared_steps, private_files, webhook_file
-from sagas.server.auth import Rates, Sessions, Tokens, Who
+from sagas.server.auth import Rates, Sessions, Tokens, Principal
 from sagas.server.event_stream import Hub
 from sagas.server.figures import Figures
 from sagas.server.metrics import Metrics
 from sagas.server.middleware import SLASH, parted
-from sagas.server.places import Places
+from sagas.server.places import ConcurrencyLimits
 from sagas.server.quotas import Quotas
 from sagas.server.settings import Settings
 from sagas.server.stream_limits import Streams
@@ -88,7 +88,7 @@ class Service:
         self.rates = Rates(settings.rate)
         self.refusals = Rates(5.0)
         self.quotas = Quotas(settings.quota, self.look)
-        self.places = Places(settings.places)
+        self.places = ConcurrencyLimits(settings.places)
         streams = settings.streams
         self.streams = Streams(streams.most, streams.most_each, streams.kept)
         self.store: Store = opening.open(
@@ -160,7 +160,10 @@ class Service:
         self.hub.publish(Event(**fields))
 
     async def _workers(self, argument: None) -> list[Any]:
-        return [[worker.name, worker.at, worker.steps] for worker in list(self.workers.values())[-SHARED:]]
+        return [
+            [worker.name, worker.at, worker.steps]
+            for worker in list(self.workers.values())[-SHARED:]
+        ]
 
     async def _begun(self, key: str) -> list[Any]:
         return [dataclasses.astuple(attempt) for attempt in self.store.active_attempts(key)]
@@ -173,7 +176,11 @@ class Service:
         self.metrics.event(event)
         self.webhooks.event(event)
         self.hub.publish(event)
-        if self._peers and self._peers.others and not self._peers.tell(fields := told_of(event)):
+        if (
+            self._peers
+            and self._peers.others
+            and not self._peers.tell(fields := event_fields(event))
+        ):
             self._peers.tell({**fields, "detail": None})
         if (hook := self.settings.store.on_event) is not None:
             hook(event)
@@ -219,7 +226,7 @@ class Service:
         view = await self.kept(key, is_page=is_page)
         if view is None or not any(step.state in activity.BEGUN for step in view.steps):
             return view
-        return activity.known(
+        return activity.with_active_attempts(
             view, self.store.active_attempts(key) or await self._begun_there(view), self.store.now()
         )
 
@@ -242,14 +249,16 @@ class Service:
         self._there[view.key] = time.monotonic() + PEER_ANSWER_KEPT, attempts
         return attempts
 
-    async def queues(self, principal: Who) -> list[Queue]:
+    async def queues(self, principal: Principal) -> list[Queue]:
         """What waits for workers, at any node, as far as it is theirs to see."""
         all_queues = await self.store.workers.queues()
         return [
-            queue for queue in all_queues if principal.does(f"{queue.saga}/{queue.step}{'/undo' if queue.undo else ''}")
+            queue
+            for queue in all_queues
+            if principal.does(f"{queue.saga}/{queue.step}{'/undo' if queue.undo else ''}")
         ]
 
-    async def seen(self, principal: Who) -> list[Seen]:
+    async def seen(self, principal: Principal) -> list[Seen]:
         """The workers that asked lately, at any node, the latest first, with the steps that are
         theirs to see."""
         replies = await self._peers.ask_all("workers") if self._peers else []
@@ -268,7 +277,7 @@ class Service:
 
     # -- what is whose to see
 
-    async def check_sees(self, principal: Who, key: str) -> None:
+    async def check_sees(self, principal: Principal, key: str) -> None:
         """Raises `NoSuchSaga` where the saga is of a definition, or has a key, that is not theirs
         to see: in the words for a key that nobody has."""
         if not principal.scope.has_key(key):
@@ -302,7 +311,7 @@ class Service:
 
     async def start(
         self,
-        principal: Who,
+        principal: Principal,
         size: int,
         saga: Saga,
         key: str,
@@ -355,7 +364,7 @@ class Service:
         name = parted(path.encode())
         return name is not None and any(page.fullmatch(name) for page in self.pages)
 
-    def saga_named(self, principal: Who, name: str, version: int | None) -> Saga:
+    def saga_named(self, principal: Principal, name: str, version: int | None) -> Saga:
         """The definition of a name; without a version its newest. Raises `DefinitionError`, which
         names those that are theirs to see."""
         matches = [
@@ -371,16 +380,16 @@ class Service:
             )
         return max(matches, key=lambda saga: saga.version)
 
-    def names(self, principal: Who) -> list[str]:
+    def names(self, principal: Principal) -> list[str]:
         """The definitions that are theirs to see."""
         return sorted({saga.name for saga in self.settings.sagas if principal.sees(saga.name)})
 
-    def words(self) -> set[str]:
+    def task_names(self) -> set[str]:
         """The steps, and compensations, that workers may ask for, as they ask for them."""
-        return self._words
+        return self._task_names
 
     @functools.cached_property
-    def _words(self) -> set[str]:
+    def _task_names(self) -> set[str]:
         result = set()
         for saga in self.settings.sagas:
             for name, step in saga.declared_steps:
@@ -415,7 +424,7 @@ class Service:
             http.log(level, "%s %s %d", scope["method"], path, status, extra={"sagas": fields})
 
 
-def told_of(event: Event) -> dict[str, Any]:
+def event_fields(event: Event) -> dict[str, Any]:
     """An event for other services."""
     fields = {name: value for name, value in dataclasses.asdict(event).items() if value is not None}
     if event.detail is not None:

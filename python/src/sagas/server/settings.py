@@ -31,7 +31,7 @@ class StreamSettings:
 
 
 @dataclasses.dataclass(frozen=True, slots=True)
-class PlaceSettings:
+class ConcurrencySettings:
     """How many connections and requests there may be at once: in all; that wait for a saga or for
     tasks, of one token; with a request at work, of one token; of one address. `kept`: of all
     connections, those for health and operators alone, at most a quarter.
@@ -85,7 +85,7 @@ class Settings:
     webhooks: WebhookSettings = WebhookSettings()
     most_body: int = 1 << 20
     streams: StreamSettings = StreamSettings()
-    places: PlaceSettings = PlaceSettings()
+    places: ConcurrencySettings = ConcurrencySettings()
     trusted_proxies: tuple[Network, ...] = LOOPBACK
     rate: float = 5000.0
     quota: Quota = Quota()

@@ -83,7 +83,9 @@ class Text(Shape):
             "pattern": None if self.pattern is None else f"^{self.pattern}$",
             "format": self.form,
         }
-        return {"type": "string"} | {name: value for name, value in keywords.items() if value is not None}
+        return {"type": "string"} | {
+            name: value for name, value in keywords.items() if value is not None
+        }
 
 
 @dataclasses.dataclass(frozen=True)
@@ -129,7 +131,9 @@ class Number(Shape):
     def schema(self) -> Schema:
         keywords = {"minimum": self.least, "maximum": self.most}
         kind = "integer" if self.whole else "number"
-        return {"type": kind} | {name: value for name, value in keywords.items() if value is not None}
+        return {"type": kind} | {
+            name: value for name, value in keywords.items() if value is not None
+        }
 
 
 @dataclasses.dataclass(frozen=True)
@@ -212,7 +216,7 @@ class Field:
     """A field of an object, or a parameter of a query; without a default it has to be there."""
 
     shape: Shape
-    told: str = ""
+    description: str = ""
     default: Any = REQUIRED
     example: Any = None
 
@@ -224,8 +228,8 @@ class Field:
     def schema(self) -> Schema:
         """Its shape, with what is told of it."""
         result = self.shape.schema()
-        if self.told:
-            result = {**result, "description": self.told}
+        if self.description:
+            result = {**result, "description": self.description}
         if not self.is_required and self.default is not None:
             result = {**result, "default": self.default}
         return result
@@ -237,7 +241,7 @@ class Record(Shape):
 
     name: str
     fields: Mapping[str, Field]
-    told: str = ""
+    description: str = ""
     example: Any = None
 
     def read(self, value: Any, field: str) -> dict[str, Any]:
@@ -258,8 +262,8 @@ class Record(Shape):
         }
         if required:
             result["required"] = required
-        if self.told:
-            result["description"] = self.told
+        if self.description:
+            result["description"] = self.description
         return result if self.example is None else {**result, "examples": [self.example]}
 
     @property

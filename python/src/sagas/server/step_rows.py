@@ -10,7 +10,7 @@ from typing import Union
 from sagas.definition.groups import Block, Group
 from sagas.engine.plan import Choice
 from sagas.inspection import wording
-from sagas.inspection.group_boxes import Told, counted, urgency
+from sagas.inspection.group_boxes import StepDisplay, counted, urgency
 from sagas.inspection.views import StepView
 from sagas.server.table_rows import FEW, Rows, folded
 from sagas.server.unfolding import Unfolding
@@ -35,7 +35,7 @@ class StepRow:
     """
 
     title: str
-    told: Told
+    display: StepDisplay
     needs: list[str]
     attempts: int
     step: StepView | None = None
@@ -69,11 +69,11 @@ class StepTable:
         self,
         unfolding: Unfolding,
         steps: Sequence[StepView],
-        displays: Sequence[Told],
+        displays: Sequence[StepDisplay],
         choices: Mapping[str, Choice],
         items: Mapping[str, str],
     ) -> None:
-        self._unfolding, self._steps, self._tolds = unfolding, steps, displays
+        self._unfolding, self._steps, self._displays = unfolding, steps, displays
         self._choices, self._items = choices, items
         self.blocks = unfolding.groups.blocks(len(steps), unfolding.names)
         self._name_of = {
@@ -118,7 +118,7 @@ class StepTable:
         """Of a group it is that of its most urgent step; an unfolded one stays in sight."""
         if isinstance(part, Node):
             return 0
-        return min(urgency(self._tolds[step]) for step in part.steps)
+        return min(urgency(self._displays[step]) for step in part.steps)
 
     def _add(self, part: Part, depth: int, shown: list[StepRow], more: list[StepRow]) -> None:
         """Add the rows of a part. The items after the first ones are among the others."""
@@ -143,7 +143,7 @@ class StepTable:
         step = self._steps[number]
         return StepRow(
             step.name,
-            self._tolds[number],
+            self._displays[number],
             self._needs([number]),
             step.attempts,
             step,
@@ -155,7 +155,7 @@ class StepTable:
         steps = [self._steps[step] for step in group.steps]
         return StepRow(
             group.title,
-            counted([self._tolds[step] for step in group.steps]),
+            counted([self._displays[step] for step in group.steps]),
             self._needs(group.steps),
             sum(step.attempts for step in steps),
             href=self._unfolding.link(group),

@@ -21,14 +21,21 @@ def name_of(view: SagaView, step: str, undo: bool) -> str:
     if view.phase != "open":
         return ""
     at = step, undo, None
-    begun = next((stretch for stretch in view.stretches if (stretch.step, stretch.undo, stretch.ended) == at), None)
+    begun = next(
+        (
+            stretch
+            for stretch in view.stretches
+            if (stretch.step, stretch.undo, stretch.ended) == at
+        ),
+        None,
+    )
     if begun is None:
         return ""
     held = _held(view, step, undo)
     return f"{begun.attempt}" + (f".{held.why}.{held.count}.{held.since!r}" if held else "")
 
 
-def words_of(view: SagaView, step: str, undo: bool, now: float) -> str:
+def description_of(view: SagaView, step: str, undo: bool, now: float) -> str:
     """What an attempt that is under way waits for, in words."""
     held = _held(view, step, undo)
     if held is None or (held.why in ("unknown", "retry") and held.until is not None):

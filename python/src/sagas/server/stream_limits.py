@@ -20,9 +20,9 @@ class Streams:
         self.most, self.each, self.kept = most, each, kept
         self._there: Counter[tuple[str, bool]] = Counter()
 
-    def full(self, maker: str, dashboard: bool) -> str | None:
+    def full(self, client_key: str, dashboard: bool) -> str | None:
         """Why this maker gets no further one; None where there is room."""
-        if self._there[maker, dashboard] >= self.each:
+        if self._there[client_key, dashboard] >= self.each:
             return f"you have {self.each} event streams: close some"
         most = self.most if dashboard else self.most - self.kept
         others = sum(count for (_, shown), count in self._there.items() if not shown)
@@ -31,9 +31,9 @@ class Streams:
             return f"there are {most} event streams: ask again in a while"
         return None
 
-    def take(self, maker: str, dashboard: bool) -> Callable[[], None]:
+    def take(self, client_key: str, dashboard: bool) -> Callable[[], None]:
         """One more; gives what ends it."""
-        key = maker, dashboard
+        key = client_key, dashboard
         self._there[key] += 1
 
         def leave() -> None:

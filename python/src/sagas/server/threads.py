@@ -16,7 +16,7 @@ from typing import Any, TypeVar
 
 from sagas.inspection.question import Question, StoreReader
 from sagas.server import renderer
-from sagas.server.fair_queue import MAKER, FairQueue
+from sagas.server.fair_queue import CURRENT_CLIENT, FairQueue
 from sagas.storage.interface import Reader
 
 T = TypeVar("T")
@@ -72,7 +72,7 @@ class Pool:
     async def do(self, work: Callable[[], T]) -> T:
         """Do work in a thread, for whoever the running task works for."""
         answer: asyncio.Future[T] = asyncio.get_running_loop().create_future()
-        self._queue.put(MAKER.get(), (work, answer))
+        self._queue.put(CURRENT_CLIENT.get(), (work, answer))
         self._fill()
         return await answer
 

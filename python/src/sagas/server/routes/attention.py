@@ -5,10 +5,10 @@ from __future__ import annotations
 from starlette.responses import Response
 
 from sagas.inspection import attention_pages
-from sagas.inspection.attention_pages import Entry, Place
+from sagas.inspection.attention_pages import Entry, EntryPosition
 from sagas.inspection.question import Question
 from sagas.server import answers, json_views
-from sagas.server.auth import May
+from sagas.server.auth import Permission
 from sagas.server.operations import Answer, Call, Routes
 from sagas.server.responses import parted
 from sagas.server.routes import filters
@@ -20,23 +20,28 @@ KINDS = attention_pages.KINDS
 KIND = "|".join(KINDS)
 
 
-def place_of(cursor: str | None) -> tuple[str | None, Place]:
+def parse_cursor(cursor: str | None) -> tuple[str | None, EntryPosition]:
     """The kind and the place in a cursor."""
     if cursor is None:
         return None, None
     kind, _, rest = cursor.partition(".")
     position, _, step = rest.rpartition(".")
-    at, id = filters.place_of(position)
+    at, id = filters.parse_position(position)
     return kind, (at, id, int(step))
 
 
 def cursor_of(entry: Entry) -> str:
-    """What `place_of` reads."""
-    return f"{entry.kind}.{filters.cursor_of((entry.started, entry.id))}.{entry.place}"
+    """What `parse_cursor` reads."""
+    return f"{entry.kind}.{filters.cursor_of((entry.started, entry.id))}.{entry.step_index}"
 
 
 def pages(
-    kinds: list[str], sagas: Filter, step: str | None, after: Place, newest: bool, limit: int
+    kinds: list[str],
+    sagas: Filter,
+    step: str | None,
+    after: EntryPosition,
+    newest: bool,
+    limit: int,
 ) -> Question[list[Entry]]:
     """A page over several kinds, one behind the other."""
     entries: list[Entry] = []
@@ -54,7 +59,7 @@ def pages(
 @routes.get(
     "/attention",
     "listAttention",
-    may=May.LOOK,
+    permission=Permission.LOOK,
     query=filters.SAGAS
     | filters.MORE
     | {
@@ -79,14 +84,14 @@ async def listed(call: Call) -> Response:
     unknown outcome, attempts that are exhausted, stored values that cannot be read, sagas of
     damaged shards, and approvals: one kind after the other."""
     query = call.query
-    kind, after = place_of(query["after"])
+    kind, after = parse_cursor(query["after"])
     kinds = [query["kind"]] if query["kind"] else list(KINDS)
     left = kinds[kinds.index(kind) :] if kind in kinds else kinds
-    sagas, limit = filters.of(call.who, query), query["limit"]
+    sagas, limit = filters.of(call.principal, query), query["limit"]
     matching = await call.service.look(
         pages(left, sagas, query["step"], after, query["order"] == "newest", limit)
     )
-    _, counts = await call.service.figures.of(call.who.scope)
+    _, counts = await call.service.figures.of(call.principal.scope)
     last = matching[-1] if len(matching) == limit else None
     more = last and cursor_of(last)
 

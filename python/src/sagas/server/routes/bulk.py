@@ -12,7 +12,7 @@ from sagas.base.errors import SagasError, StepNotWaiting
 from sagas.inspection import attention_pages, lists, unmatched
 from sagas.inspection.question import Question
 from sagas.server import answers, problems
-from sagas.server.auth import May
+from sagas.server.auth import Permission
 from sagas.server.operations import Answer, Call, Handler, Routes
 from sagas.server.problems import Problem
 from sagas.server.responses import Json
@@ -58,7 +58,9 @@ MODE: Mapping[str, Field] = {
         "how many the dry run counted; required where it is none",
         default=None,
     ),
-    "limit": Field(Number(1, MOST_TARGETS, whole=True), "how many are changed at most", default=MOST_TARGETS),
+    "limit": Field(
+        Number(1, MOST_TARGETS, whole=True), "how many are changed at most", default=MOST_TARGETS
+    ),
 }
 
 
@@ -82,7 +84,9 @@ def entries_of(
     entries = yield from attention_pages.entries(kind, sagas, step, undo, most=MOST_TARGETS)
     targets: dict[Target, None] = {}
     for entry in entries:
-        targets[(entry.key, "", False) if by_saga else (entry.key, entry.step or "", entry.undo)] = None
+        targets[
+            (entry.key, "", False) if by_saga else (entry.key, entry.step or "", entry.undo)
+        ] = None
     return total, list(targets)
 
 
@@ -145,7 +149,9 @@ async def each(
     return len(targets) - len(refused), refused
 
 
-def action_of(service: Service, verb: str, options: dict[str, Any], result: Any, error: Any) -> Action:
+def action_of(
+    service: Service, verb: str, options: dict[str, Any], result: Any, error: Any
+) -> Action:
     """What is done to each. `options`: who does it, and why."""
     store = service.store
 
@@ -176,13 +182,13 @@ def declare(name: str, body: Record, verb: str, description: str) -> Handler:
         if selection["labels"] is not None and not selection["labels"]:
             why = "this selects every saga. Leave it out to mean that"
             raise Problem("InvalidRequest", f"filter.labels: {why}", "filter.labels")
-        options = {"by": call.who.name, "note": sent["note"]}
+        options = {"by": call.principal.name, "note": sent["note"]}
         action = action_of(call.service, verb, options, sent.get("result"), sent.get("error"))
         if "kind" not in selection:
-            sagas = filters.of(call.who, selection, "open")
+            sagas = filters.of(call.principal, selection, "open")
             undoing = await call.service.look(lists.undoing(sagas))
             return await count_and_act(call, sagas, sagas_of(sagas), action, undoing)
-        sagas = filters.of(call.who, selection)
+        sagas = filters.of(call.principal, selection)
         entries = entries_of(selection["kind"], sagas, selection.get("step"), selection.get("undo"))
         return await count_and_act(call, sagas, entries, action)
 
@@ -191,7 +197,7 @@ def declare(name: str, body: Record, verb: str, description: str) -> Handler:
     return routes.post(
         f"/{name}",
         f"{name}Many",
-        may=May.OPERATE,
+        permission=Permission.OPERATE,
         body=body,
         answers={200: answer},
         problems=("CountChanged",),

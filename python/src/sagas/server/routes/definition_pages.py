@@ -13,11 +13,11 @@ from sagas.definition.groups import Block, Groups
 from sagas.definition.saga import Saga
 from sagas.inspection import definitions, picture
 from sagas.inspection.definitions import AtStep
-from sagas.inspection.group_boxes import Box, Told
+from sagas.inspection.group_boxes import Box, StepDisplay
 from sagas.inspection.lists import COUNTED
 from sagas.inspection.question import Question
 from sagas.server import declared_steps
-from sagas.server.dashboard_session import closed, looker, shows
+from sagas.server.dashboard_session import login_redirect, viewer_of, show_page
 from sagas.server.declared_steps import DeclaredStep
 from sagas.server.operations import Call, Routes
 from sagas.server.table_rows import folded
@@ -29,14 +29,16 @@ routes = Routes("pages", is_page=True)
 @routes.get("/ui/definitions")
 async def listed(call: Call) -> Response:
     """All of them, with how many sagas there are."""
-    if answer := closed(call.request):
+    if answer := login_redirect(call.request):
         return answer
-    service, principal = call.service, looker(call.request)
+    service, principal = call.service, viewer_of(call.request)
     since = service.hub.now
     counts, _ = await service.figures.of(principal.scope)
     no_counts = dict.fromkeys(COUNTED, 0)
-    counts_by_name = {name: counts.get(name, no_counts) for name in sorted({*counts, *service.names(principal)})}
-    return shows(
+    counts_by_name = {
+        name: counts.get(name, no_counts) for name in sorted({*counts, *service.names(principal)})
+    }
+    return show_page(
         call.request,
         "definitions.html",
         here="definitions",
@@ -51,15 +53,19 @@ async def saga(call: Call) -> Response:
     """One of them: its steps with what is at each, durations, and the costs of recoveries. Of one
     that only another service has, or none any more, its sagas alone."""
     request, name = call.request, call.path["name"]
-    if answer := closed(request):
+    if answer := login_redirect(request):
         return answer
-    service, principal = call.service, looker(request)
-    versions = [saga for saga in service.settings.sagas if saga.name == name and principal.sees(name)]
+    service, principal = call.service, viewer_of(request)
+    versions = [
+        saga for saga in service.settings.sagas if saga.name == name and principal.sees(name)
+    ]
     since = service.hub.now
     counts, _ = await service.figures.of(principal.scope)
     if not versions and name not in counts:
         values: dict[str, Any] = {"title": "There is no such definition", "back": "/ui/definitions"}
-        return shows(request, "fault.html", 404, text=f"No definition is named {name}.", **values)
+        return show_page(
+            request, "fault.html", 404, text=f"No definition is named {name}.", **values
+        )
 
     def question() -> Question[tuple[dict[str, AtStep], list[tuple[float, int, int]]]]:
         return (yield from definitions.at_steps(name, principal.scope)), (
@@ -74,7 +80,7 @@ async def saga(call: Call) -> Response:
     more |= {"most": max((cost for _, _, cost in costs), default=0)}
     if versions:
         more |= await steps_told(call, max(versions, key=lambda saga: saga.version), at)
-    return shows(
+    return show_page(
         request, "definition.html", here="definitions", live="/ui/events", since=since, **more
     )
 
@@ -170,7 +176,7 @@ def drawn(saga: Saga, declared: list[DeclaredStep], rows: list[Row]) -> str:
         why = ", ".join([f"{count:,} {label}" for count, label in counts if count] or [note])
         tone = "person" if tally.person else "failed" if tally.failed else ""
         icon = "running" if tally.open else "waiting"
-        display = Told(state, why, False, tone or icon, icon)
+        display = StepDisplay(state, why, False, tone or icon, icon)
         boxes.append(Box(row.title, display, row.steps, row.href, row.step is None))
     needs = [(step.name, step.needs) for step in declared]
     return picture.drawn(needs, boxes, f"{saga.name}: its steps, and what is at each")

@@ -9,7 +9,7 @@ from starlette.responses import Response
 from sagas.definition.saga import Saga
 from sagas.inspection.lists import COUNTED
 from sagas.server import answers, declared_steps
-from sagas.server.auth import May
+from sagas.server.auth import Permission
 from sagas.server.declared_steps import COMPUTED, DeclaredStep
 from sagas.server.operations import Answer, Call, Routes
 from sagas.server.responses import Json
@@ -18,7 +18,7 @@ routes = Routes("definitions", "/v1")
 KINDS = {"approval": "approval", "wait": "wait", "child": "child"}
 
 
-def told_of(saga: Saga, counts: dict[str, int]) -> dict[str, Any]:
+def definition_json(saga: Saga, counts: dict[str, int]) -> dict[str, Any]:
     """A definition with its steps."""
     steps = [step_of(step) for step in declared_steps.of(saga)]
     return {"name": saga.name, "version": saga.version, "steps": steps, "sagas": counts}
@@ -44,16 +44,18 @@ def step_of(declared: DeclaredStep) -> dict[str, Any]:
 @routes.get(
     "/definitions",
     "listDefinitions",
-    may=May.LOOK,
+    permission=Permission.LOOK,
     answers={200: Answer("Each version of each definition.", answers.DEFINITIONS)},
 )
 async def listed(call: Call) -> Response:
     """List definitions.
 
     Those that the token may see, with their steps and how many sagas there are."""
-    counts, _ = await call.service.figures.of(call.who.scope)
+    counts, _ = await call.service.figures.of(call.principal.scope)
     no_counts = dict.fromkeys(COUNTED, 0)
-    visible = [saga for saga in call.service.settings.sagas if call.who.sees(saga.name)]
+    visible = [saga for saga in call.service.settings.sagas if call.principal.sees(saga.name)]
     visible.sort(key=lambda saga: (saga.name, saga.version))
-    listed_definitions = [told_of(saga, counts.get(saga.name, no_counts)) for saga in visible]
+    listed_definitions = [
+        definition_json(saga, counts.get(saga.name, no_counts)) for saga in visible
+    ]
     return Json({"definitions": listed_definitions})

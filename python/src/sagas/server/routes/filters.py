@@ -10,7 +10,7 @@ from typing import Any
 from sagas.definition.labels import checked
 from sagas.inspection.pages import Position
 from sagas.server.access import check_definition
-from sagas.server.auth import Who
+from sagas.server.auth import Principal
 from sagas.server.shapes import (
     DECIMAL,
     Field,
@@ -67,12 +67,16 @@ SAGAS: dict[str, Field] = {
 }
 
 
-def of(principal: Who, parameters: Mapping[str, Any], phase: str | None = None) -> Filter:
+def of(principal: Principal, parameters: Mapping[str, Any], phase: str | None = None) -> Filter:
     """The filter, of sagas that are theirs to see. Raises `Problem`."""
     check_definition(principal, parameters["definition"], starts=False)
-    fields = {name: parameters[name] for name in ("search", "started_after", "started_before", "error")}
+    fields = {
+        name: parameters[name] for name in ("search", "started_after", "started_before", "error")
+    }
     labels = checked(parameters.get("labels") or labels_of(parameters.get("label") or ()))
-    return Filter(phase=phase, saga=parameters["definition"], labels=labels, scope=principal.scope, **fields)
+    return Filter(
+        phase=phase, saga=parameters["definition"], labels=labels, scope=principal.scope, **fields
+    )
 
 
 def labels_of(texts: Iterable[str]) -> dict[str, str]:
@@ -88,10 +92,10 @@ def cursor_of(position: tuple[float, int]) -> str:
 
 def position_of(cursor: str | None) -> Position:
     """The place in a cursor."""
-    return None if cursor is None else place_of(cursor)
+    return None if cursor is None else parse_position(cursor)
 
 
-def place_of(cursor: str) -> tuple[float, int]:
+def parse_position(cursor: str) -> tuple[float, int]:
     """What `cursor_of` wrote; an id that is too large is behind all."""
     at, _, id = cursor.rpartition("-")
     return float(at), min(int(id), 2**62)

@@ -5,7 +5,7 @@ from __future__ import annotations
 from starlette.responses import Response
 
 from sagas.server import answers, json_views
-from sagas.server.auth import May
+from sagas.server.auth import Permission
 from sagas.server.operations import Answer, Call, Routes
 from sagas.server.responses import Json, parted
 from sagas.server.routes.sagas import kept_of, view_of
@@ -17,7 +17,7 @@ routes = Routes("sagas", "/v1")
 @routes.get(
     "/sagas/{key}/log",
     "getHistory",
-    may=May.LOOK,
+    permission=Permission.LOOK,
     problems=("NoSuchSaga",),
     answers={200: Answer("Its events, in their order.", answers.HISTORY)},
 )
@@ -25,7 +25,7 @@ async def log(call: Call) -> Response:
     """Get the history of a saga.
 
     Each event with its time and what came of it, and what people did."""
-    view = await kept_of(call.service, call.who, call.key)
+    view = await kept_of(call.service, call.principal, call.key)
     return await call.service.threads.answers.do(
         lambda: parted({"events": json_views.log(view)}, "events")
     )
@@ -34,7 +34,7 @@ async def log(call: Call) -> Response:
 @routes.get(
     "/sagas/{key}/timeline",
     "getTimeline",
-    may=May.LOOK,
+    permission=Permission.LOOK,
     problems=("NoSuchSaga",),
     answers={200: Answer("Its attempts, in the order of their begins.", TIMELINE)},
 )

@@ -15,17 +15,17 @@ from sagas.inspection.attention_pages import KINDS, Entry
 from sagas.inspection.question import Question
 from sagas.server import json_texts
 from sagas.server.access import service_of
-from sagas.server.dashboard_session import closed, looker, sent_fields, shows
+from sagas.server.dashboard_session import login_redirect, viewer_of, sent_fields, show_page
 from sagas.server.operations import Call, Routes
 from sagas.server.routes import bulk
 from sagas.server.routes.inbox_selection import (
     Selection,
     id_of,
-    place_of,
+    id_of_entry,
     seen,
     selected,
 )
-from sagas.server.routes.inbox_words import SAID, TITLES, VERBS, question_of
+from sagas.server.routes.inbox_words import EXPLANATIONS, TITLES, VERBS, question_of
 from sagas.server.routes.pages import work_of
 from sagas.server.shapes import Choice, Field, Number, Text
 from sagas.storage.filters import Filter
@@ -65,7 +65,7 @@ def filter_of(request: Request, fields: dict[str, Any]) -> Filter:
     return Filter(
         saga=fields.get("definition") or None,
         search=fields.get("search") or None,
-        scope=looker(request).scope,
+        scope=viewer_of(request).scope,
     )
 
 
@@ -95,7 +95,11 @@ def address(parameters: dict[str, Any], **change: Any) -> str:
 def listed(entries: list[Entry], group: str | None, page: int) -> dict[str, Any]:
     """What a page has of the entries: groups, or the entries of one group."""
     groups = attention_pages.groups(entries)
-    chosen = next((candidate for candidate in groups if id_of(candidate) == group), None) if group else None
+    chosen = (
+        next((candidate for candidate in groups if id_of(candidate) == group), None)
+        if group
+        else None
+    )
     size = LISTED if chosen else SHOWN
     shown: list[Any] = [*groups] if chosen is None else [*chosen.entries]
     return {
@@ -110,9 +114,9 @@ def listed(entries: list[Entry], group: str | None, page: int) -> dict[str, Any]
 async def inbox(call: Call) -> Response:
     """What needs a person: the kind that is asked for, or the first of which there is something."""
     request, query = call.request, dict(call.query)
-    if answer := closed(request):
+    if answer := login_redirect(request):
         return answer
-    service, principal = call.service, looker(request)
+    service, principal = call.service, viewer_of(request)
     since = service.hub.now
     counts, needed = await service.figures.of(principal.scope)
     is_filtered = bool(query["definition"] or query["search"])
@@ -137,12 +141,23 @@ async def inbox(call: Call) -> Response:
     }
     work = functools.partial(listed, entries, query["group"], query["page"])
     values |= {"is_filtered": is_filtered, **await service.threads.pages.do(work)}
-    values |= work_of(await service.queues(principal)) | {"again": service.figures.lag(principal.scope)}
-    values |= {"kind": kind, "titles": TITLES, "said": SAID[kind], "verbs": VERBS[kind], "url": url}
-    values |= {"id_of": id_of, "place_of": place_of, "names": counts}
-    values |= {"cut": needed[kind] if len(entries) >= MOST_GROUPED else None, "grouped": MOST_GROUPED}
+    values |= work_of(await service.queues(principal)) | {
+        "again": service.figures.lag(principal.scope)
+    }
+    values |= {
+        "kind": kind,
+        "titles": TITLES,
+        "explanation": EXPLANATIONS[kind],
+        "verbs": VERBS[kind],
+        "url": url,
+    }
+    values |= {"id_of": id_of, "id_of_entry": id_of_entry, "names": counts}
+    values |= {
+        "cut": needed[kind] if len(entries) >= MOST_GROUPED else None,
+        "grouped": MOST_GROUPED,
+    }
     values |= {"members": MEMBERS}
-    return shows(request, "inbox.html", here="inbox", live="/ui/events", since=since, **values)
+    return show_page(request, "inbox.html", here="inbox", live="/ui/events", since=since, **values)
 
 
 @routes.post("/ui/inbox")
@@ -154,7 +169,7 @@ async def deed(call: Call) -> Response:
     form = dict(fields)
     kind, verb = form.get("kind", ""), form.get("verb", "")
     if verb not in VERBS.get(kind, {}):
-        return shows(
+        return show_page(
             request,
             "fault.html",
             422,
@@ -169,7 +184,7 @@ async def deed(call: Call) -> Response:
         choose = functools.partial(seen, entries, waits)
     selection = await call.service.threads.pages.do(choose)
     if not selection.entries:
-        return shows(
+        return show_page(
             request,
             "fault.html",
             422,
@@ -181,7 +196,7 @@ async def deed(call: Call) -> Response:
         return asked_again(request, form, selection)
     if fault := fault_of(form):
         return asked_again(request, form, selection, fault)
-    options = {"by": session.who.name, "note": form.get("note", "").strip()[:2000] or None}
+    options = {"by": session.principal.name, "note": form.get("note", "").strip()[:2000] or None}
     result = json_texts.read(form.get("result") or "null")
     error = form.get("failed", "").strip()[:2000]
     work = bulk.action_of(service_of(request), verb, options, result, error)
@@ -194,7 +209,7 @@ async def deed(call: Call) -> Response:
         "left": len(targets) - bulk.MOST_TARGETS,
         "changed": len(waits.split()) - len(selection.entries),
     }
-    return shows(request, "inbox_done.html", here="inbox", kind=kind, **values)
+    return show_page(request, "inbox_done.html", here="inbox", kind=kind, **values)
 
 
 def asked_again(
@@ -206,7 +221,7 @@ def asked_again(
     values: dict[str, Any] = {"form": form, "targets": targets, "verb": verb, "kind": kind}
     values |= question_of(kind, verb, targets).of(targets, verb)
     values |= {"waits": selection.waits, "fault": fault}
-    return shows(request, "inbox_confirm.html", 422 if fault else 200, here="inbox", **values)
+    return show_page(request, "inbox_confirm.html", 422 if fault else 200, here="inbox", **values)
 
 
 def fault_of(form: dict[str, str]) -> str | None:

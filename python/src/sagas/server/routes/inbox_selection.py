@@ -19,14 +19,14 @@ def id_of(group: Group) -> str:
     return hashlib.sha256(f"{group.saga}\n{group.cause}".encode()).hexdigest()[:16]
 
 
-def place_of(entry: Entry) -> str:
+def id_of_entry(entry: Entry) -> str:
     """The name of an entry in forms."""
-    return f"{entry.id}.{entry.place}.{'undo' if entry.undo else 'run'}"
+    return f"{entry.id}.{entry.step_index}.{'undo' if entry.undo else 'run'}"
 
 
 def wait_of(entry: Entry) -> str:
     """The name of what an entry waits for. Once the same step waits again it is another one."""
-    wait = entry.id, entry.place, entry.undo, entry.since
+    wait = entry.id, entry.step_index, entry.undo, entry.since
     return hashlib.sha256(json.dumps(wait).encode()).hexdigest()[:16]
 
 
@@ -55,7 +55,7 @@ def selected(entries: list[Entry], fields: Fields) -> Selection:
     chosen = []
     for group in attention_pages.groups(entries):
         is_chosen = id_of(group) in groups
-        chosen += [entry for entry in group.entries if is_chosen or place_of(entry) in ids]
+        chosen += [entry for entry in group.entries if is_chosen or id_of_entry(entry) in ids]
     return Selection(chosen, " ".join(map(wait_of, chosen)))
 
 

@@ -16,7 +16,7 @@ TITLES = {
     "damaged": "Damaged",
     "approval": "Approvals",
 }
-SAID = {
+EXPLANATIONS = {
     "stuck": "No plan is feasible. Repair by hand what is needed, then resolve them.",
     "undo_failed": "A compensation failed permanently, and the effect of its step is still there.",
     "unused_report": "A success was reported before the step began, and its saga ended without it. "

@@ -6,7 +6,7 @@ from starlette.responses import Response
 
 from sagas.definition.children import key_of
 from sagas.server import answers, json_views
-from sagas.server.auth import May
+from sagas.server.auth import Permission
 from sagas.server.metrics import TYPE
 from sagas.server.operations import Answer, Call, Routes
 from sagas.server.problems import Problem
@@ -49,17 +49,17 @@ async def ready(call: Call) -> Response:
 @routes.get(
     "/metrics",
     "getMetrics",
-    may=May.MEASURE,
+    permission=Permission.MEASURE,
     answers={200: Answer("Prometheus's text format.", media_type="text/plain")},
 )
 async def metrics(call: Call) -> Response:
     """Get figures for Prometheus.
 
     Of all definitions: a token that is kept to some has none."""
-    if call.who.definitions is not None:
+    if call.principal.definitions is not None:
         raise Problem(
             "Forbidden",
-            f"{call.who.name} is kept to some definitions, and figures are of all: "
+            f"{call.principal.name} is kept to some definitions, and figures are of all: "
             "take a token of the role metrics",
         )
     return Response(await call.service.metrics.text(), media_type=TYPE)
@@ -68,7 +68,7 @@ async def metrics(call: Call) -> Response:
 @routes.post(
     "/v1/sagas/{key}/resolve",
     "resolveSaga",
-    may=May.OPERATE,
+    permission=Permission.OPERATE,
     body=RESOLVE,
     answers={200: Answer("It is resolved.", answers.RESOLVED)},
     problems=("NoSuchSaga", "StepNotWaiting"),
@@ -77,8 +77,8 @@ async def resolve(call: Call) -> Response:
     """Mark a saga as resolved.
 
     One that is stuck, of which a compensation failed permanently, or with an unused report."""
-    await call.service.check_sees(call.who, call.key)
-    await call.service.store.resolve(call.key, call.body["note"], by=call.who.name)
+    await call.service.check_sees(call.principal, call.key)
+    await call.service.store.resolve(call.key, call.body["note"], by=call.principal.name)
     call.service.figures.forget()
     return Json({"key": call.key, "resolved": True})
 
@@ -86,7 +86,7 @@ async def resolve(call: Call) -> Response:
 @routes.post(
     "/v1/sagas/{key}/steps/{step}/compensate",
     "compensateStep",
-    may=May.OPERATE,
+    permission=Permission.OPERATE,
     body=WHY,
     answers={200: Answer("It is compensated, by another saga.", answers.COMPENSATED)},
     problems=("NoSuchSaga", "StepNotWaiting"),
@@ -96,8 +96,8 @@ async def compensate(call: Call) -> Response:
 
     Another saga calls the compensation with the result that was reported, until it succeeds."""
     service, step = call.service, call.path["step"]
-    await service.check_sees(call.who, call.key)
-    options = {"by": call.who.name, "note": call.body["note"]}
+    await service.check_sees(call.principal, call.key)
+    options = {"by": call.principal.name, "note": call.body["note"]}
     await service.in_time(service.store.compensate(call.key, step, **options))
     service.figures.forget()
     return Json({"key": call.key, "step": step, "undo": key_of(call.key, step, undo=True)})
@@ -106,7 +106,7 @@ async def compensate(call: Call) -> Response:
 @routes.get(
     "/v1/queues",
     "listQueues",
-    may=May.WORK,
+    permission=Permission.WORK,
     answers={200: Answer("By step, over all nodes.", answers.QUEUES)},
 )
 async def queues(call: Call) -> Response:
@@ -114,5 +114,5 @@ async def queues(call: Call) -> Response:
 
     How many tasks are ready, since when the oldest, and how many are taken; of the steps that the
     token may claim."""
-    visible = await call.service.queues(call.who)
+    visible = await call.service.queues(call.principal)
     return Json({"queues": [json_views.queue(waiting) for waiting in visible]})

@@ -16,8 +16,8 @@ from sagas.definition import children
 from sagas.inspection.views import SagaView
 from sagas.server import json_texts, problems, step_waits
 from sagas.server.access import service_of
-from sagas.server.auth import Who
-from sagas.server.dashboard_session import closed, looker, sent, shows
+from sagas.server.auth import Principal
+from sagas.server.dashboard_session import login_redirect, viewer_of, sent, show_page
 from sagas.server.operations import Call, Routes
 from sagas.server.routes import saga_pages, schedules
 from sagas.server.routes.pages import address_of
@@ -81,13 +81,13 @@ def asked(
     """Asks once more what is to be done to a saga."""
     crumbs = [("/ui/sagas", "Sagas"), (address_of(key), key)]
     values = {"here": "sagas", "crumbs": crumbs, **question, **more}
-    return shows(request, "confirm.html", status, **values)
+    return show_page(request, "confirm.html", status, **values)
 
 
 async def seen(call: Call) -> SagaView | None:
     """The saga with what is kept of it; None where there is none that is theirs to see."""
     with contextlib.suppress(NoSuchSaga):
-        return await kept_of(call.service, looker(call.request), call.key)
+        return await kept_of(call.service, viewer_of(call.request), call.key)
     return None
 
 
@@ -102,8 +102,8 @@ async def is_approval(call: Call, view: SagaView, step: str, undo: bool) -> bool
     return False
 
 
-def step_words(step: str, outcome: str, undo: bool, approval: bool) -> dict[str, Any]:
-    """The question for a step's end."""
+def step_question(step: str, outcome: str, undo: bool, approval: bool) -> dict[str, Any]:
+    """Return the question before a step's end is reported."""
     attempt = f"undoing {step}" if undo else step
     if outcome == "retry":
         return {
@@ -112,26 +112,8 @@ def step_words(step: str, outcome: str, undo: bool, approval: bool) -> dict[str,
             "note_title": "What was repaired (a note)",
             "text": "It is called at once, with the same idempotency key.",
         }
-    if approval and outcome == "done":
-        return {
-            "title": f"Approve {step}?",
-            "verb": "Approve",
-            "note_title": "A note",
-            "asks_result": True,
-            "text": "The saga continues. Steps that need this one get its result.",
-        }
     if approval:
-        return {
-            "title": f"Refuse {step}?",
-            "verb": "Refuse",
-            "danger": True,
-            "note_title": "A note",
-            "asks_why": True,
-            "text": (
-                "The step fails permanently, and the saga follows a plan of least cost. This "
-                "cannot be undone."
-            ),
-        }
+        return approval_question(step, outcome)
     if outcome == "done":
         return {
             "title": f"Report that {attempt} is done?",
@@ -143,34 +125,50 @@ def step_words(step: str, outcome: str, undo: bool, approval: bool) -> dict[str,
                 "check it."
             ),
         }
-    if undo:
-        return {
-            "title": f"Report that {attempt} had no effect?",
-            "verb": "It had no effect",
-            "danger": True,
-            "note_title": "A note",
-            "asks_why": True,
-            "text": (
-                f"The compensation fails permanently, and the effect of {step} stays until a "
-                "person repairs it. This cannot be undone."
-            ),
-        }
+    failed_text = (
+        "The step fails permanently, and the saga follows a plan of least cost. Report this "
+        "only if its effect is not there: no compensation undoes an effect that you deny."
+    )
+    undo_failed_text = (
+        f"The compensation fails permanently, and the effect of {step} stays until a "
+        "person repairs it. This cannot be undone."
+    )
     return {
         "title": f"Report that {attempt} had no effect?",
         "verb": "It had no effect",
         "danger": True,
         "note_title": "A note",
         "asks_why": True,
+        "text": undo_failed_text if undo else failed_text,
+    }
+
+
+def approval_question(step: str, outcome: str) -> dict[str, Any]:
+    """Return the question before an approval is decided."""
+    if outcome == "done":
+        return {
+            "title": f"Approve {step}?",
+            "verb": "Approve",
+            "note_title": "A note",
+            "asks_result": True,
+            "text": "The saga continues. Steps that need this one get its result.",
+        }
+    return {
+        "title": f"Refuse {step}?",
+        "verb": "Refuse",
+        "danger": True,
+        "note_title": "A note",
+        "asks_why": True,
         "text": (
-            "The step fails permanently, and the saga follows a plan of least cost. Report this "
-            "only if its effect is not there: no compensation undoes an effect that you deny."
+            "The step fails permanently, and the saga follows a plan of least cost. This "
+            "cannot be undone."
         ),
     }
 
 
 @routes.get("/ui/sagas/{key}/abort")
 async def abort_page(call: Call) -> Response:
-    if answer := closed(call.request):
+    if answer := login_redirect(call.request):
         return answer
     effect = await effect_of(call, abort=True)
     return asked(call.request, call.key, ABORT, effect=effect)
@@ -179,7 +177,7 @@ async def abort_page(call: Call) -> Response:
 async def effect_of(call: Call, **event: Any) -> str | None:
     """What an abort, or the end of a step, would do now, in words."""
     with contextlib.suppress(NoSuchSaga):
-        await call.service.check_sees(looker(call.request), call.key)
+        await call.service.check_sees(viewer_of(call.request), call.key)
         view = await call.service.saga(call.key)
         if view is not None:
             compute = functools.partial(saga_pages.effect, view, **event)
@@ -193,9 +191,9 @@ async def abort(call: Call) -> Response:
     session, form = await sent(request)
     try:
         service = service_of(request)
-        await service.check_sees(session.who, key)
+        await service.check_sees(session.principal, key)
         await service.in_time(
-            service.store.abort(key, by=session.who.name, note=form.get("note") or None)
+            service.store.abort(key, by=session.principal.name, note=form.get("note") or None)
         )
     except SagasError as error:
         return asked(request, key, ABORT, 409, fault=str(problems.of(error)), note=form.get("note"))
@@ -204,7 +202,7 @@ async def abort(call: Call) -> Response:
 
 @routes.get("/ui/sagas/{key}/resolve")
 async def resolve_page(call: Call) -> Response:
-    return closed(call.request) or asked(call.request, call.key, RESOLVE)
+    return login_redirect(call.request) or asked(call.request, call.key, RESOLVE)
 
 
 @routes.post("/ui/sagas/{key}/resolve")
@@ -215,8 +213,8 @@ async def resolve(call: Call) -> Response:
     if not note:
         return asked(request, key, RESOLVE, 422, fault="Say what was done about it.")
     try:
-        await service_of(request).check_sees(session.who, key)
-        await service_of(request).store.resolve(key, note, by=session.who.name)
+        await service_of(request).check_sees(session.principal, key)
+        await service_of(request).store.resolve(key, note, by=session.principal.name)
     except SagasError as error:
         return asked(request, key, RESOLVE, 409, fault=str(problems.of(error)), note=note)
     return back(request, key)
@@ -224,32 +222,36 @@ async def resolve(call: Call) -> Response:
 
 @routes.get("/ui/sagas/{key}/steps/{step}/compensate")
 async def compensate_page(call: Call) -> Response:
-    return closed(call.request) or asked(call.request, call.key, compensate_words(call))
+    return login_redirect(call.request) or asked(
+        call.request, call.key, compensation_question(call)
+    )
 
 
 @routes.post("/ui/sagas/{key}/steps/{step}/compensate")
 async def compensate(call: Call) -> Response:
-    request, key, question = call.request, call.key, compensate_words(call)
+    request, key, question = call.request, call.key, compensation_question(call)
     session, form = await sent(request)
     note = form.get("note", "").strip()[:2000] or None
     try:
         service = service_of(request)
-        await service.check_sees(session.who, key)
+        await service.check_sees(session.principal, key)
         step = call.path["step"]
-        await service.in_time(service.store.compensate(key, step, by=session.who.name, note=note))
+        await service.in_time(
+            service.store.compensate(key, step, by=session.principal.name, note=note)
+        )
     except SagasError as error:
         return asked(request, key, question, 409, fault=str(problems.of(error)), note=note)
     return back(request, key)
 
 
-def compensate_words(call: Call) -> dict[str, Any]:
+def compensation_question(call: Call) -> dict[str, Any]:
     """The question before a step is compensated."""
     return COMPENSATE | {"title": f"Compensate {call.path['step']}?"}
 
 
 @routes.get("/ui/sagas/{key}/steps/{step}/{outcome}", parts={"outcome": OUTCOME}, query=UNDO)
 async def step_page(call: Call) -> Response:
-    return closed(call.request) or await step_asked(call, await seen(call))
+    return login_redirect(call.request) or await step_asked(call, await seen(call))
 
 
 async def step_asked(call: Call, view: SagaView | None, status: int = 200, **more: Any) -> Response:
@@ -257,12 +259,15 @@ async def step_asked(call: Call, view: SagaView | None, status: int = 200, **mor
     results, and what the answer would do. The form has the name of what it answers."""
     name, outcome, undo = call.path["step"], call.path["outcome"], call.query["undo"]
     approval = view is not None and await is_approval(call, view, name, undo)
-    question = step_words(name, outcome, undo, approval)
+    question = step_question(name, outcome, undo, approval)
     if view is not None:
         question["given"] = [("Input", view.input), ("Results in effect", view.results)]
         question["waits"] = step_waits.name_of(view, name, undo)
         if outcome == "done" and not undo and (child := child_of(view, name)):
-            question["result"], question["text"] = child_result(child), f"{question['text']} {NO_CHILD}"
+            question["result"], question["text"] = (
+                child_result(child),
+                f"{question['text']} {NO_CHILD}",
+            )
     if outcome != "retry":
         question["effect"] = await effect_of(call, **{outcome: name})
     return asked(call.request, call.key, question, status, **more)
@@ -313,7 +318,7 @@ async def step_said(call: Call) -> Response:
     except (ValueError, KeyError):
         return await ask_again(422, fault=FAULTS.get(form.get("type", ""), FAULTS["json"]))
     try:
-        await report(call, session.who, form, result)
+        await report(call, session.principal, form, result)
     except SagasError as error:
         return await ask_again(409, fault=str(problems.of(error)))
     return back(call.request, call.key)
@@ -325,11 +330,11 @@ def moved_on(call: Call, view: SagaView, answered: str) -> str | None:
     step, undo = call.path["step"], call.query["undo"]
     if step_waits.name_of(view, step, undo) in ("", answered):
         return None
-    now = step_waits.words_of(view, step, undo, time.time())
+    now = step_waits.description_of(view, step, undo, time.time())
     return f"The step has gone on since you saw this form: {now}. Check it again."
 
 
-async def report(call: Call, principal: Who, form: dict[str, str], result: Any) -> None:
+async def report(call: Call, principal: Principal, form: dict[str, str], result: Any) -> None:
     """Does to the step what a form says. Raises what the store raises."""
     service, step, outcome = call.service, call.path["step"], call.path["outcome"]
     await service.check_sees(principal, call.key)
@@ -347,28 +352,32 @@ async def report(call: Call, principal: Who, form: dict[str, str], result: Any) 
 @routes.get("/ui/schedules")
 async def schedules_page(call: Call) -> Response:
     """The schedules, by name."""
-    return closed(call.request) or await shown_schedules(call.request, looker(call.request))
+    return login_redirect(call.request) or await shown_schedules(
+        call.request, viewer_of(call.request)
+    )
 
 
 async def shown_schedules(
-    request: Request, principal: Who, status: int = 200, fault: str | None = None
+    request: Request, principal: Principal, status: int = 200, fault: str | None = None
 ) -> Response:
     visible = await schedules.seen(service_of(request), principal)
     values = {"schedules": visible, "fault": fault}
-    return shows(request, "schedules.html", status, here="schedules", **values)
+    return show_page(request, "schedules.html", status, here="schedules", **values)
 
 
 @routes.get("/ui/schedules/{name}/{change}", parts={"change": Choice(("remove",))})
 async def remove_page(call: Call) -> Response:
     """Asks before a schedule is removed: unlike a pause, that cannot be undone here."""
-    if answer := closed(call.request):
+    if answer := login_redirect(call.request):
         return answer
     name = call.path["name"]
-    if name not in {schedule.name for schedule in await schedules.seen(call.service, looker(call.request))}:
+    if name not in {
+        schedule.name for schedule in await schedules.seen(call.service, viewer_of(call.request))
+    }:
         raise NoSuchSchedule(f"no schedule has the name {name!r}")
     values: dict[str, Any] = {"title": f"Remove the schedule {name}?", **REMOVE}
     crumbs = [("/ui/schedules", "Schedules")]
-    return shows(call.request, "confirm.html", here="schedules", crumbs=crumbs, **values)
+    return show_page(call.request, "confirm.html", here="schedules", crumbs=crumbs, **values)
 
 
 @routes.post("/ui/schedules/{name}/{change}", parts={"change": Choice((*schedules.DONE,))})
@@ -376,9 +385,9 @@ async def schedule_changed(call: Call) -> Response:
     session, _ = await sent(call.request)
     name, change = call.path["name"], call.path["change"]
     try:
-        await schedules.change(service_of(call.request), session.who, name, change)
+        await schedules.change(service_of(call.request), session.principal, name, change)
     except SagasError as error:
-        return await shown_schedules(call.request, session.who, 409, str(problems.of(error)))
+        return await shown_schedules(call.request, session.principal, 409, str(problems.of(error)))
     return RedirectResponse("/ui/schedules", 303)
 
 

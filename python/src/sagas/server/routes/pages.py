@@ -20,18 +20,18 @@ from sagas.inspection.lists import COUNTED
 from sagas.runtime.leased_tasks import Queue
 from sagas.server import renderer
 from sagas.server.access import address, service_of
-from sagas.server.auth import May, Who
+from sagas.server.auth import Permission, Principal
 from sagas.server.dashboard_session import (
     begin,
-    closed,
+    login_redirect,
     cookie_of,
     form_of,
-    looker,
+    viewer_of,
     page,
     sent,
     session_of,
-    shows,
-    still_of,
+    show_page,
+    current_session,
 )
 from sagas.server.event_stream import Listener
 from sagas.server.operations import Call, Routes
@@ -97,7 +97,7 @@ async def login(call: Call) -> Response:
         return RedirectResponse("/ui", 303)
     principal = service.tokens.find(form.get("token", "").strip())
     wanted = form.get("next", "/ui")
-    if principal is None or not principal.may(May.OPERATE):
+    if principal is None or not principal.has_permission(Permission.OPERATE):
         fault = (
             "This is no operator's token."
             if service.refusals.take(address(request))
@@ -143,9 +143,9 @@ LIST = {name: TEXT for name in FILTERED} | {
 async def listed(call: Call) -> Response:
     """A page of the list, newest first."""
     request = call.request
-    if answer := closed(request):
+    if answer := login_redirect(request):
         return answer
-    service, principal = service_of(request), looker(request)
+    service, principal = service_of(request), viewer_of(request)
     since, before, after = service.hub.now, call.query["before"], call.query["after"]
     parameters = {name: call.query[name] for name in FILTERED}
     parameters["phase"] = parameters["phase"] if parameters["phase"] in wording.PHASES else None
@@ -161,13 +161,17 @@ async def listed(call: Call) -> Response:
     more, sagas = len(sagas) > LISTED, sagas[:LISTED]
     if after is not None:
         sagas.reverse()
-    cursors = [filters.cursor_of(pages_module.position_of(summary)) for summary in sagas[:1] + sagas[-1:]]
+    cursors = [
+        filters.cursor_of(pages_module.position_of(summary)) for summary in sagas[:1] + sagas[-1:]
+    ]
     newer = cursors[0] if cursors and (more if after is not None else before is not None) else None
     older = cursors[-1] if cursors and (more or after is not None) else None
 
     def url(**change: Any) -> str:
         query = {
-            name: value for name, value in {**parameters, **change}.items() if value not in (None, "")
+            name: value
+            for name, value in {**parameters, **change}.items()
+            if value not in (None, "")
         }
         return f"/ui/sagas?{urlencode(query)}" if query else "/ui/sagas"
 
@@ -181,7 +185,7 @@ async def listed(call: Call) -> Response:
         ),
     ]
     is_first = before is None and after is None
-    return shows(
+    return show_page(
         request,
         "list.html",
         here="sagas",
@@ -198,14 +202,16 @@ async def listed(call: Call) -> Response:
     )
 
 
-def filter_of(parameters: dict[str, Any], principal: Who) -> Filter:
+def filter_of(parameters: dict[str, Any], principal: Principal) -> Filter:
     """The filter of the list. Raises `ValueError`, `InvalidLabel`."""
     label = (parameters["label"] or "").partition("=")
     if parameters["label"] and not label[1]:
         raise ValueError("a label is NAME=VALUE, as customer=7")
     days: list[float | None] = []
     for name, more in (("since", 0), ("until", 1)):
-        day = parameters[name] and datetime.datetime.fromisoformat(f"{parameters[name]}T00:00:00+00:00")
+        day = parameters[name] and datetime.datetime.fromisoformat(
+            f"{parameters[name]}T00:00:00+00:00"
+        )
         days.append(day.timestamp() + more * 86400 if day else None)
     return Filter(
         phase=parameters["phase"],
@@ -227,9 +233,9 @@ def address_of(key: str) -> str:
 async def workers(call: Call) -> Response:
     """What waits for workers, and who they are."""
     request = call.request
-    if answer := closed(request):
+    if answer := login_redirect(request):
         return answer
-    service, principal = service_of(request), looker(request)
+    service, principal = service_of(request), viewer_of(request)
     since = service.hub.now
     claimed = await service.look(
         lists.waits(MOST_CLAIMED, person=False, why="external", scope=principal.scope)
@@ -239,10 +245,14 @@ async def workers(call: Call) -> Response:
     for queue in await service.queues(principal):
         task_name = f"{queue.saga}/{queue.step}" + ("/undo" if queue.undo else "")
         capable = [worker for worker in seen if task_name in worker.steps]
-        queues.append((queue, [worker.name for worker in capable if now - worker.at < RECENTLY], capable[:1]))
-    known = service.words()
-    unknown_steps = {worker.name: [step for step in worker.steps if step not in known] for worker in seen}
-    return shows(
+        queues.append(
+            (queue, [worker.name for worker in capable if now - worker.at < RECENTLY], capable[:1])
+        )
+    known = service.task_names()
+    unknown_steps = {
+        worker.name: [step for step in worker.steps if step not in known] for worker in seen
+    }
+    return show_page(
         request,
         "workers.html",
         here="workers",
@@ -269,10 +279,12 @@ async def events(call: Call) -> Response:
     session = session_of(request)
     if session is None:
         raise Problem("NoSession", "log in first")
-    principal = session.who
+    principal = session.principal
 
     def still() -> bool:
-        now = still_of(request)
-        return now is not None and now.who == principal
+        now = current_session(request)
+        return now is not None and now.principal == principal
 
-    return stream(request, principal, Listener(key, None, principal.sees_event), since, still, dashboard=True)
+    return stream(
+        request, principal, Listener(key, None, principal.sees_event), since, still, dashboard=True
+    )

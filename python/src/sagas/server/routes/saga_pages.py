@@ -17,7 +17,7 @@ from sagas.definition.groups import Groups
 from sagas.engine.plan import certificate_text
 from sagas.inspection import families, picture, step_items, timeline, timeline_picture, what_if
 from sagas.inspection.views import SagaView, StepView
-from sagas.server.dashboard_session import closed, looker, shows
+from sagas.server.dashboard_session import login_redirect, viewer_of, show_page
 from sagas.server.history_rows import attempt_rows, event_rows
 from sagas.server.operations import Call, Routes
 from sagas.server.routes.pages import address_of
@@ -37,27 +37,29 @@ MOST_EFFECTS = 5
 async def saga(call: Call) -> Response:
     """A saga with all that is kept of it."""
     request, key = call.request, call.key
-    if answer := closed(request):
+    if answer := login_redirect(request):
         return answer
     service = call.service
     since, view = service.hub.now, None
     with contextlib.suppress(NoSuchSaga):
-        await service.check_sees(looker(request), key)
+        await service.check_sees(viewer_of(request), key)
         view = await service.saga(key, is_page=True)
-        view = view and families.seen_by(view, looker(request).scope)
+        view = view and families.seen_by(view, viewer_of(request).scope)
     if view is None:
         values: dict[str, Any] = {"title": "There is no such saga", "back": "/ui/sagas"}
-        return shows(request, "fault.html", 404, text=f"No saga has the key {key}.", **values)
-    work = functools.partial(told_of, view, service.approvals, time.time(), call.query["unfold"])
+        return show_page(request, "fault.html", 404, text=f"No saga has the key {key}.", **values)
+    work = functools.partial(
+        template_values, view, service.approvals, time.time(), call.query["unfold"]
+    )
     values = await service.threads.pages.do(work)
-    return shows(request, "saga.html", since=since, **values)
+    return show_page(request, "saga.html", since=since, **values)
 
 
-def told_of(
+def template_values(
     view: SagaView, approvals_of: Callable[[str, str], set[str]], now: float, unfold: str | None
 ) -> dict[str, Any]:
     """What the template of a saga asks for. `approvals_of`: of a saga's name and definition."""
-    drawn, displays = len(view.steps) <= MOST_DRAWN, picture.told_of(view)
+    drawn, displays = len(view.steps) <= MOST_DRAWN, picture.displays_of(view)
     asks = [wait for wait in view.held if wait.asks]
     attempts = timeline.of(view, now)
     approvals = set[str]()
@@ -71,7 +73,12 @@ def told_of(
     table = StepTable(unfolding, view.steps, displays, choices, items)
     titles = table.titles()
     svg = functools.partial(
-        picture.svg, view, tolds=displays, groups=groups, unfold=unfolding.names, link=unfolding.link
+        picture.svg,
+        view,
+        displays=displays,
+        groups=groups,
+        unfold=unfolding.names,
+        link=unfolding.link,
     )
     events = event_rows(view.history, titles)
     return {
@@ -125,10 +132,10 @@ def effect(view: SagaView, *, abort: bool = False, **step: str) -> str | None:
             return f"Store this answer, and use it when {name} starts"
     try:
         if abort:
-            return what_if.words(what_if.of(view, abort=True))
+            return what_if.describe(what_if.of(view, abort=True))
         if "done" in step:
-            return what_if.done_words(view, step["done"])
-        return what_if.words(what_if.of(view, failed=step["failed"]))
+            return what_if.describe_completion(view, step["done"])
+        return what_if.describe(what_if.of(view, failed=step["failed"]))
     except (ValueError, KeyError):
         return None
 
@@ -158,9 +165,9 @@ def failures_of(view: SagaView) -> list[StepView]:
 @routes.get("/ui/sagas/{key}/certificate")
 async def certificate(call: Call) -> Response:
     """The plan's certificate, as `sagas check` reads it."""
-    if answer := closed(call.request):
+    if answer := login_redirect(call.request):
         return answer
-    view = await kept_of(call.service, looker(call.request), call.key)
+    view = await kept_of(call.service, viewer_of(call.request), call.key)
     if view.plan is None:
         raise NoSuchSaga(f"saga {view.key!r} has no plan")
     return Response(certificate_text(view.plan), media_type="text/plain; charset=utf-8")

@@ -27,12 +27,12 @@ from sagas.server.access import (
     SIZE,
     check_definition,
     check_key,
-    is_still,
-    maker,
+    is_unchanged,
+    client_key,
     service_of,
     waiting,
 )
-from sagas.server.auth import May, Who
+from sagas.server.auth import Permission, Principal
 from sagas.server.client_waits import first
 from sagas.server.event_stream import Listener
 from sagas.server.operations import Answer, Call, Routes
@@ -120,12 +120,12 @@ async def view_of(call: Call, key: str | None = None) -> SagaView:
     """A saga with all that is kept of it, and what is known of what has begun. Raises
     `NoSuchSaga`.
     """
-    await call.service.check_sees(call.who, key or call.key)
+    await call.service.check_sees(call.principal, key or call.key)
     view = there(await call.service.saga(key or call.key), key or call.key)
-    return families.seen_by(view, call.who.scope)
+    return families.seen_by(view, call.principal.scope)
 
 
-async def kept_of(service: Any, principal: Who, key: str) -> SagaView:
+async def kept_of(service: Any, principal: Principal, key: str) -> SagaView:
     """As `view_of`, with what is kept alone."""
     await service.check_sees(principal, key)
     return there(await service.kept(key), key)
@@ -157,7 +157,7 @@ def there(view: SagaView | None, key: str) -> SagaView:
 @routes.post(
     "/sagas",
     "startSaga",
-    may=May.START,
+    permission=Permission.START,
     body=START,
     headers=TRACE,
     answers={
@@ -183,13 +183,13 @@ async def start(call: Call) -> Response:
     key, name = call.body["key"], call.body["definition"]
     if key in (".", ".."):
         raise Problem("InvalidKey", f"the key {key!r} has no address: take another key", "key")
-    check_definition(call.who, name)
-    check_key(call.who, key)
-    saga = call.service.saga_named(call.who, name, call.body["version"])
+    check_definition(call.principal, name)
+    check_key(call.principal, key)
+    saga = call.service.saga_named(call.principal, name, call.body["version"])
     arguments = [call.body[field] for field in ("input", "labels", "deadline")]
     arguments.append(trace_of(call.request))
     size: int = call.request.scope[SIZE]
-    run = await call.service.start(call.who, size, saga, key, *arguments)
+    run = await call.service.start(call.principal, size, saga, key, *arguments)
     fields = {"key": key, "definition": saga.name, "version": saga.version, "new": run.new}
     return Json(fields, 201 if run.new else 200, {"Location": f"/v1/sagas/{quote(key, safe='')}"})
 
@@ -197,7 +197,7 @@ async def start(call: Call) -> Response:
 @routes.get(
     "/sagas",
     "listSagas",
-    may=May.LOOK,
+    permission=Permission.LOOK,
     query=filters.SAGAS
     | filters.MORE
     | {
@@ -217,14 +217,22 @@ async def listed(call: Call) -> Response:
     A page, of the definitions that the token may see."""
     query = call.query
     limit, before = query["limit"], filters.position_of(query["after"])
-    page = pages.page(before=before, most=limit, of=filters.of(call.who, query, query["phase"]))
+    page = pages.page(
+        before=before, most=limit, of=filters.of(call.principal, query, query["phase"])
+    )
     summaries = await call.service.look(page)
     last = pages.position_of(summaries[-1]) if len(summaries) == limit else None
     more = last and filters.cursor_of(last)
     return Json({"sagas": [json_views.summary(summary) for summary in summaries], "next": more})
 
 
-@routes.get("/sagas/{key}", "getSaga", may=May.LOOK, answers={200: SAGA}, problems=("NoSuchSaga",))
+@routes.get(
+    "/sagas/{key}",
+    "getSaga",
+    permission=Permission.LOOK,
+    answers={200: SAGA},
+    problems=("NoSuchSaga",),
+)
 async def get(call: Call) -> Response:
     """Get a saga.
 
@@ -237,7 +245,7 @@ async def get(call: Call) -> Response:
 @routes.get(
     "/sagas/{key}/wait",
     "waitForSaga",
-    may=May.LOOK,
+    permission=Permission.LOOK,
     query={"seconds": Field(Number(0.0, LONGEST), "how long at most", default=30.0)},
     answers={200: SAGA},
     problems=("NoSuchSaga", "Unauthorized", "RightsChanged", "TooManyWaits"),
@@ -247,10 +255,10 @@ async def wait(call: Call) -> Response:
 
     Answers as `getSaga`, once it is over or the time has passed; `over` says which. Whatever the
     client sends behind the request ends the wait."""
-    await call.service.check_sees(call.who, call.key)
-    with waiting(call.request, call.who, Kind.WAIT):
+    await call.service.check_sees(call.principal, call.key)
+    with waiting(call.request, call.principal, Kind.WAIT):
         ending = asyncio.ensure_future(call.service.store.over(call.key))
-        if await first(call.request, call.who, ending, call.query["seconds"]):
+        if await first(call.request, call.principal, ending, call.query["seconds"]):
             ending.result()  # raises, where there is no such saga
     if call.request.scope[GONE].done():
         return Response()  # nobody hears it
@@ -260,7 +268,7 @@ async def wait(call: Call) -> Response:
 @routes.post(
     "/sagas/{key}/abort",
     "abortSaga",
-    may=May.START,
+    permission=Permission.START,
     body=WHY,
     answers={200: Answer("Whether it was aborted now.", answers.ABORTED)},
     problems=("NoSuchSaga", "NotAbortable", "OwnerUnavailable"),
@@ -271,15 +279,15 @@ async def abort(call: Call) -> Response:
     No further step of it starts, and what costs least is undone. A saga that undoes a child is not
     aborted."""
     service, note = call.service, call.body["note"]
-    await service.check_sees(call.who, call.key)
-    done = await service.in_time(service.store.abort(call.key, by=call.who.name, note=note))
+    await service.check_sees(call.principal, call.key)
+    done = await service.in_time(service.store.abort(call.key, by=call.principal.name, note=note))
     return Json({"key": call.key, "aborted": done})
 
 
 @routes.post(
     "/sagas/{key}/what-if",
     "whatIf",
-    may=May.LOOK,
+    permission=Permission.LOOK,
     body=SUPPOSE,
     answers={200: Answer("The plan, which nobody goes by.", answers.WHAT_IF)},
     problems=("NoSuchSaga", "SagaOver", "NotAbortable"),
@@ -311,7 +319,7 @@ async def what_if(call: Call) -> Response:
 @routes.get(
     "/sagas/{key}/picture.svg",
     "getPicture",
-    may=May.LOOK,
+    permission=Permission.LOOK,
     problems=("NoSuchSaga",),
     query={"unfold": unfolding.FIELD},
     answers={200: Answer("A picture.", media_type="image/svg+xml")},
@@ -334,7 +342,7 @@ async def picture(call: Call) -> Response:
 @routes.get(
     "/sagas/{key}/certificate",
     "getCertificate",
-    may=May.LOOK,
+    permission=Permission.LOOK,
     problems=("NoSuchSaga", "NoPlan"),
     query={"form": Field(Choice(("json", "text")), "of the answer", default="json")},
     answers={
@@ -349,7 +357,7 @@ async def certificate(call: Call) -> Response:
     """Get what `sagas check` needs to verify the plan.
 
     As text it is for the standard input of `sagas check`."""
-    view = await kept_of(call.service, call.who, call.key)
+    view = await kept_of(call.service, call.principal, call.key)
     if view.plan is None:
         raise Problem("NoPlan", f"saga {view.key!r} has no plan: nothing of it has failed")
     if call.query["form"] == "text":
@@ -359,9 +367,9 @@ async def certificate(call: Call) -> Response:
 
 async def check_reports(call: Call, key: str, step: str, undo: bool) -> None:
     """Raises `Problem` where somebody may not say how this step ended."""
-    principal = call.who
+    principal = call.principal
     await call.service.check_sees(principal, key)
-    if principal.may(May.OPERATE):
+    if principal.has_permission(Permission.OPERATE):
         return
     try:
         why = f"{step[:64]!r} is no approval: an operator says how any other step ended"
@@ -377,8 +385,12 @@ async def decided(call: Call, outcome: str, value: Any) -> Response:
     step, body, store = call.path["step"], call.body, call.service.store
     await check_reports(call, call.key, step, body["undo"])
     options = {name: body[name] for name in ("undo", "early", "note") if name in body}
-    options["by"] = call.who.name
-    commands: dict[str, Any] = {"complete": store.complete, "fail": store.fail, "retry": store.retry}
+    options["by"] = call.principal.name
+    commands: dict[str, Any] = {
+        "complete": store.complete,
+        "fail": store.fail,
+        "retry": store.retry,
+    }
     value = () if outcome == "retry" else (value,)
     await call.service.in_time(commands[outcome](call.key, step, *value, **options))
     return Json({"key": call.key, "step": step, "kept": True})
@@ -387,7 +399,7 @@ async def decided(call: Call, outcome: str, value: Any) -> Response:
 @routes.post(
     "/sagas/{key}/steps/{step}/complete",
     "completeStep",
-    may=May.APPROVE,
+    permission=Permission.APPROVE,
     body=COMPLETE,
     answers=DECIDED,
     problems=(
@@ -412,7 +424,7 @@ async def complete(call: Call) -> Response:
 @routes.post(
     "/sagas/{key}/steps/{step}/fail",
     "failStep",
-    may=May.APPROVE,
+    permission=Permission.APPROVE,
     body=FAIL,
     answers=DECIDED,
     problems=("NoSuchSaga", "StepNotWaiting", "ConflictingReport", "OwnerUnavailable"),
@@ -427,7 +439,7 @@ async def fail(call: Call) -> Response:
 @routes.post(
     "/sagas/{key}/steps/{step}/retry",
     "retryStep",
-    may=May.OPERATE,
+    permission=Permission.OPERATE,
     body=RETRY,
     answers=DECIDED,
     problems=("NoSuchSaga", "StepNotWaiting", "OwnerUnavailable"),
@@ -443,7 +455,7 @@ async def retry(call: Call) -> Response:
 @routes.get(
     "/events",
     "followEvents",
-    may=May.LOOK,
+    permission=Permission.LOOK,
     streams=True,
     problems=("TooManyStreams",),
     query={
@@ -457,14 +469,20 @@ async def events(call: Call) -> Response:
 
     From now on, or behind the header `Last-Event-ID`, of the definitions that the token may see.
     An event `missed` says that some are no longer stored: look at the sagas themselves."""
-    check_definition(call.who, call.query["definition"], starts=False)
-    listener = Listener(call.query["key"], call.query["definition"], call.who.sees_event)
-    return stream(call.request, call.who, listener, None, lambda: is_still(call.request, call.who))
+    check_definition(call.principal, call.query["definition"], starts=False)
+    listener = Listener(call.query["key"], call.query["definition"], call.principal.sees_event)
+    return stream(
+        call.request,
+        call.principal,
+        listener,
+        None,
+        lambda: is_unchanged(call.request, call.principal),
+    )
 
 
 def stream(
     request: Request,
-    principal: Who,
+    principal: Principal,
     listener: Listener,
     since: Optional[str],
     still: Callable[[], bool],
@@ -474,7 +492,7 @@ def stream(
     `still` to be.
 
     Raises `Problem` where there are too many."""
-    service, name = service_of(request), maker(request, principal)
+    service, name = service_of(request), client_key(request, principal)
     if full := service.streams.full(name, dashboard):
         raise Problem("TooManyStreams", full)
     last = request.headers.get("last-event-id") or since

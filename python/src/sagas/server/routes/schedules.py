@@ -13,7 +13,7 @@ from sagas.definition.payloads import shown
 from sagas.definition.timing import key_of
 from sagas.inspection import lists
 from sagas.server import answers, json_views
-from sagas.server.auth import May, Who
+from sagas.server.auth import Permission, Principal
 from sagas.server.operations import Answer, Call, Handler, Routes
 from sagas.server.responses import Json
 from sagas.server.service import Service
@@ -26,7 +26,7 @@ NAME = Text(most=128, least=1)
 DONE = {"pause": "paused", "resume": "resumed", "remove": "removed"}
 
 
-async def seen(service: Service, principal: Who) -> list[Schedule]:
+async def seen(service: Service, principal: Principal) -> list[Schedule]:
     """The schedules whose sagas are theirs to see."""
     stored = await service.look(lists.schedules())
     return [
@@ -36,7 +36,7 @@ async def seen(service: Service, principal: Who) -> list[Schedule]:
     ]
 
 
-async def change(service: Service, principal: Who, name: str, verb: str) -> None:
+async def change(service: Service, principal: Principal, name: str, verb: str) -> None:
     """Pause, resume or remove one. Raises `NoSuchSchedule`, also of one that is not theirs to
     see."""
     if name not in {schedule.name for schedule in await seen(service, principal)}:
@@ -54,14 +54,14 @@ async def change(service: Service, principal: Who, name: str, verb: str) -> None
 @routes.get(
     "",
     "listSchedules",
-    may=May.LOOK,
+    permission=Permission.LOOK,
     answers={200: Answer("By name.", answers.SCHEDULES)},
 )
 async def listed(call: Call) -> Response:
     """List schedules.
 
     Of the definitions that the token may see, with their last and next times."""
-    visible = await seen(call.service, call.who)
+    visible = await seen(call.service, call.principal)
     return Json({"schedules": [json_views.schedule(schedule) for schedule in visible]})
 
 
@@ -69,7 +69,7 @@ def declare(verb: str, description: str) -> Handler:
     """The route of a change."""
 
     async def handler(call: Call) -> Response:
-        await change(call.service, call.who, call.path["name"], verb)
+        await change(call.service, call.principal, call.path["name"], verb)
         return Json({"name": call.path["name"], "done": DONE[verb]})
 
     handler.__doc__ = description
@@ -79,7 +79,7 @@ def declare(verb: str, description: str) -> Handler:
     return method(
         path,
         f"{verb}Schedule",
-        may=May.OPERATE,
+        permission=Permission.OPERATE,
         parts={"name": NAME},
         answers={200: Answer("It is done.", answers.SCHEDULE_CHANGED)},
         problems=("NoSuchSchedule",),

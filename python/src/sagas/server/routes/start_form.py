@@ -9,7 +9,7 @@ from starlette.responses import RedirectResponse, Response
 from sagas.base.errors import SagasError
 from sagas.server import json_texts, problems
 from sagas.server.access import check_definition, service_of
-from sagas.server.dashboard_session import closed, looker, sent, shows
+from sagas.server.dashboard_session import login_redirect, viewer_of, sent, show_page
 from sagas.server.operations import Call, Routes
 from sagas.server.routes.pages import address_of
 from sagas.server.shapes import Field, Text
@@ -21,13 +21,17 @@ def asked(
     request: Request, form: dict[str, str], fault: str | None = None, status: int = 200
 ) -> Response:
     """The form, with what was said in it, and why it was not taken."""
-    names = service_of(request).names(looker(request))
-    return shows(request, "start.html", status, here="sagas", names=names, form=form, fault=fault)
+    names = service_of(request).names(viewer_of(request))
+    return show_page(
+        request, "start.html", status, here="sagas", names=names, form=form, fault=fault
+    )
 
 
 @routes.get("/ui/start", query={"definition": Field(Text(most=64), default="")})
 async def start_page(call: Call) -> Response:
-    return closed(call.request) or asked(call.request, {"definition": call.query["definition"]})
+    return login_redirect(call.request) or asked(
+        call.request, {"definition": call.query["definition"]}
+    )
 
 
 @routes.post("/ui/start")
@@ -55,10 +59,10 @@ async def start(call: Call) -> Response:
             422,
         )
     definition = form.get("definition", "")
-    check_definition(session.who, definition)
+    check_definition(session.principal, definition)
     try:
-        saga = service.saga_named(session.who, definition, None)
-        await service.start(session.who, size, saga, key, input)
+        saga = service.saga_named(session.principal, definition, None)
+        await service.start(session.principal, size, saga, key, input)
     except SagasError as error:
         return asked(request, form, str(problems.of(error)), 409)
     service.figures.forget()

@@ -36,7 +36,7 @@ PATIENCE = 25.0
 """Seconds that a claim may take, in addition to those that it waits for tasks."""
 
 
-def words_of(steps: list[str], path: str = "steps") -> list[Word]:
+def parse_steps(steps: list[str], path: str = "steps") -> list[Word]:
     """The steps that are asked for. Raises `Problem`."""
     steps_found: list[Word] = []
     for number, step in enumerate(steps):
@@ -54,8 +54,12 @@ def words_of(steps: list[str], path: str = "steps") -> list[Word]:
 
 @functools.lru_cache(1000)  # workers ask for the same again
 def _parse_step(step: str) -> Word | None:
-    told = STEP_NAME.match(step)
-    return (told[1], told[2], "undo" if told[3] else "run") if told else None
+    answer_fields = STEP_NAME.match(step)
+    return (
+        (answer_fields[1], answer_fields[2], "undo" if answer_fields[3] else "run")
+        if answer_fields
+        else None
+    )
 
 
 @dataclasses.dataclass(frozen=True, slots=True)
@@ -71,7 +75,7 @@ class Claimed:
         """Whether its values take long to be read and written."""
         return sum(task.size for task in self.tasks) > LARGE
 
-    def told(self) -> dict[str, Any]:
+    def answer_fields(self) -> dict[str, Any]:
         """The answer as JSON has it."""
         return {"tasks": [json_views.task(task, self.now) for task in self.tasks], **self.more}
 
@@ -108,8 +112,8 @@ def _is_too_deep(task: LeasedTask) -> bool:
 
 async def _written(call: Call, made: Callable[[Any], Any], claim: Claimed, *path: str) -> Response:
     if not claim.is_large:
-        return Json(made(claim.told()))
-    body_of_claim = claim.told
+        return Json(made(claim.answer_fields()))
+    body_of_claim = claim.answer_fields
     return await call.service.threads.answers.do(
         lambda: parted(made(body_of_claim()), *path, "tasks", "*", "results")
     )
@@ -126,7 +130,7 @@ async def _writable(call: Call, claim: Claimed) -> Claimed:
             tasks.append(task)
         except CannotDecode as error:
             workers = call.service.store.workers
-            await workers.set_aside(task, str(error), holder=call.who.name)
+            await workers.set_aside(task, str(error), holder=call.principal.name)
     return dataclasses.replace(claim, tasks=tasks)
 
 
@@ -178,7 +182,7 @@ class NextClaim:
             with contextlib.ExitStack() as stack:
                 wait = body["wait"]
                 try:
-                    stack.enter_context(waiting(call.request, call.who, Kind.CLAIM))
+                    stack.enter_context(waiting(call.request, call.principal, Kind.CLAIM))
                 except Problem:  # the report is stored: it is answered now
                     wait = 0.0
                 self._found = await _claimed(call, body, body["limit"], wait)
@@ -204,12 +208,12 @@ async def _handed(call: Call, tasks: list[LeasedTask]) -> list[LeasedTask]:
 
 async def _give_back(call: Call, tasks: list[LeasedTask]) -> None:
     with contextlib.suppress(SagasError):  # then the leases end by themselves
-        await call.service.store.workers.give_back(tasks, holder=call.who.name)
+        await call.service.store.workers.give_back(tasks, holder=call.principal.name)
 
 
 def worker_of(call: Call, body: dict[str, Any]) -> str:
     """The name of a worker: that of its token, and its own."""
-    return f"{call.who.name}/{body['worker']}" if body["worker"] else call.who.name
+    return f"{call.principal.name}/{body['worker']}" if body["worker"] else call.principal.name
 
 
 def _claim(
@@ -218,12 +222,12 @@ def _claim(
     service, name = call.service, worker_of(call, body)
     service.saw(name, body["steps"])
     work = service.store.workers.claim(
-        words_of(body["steps"]),
+        parse_steps(body["steps"]),
         limit=limit,
         wait=wait,
         lease=body["lease"],
         worker=name,
-        holder=call.who.name,
+        holder=call.principal.name,
     )
     return asyncio.get_running_loop().create_task(work)
 
@@ -233,7 +237,9 @@ async def _is_over(
 ) -> bool:
     """Whether it came to an end while the client was there, and before any of the `ends`; else it
     is cancelled."""
-    return claiming.done() or await first(call.request, call.who, claiming, wait + PATIENCE, *ends)
+    return claiming.done() or await first(
+        call.request, call.principal, claiming, wait + PATIENCE, *ends
+    )
 
 
 async def _claimed(call: Call, body: dict[str, Any], limit: int, wait: float) -> list[LeasedTask]:
@@ -248,6 +254,6 @@ def _answer(call: Call, body: dict[str, Any], tasks: list[LeasedTask]) -> Claime
     more = {
         "heartbeat_seconds": round(body["lease"] / HEARTBEATS, 3),
         "repeat_statuses": problems.REPEAT,
-        "unknown_steps": sorted(set(body["steps"]) - call.service.words()),
+        "unknown_steps": sorted(set(body["steps"]) - call.service.task_names()),
     }
     return Claimed(tasks, more, call.service.store.now())

@@ -9,7 +9,7 @@ from starlette.responses import Response
 
 from sagas.base.errors import SagasError
 from sagas.server import answers, problems
-from sagas.server.auth import May
+from sagas.server.auth import Permission
 from sagas.server.operations import Answer, Call, Routes
 from sagas.server.problems import Problem
 from sagas.server.routes.task_claims import NextClaim, answered
@@ -32,7 +32,10 @@ REPORT = Record(
 )
 REPORTS = Record(
     "TaskReports",
-    {"reports": Field(Several(REPORT, least=1, most=MOST_REPORTS), "each as if sent alone"), **MORE},
+    {
+        "reports": Field(Several(REPORT, least=1, most=MOST_REPORTS), "each as if sent alone"),
+        **MORE,
+    },
     example={
         "reports": [
             {"attempt_id": "c0ffee-1-car-run-1", "lease": "1.c0ffee", "outcome": "complete"}
@@ -62,7 +65,7 @@ async def _kept(
     fields: dict[str, Any] = {"attempt_id": attempt_id, "kept": True, "repeated": False}
     try:
         kept = await call.service.store.workers.report(
-            attempt_id, report["lease"], holder=call.who.name, stored=claim.stored, **outcome
+            attempt_id, report["lease"], holder=call.principal.name, stored=claim.stored, **outcome
         )
     except SagasError as error:
         return {**fields, "kept": False, "problem": problems.body(problems.of(error))}
@@ -72,7 +75,7 @@ async def _kept(
 @routes.post(
     "/report",
     "reportTasks",
-    may=May.WORK,
+    permission=Permission.WORK,
     body=REPORTS,
     answers={200: Answer("Each has its own answer.", answers.REPORTED_TASKS)},
 )
@@ -88,4 +91,6 @@ async def report(call: Call) -> Response:
         stored = (_kept(call, claim, *entry) for entry in zip(body["reports"], outcomes))
         answers_of_reports = await asyncio.gather(*stored)
         claimed = await claim.answer()
-        return await answered(call, lambda next: {"reports": answers_of_reports, "next": next}, claimed, "next")
+        return await answered(
+            call, lambda next: {"reports": answers_of_reports, "next": next}, claimed, "next"
+        )

@@ -8,12 +8,12 @@ from starlette.responses import Response
 
 from sagas.server import answers, problems
 from sagas.server.access import check_steps, waiting
-from sagas.server.auth import May
+from sagas.server.auth import Permission
 from sagas.server.operations import Answer, Call, Routes
 from sagas.server.places import Kind
 from sagas.server.problems import Problem
 from sagas.server.responses import Json, times
-from sagas.server.routes.task_claims import NextClaim, answered, claimed, words_of, worker_of
+from sagas.server.routes.task_claims import NextClaim, answered, claimed, parse_steps, worker_of
 from sagas.server.shapes import Anything, Field, Flag, Nullable, Number, Record, Several, Text
 
 routes = Routes("workers", "/v1/tasks")
@@ -95,7 +95,7 @@ OF_LEASES = ("NoSuchTask", "InvalidLease", "LeaseLost", "OwnerUnavailable")
 @routes.post(
     "/claim",
     "claimTasks",
-    may=May.WORK,
+    permission=Permission.WORK,
     body=CLAIM_REQUEST,
     answers={200: Answer("The tasks.", answers.CLAIMED, example=CLAIMED_EXAMPLE)},
     problems=("Stopping", "RightsChanged", "TooManyWaits"),
@@ -105,11 +105,11 @@ async def claim(call: Call) -> Response:
 
     Those that have waited longest; none where no task came in time. The leases are stored before
     they are answered. A token that may not claim one of the steps gets 403."""
-    words_of(call.body["steps"])
-    check_steps(call.who, call.body["steps"])
+    parse_steps(call.body["steps"])
+    check_steps(call.principal, call.body["steps"])
     if call.service.is_stopping:
         raise Problem("Stopping", "the service is about to stop: ask again in a while")
-    with waiting(call.request, call.who, Kind.CLAIM):
+    with waiting(call.request, call.principal, Kind.CLAIM):
         tasks = await claimed(call, call.body)
     return await answered(call, lambda claimed_tasks: claimed_tasks, tasks)
 
@@ -117,7 +117,7 @@ async def claim(call: Call) -> Response:
 @routes.post(
     "/claim/end",
     "endClaims",
-    may=May.WORK,
+    permission=Permission.WORK,
     body=END,
     answers={200: Answer("They are answered.", ENDED, example={"ended": 1})},
 )
@@ -132,7 +132,7 @@ async def end(call: Call) -> Response:
 @routes.post(
     "/{attempt_id}/heartbeat",
     "heartbeat",
-    may=May.WORK,
+    permission=Permission.WORK,
     body=HEARTBEAT,
     problems=OF_LEASES,
     answers={200: Answer("The lease holds.", answers.HELD)},
@@ -148,7 +148,7 @@ async def heartbeat(call: Call) -> Response:
         call.path["attempt_id"],
         body["lease"],
         body["seconds"],
-        holder=call.who.name,
+        holder=call.principal.name,
         progress=body["progress"],
         detail=body["detail"],
     )
@@ -158,8 +158,8 @@ async def heartbeat(call: Call) -> Response:
 def check_next(call: Call, more: dict[str, Any] | None) -> None:
     """Refuse what may not be claimed next, before a report is kept."""
     if more is not None:
-        words_of(more["steps"], "next.steps")
-        check_steps(call.who, more["steps"])
+        parse_steps(more["steps"], "next.steps")
+        check_steps(call.principal, more["steps"])
 
 
 async def _report(call: Call, **outcome: Any) -> Response:
@@ -170,7 +170,7 @@ async def _report(call: Call, **outcome: Any) -> Response:
         kept = await call.service.store.workers.report(
             call.path["attempt_id"],
             body["lease"],
-            holder=call.who.name,
+            holder=call.principal.name,
             stored=claim.stored,
             **outcome,
         )
@@ -182,7 +182,7 @@ async def _report(call: Call, **outcome: Any) -> Response:
 @routes.post(
     "/{attempt_id}/complete",
     "completeTask",
-    may=May.WORK,
+    permission=Permission.WORK,
     body=COMPLETE,
     answers=REPORTED,
     problems=(*OF_LEASES, "ConflictingReport", "NotSerializable"),
@@ -199,7 +199,7 @@ async def complete(call: Call) -> Response:
 @routes.post(
     "/{attempt_id}/fail",
     "failTask",
-    may=May.WORK,
+    permission=Permission.WORK,
     body=FAIL,
     answers=REPORTED,
     problems=(*OF_LEASES, "ConflictingReport"),
@@ -214,7 +214,7 @@ async def fail(call: Call) -> Response:
 @routes.post(
     "/{attempt_id}/unknown",
     "unknownTask",
-    may=May.WORK,
+    permission=Permission.WORK,
     body=UNKNOWN,
     answers=REPORTED,
     problems=(*OF_LEASES, "ConflictingReport"),

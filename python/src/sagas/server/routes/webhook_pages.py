@@ -9,7 +9,7 @@ from starlette.responses import RedirectResponse, Response
 
 from sagas.inspection import deliveries
 from sagas.server.access import service_of
-from sagas.server.dashboard_session import closed, looker, sent, shows
+from sagas.server.dashboard_session import login_redirect, viewer_of, sent, show_page
 from sagas.server.operations import Call, Routes
 from sagas.server.routes import webhooks
 from sagas.server.shapes import Choice, Field, Text
@@ -35,12 +35,12 @@ def url(**parameters: Any) -> str:
 @routes.get("/ui/webhooks", query=FILTERED)
 async def listed(call: Call) -> Response:
     """The latest deliveries, the newest first."""
-    if answer := closed(call.request):
+    if answer := login_redirect(call.request):
         return answer
-    webhooks.check_all(looker(call.request))
+    webhooks.check_all(viewer_of(call.request))
     state, webhook = call.query["state"], call.query["webhook"]
     listed_deliveries = await call.service.look(deliveries.listed(state, webhook, LISTED + 1))
-    return shows(
+    return show_page(
         call.request,
         "webhooks.html",
         here="webhooks",
@@ -60,6 +60,6 @@ async def listed(call: Call) -> Response:
 async def redelivered(call: Call) -> Response:
     """Have a delivery posted again, and go back to the list."""
     session, form = await sent(call.request)
-    await webhooks.again(service_of(call.request), session.who, call.path["id"])
+    await webhooks.again(service_of(call.request), session.principal, call.path["id"])
     state = form.get("state") if form.get("state") in STATES else None
     return RedirectResponse(url(state=state, webhook=form.get("webhook", "")[:64]), 303)

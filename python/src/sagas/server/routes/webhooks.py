@@ -10,7 +10,7 @@ from starlette.responses import Response
 from sagas.inspection import deliveries
 from sagas.inspection.deliveries import Delivery
 from sagas.server import answers
-from sagas.server.auth import May, Who
+from sagas.server.auth import Permission, Principal
 from sagas.server.operations import Answer, Call, Routes
 from sagas.server.problems import Problem
 from sagas.server.responses import Json, times
@@ -24,7 +24,7 @@ routes = Routes("operators", "/v1")
 REDELIVER = Record("RedeliverRequest", {}, "Nothing is to be said.")
 
 
-def told_of(delivery: Delivery) -> dict[str, Any]:
+def delivery_json(delivery: Delivery) -> dict[str, Any]:
     """A delivery, without what it is signed by."""
     return {
         "id": delivery.id,
@@ -40,13 +40,13 @@ def told_of(delivery: Delivery) -> dict[str, Any]:
     }
 
 
-def check_all(principal: Who) -> None:
+def check_all(principal: Principal) -> None:
     """Raises `Problem` where somebody is kept to some definitions."""
     if principal.definitions is not None:
         raise Problem("Forbidden", f"{principal.name} is kept to some definitions")
 
 
-async def again(service: Service, principal: Who, id: str) -> Delivery:
+async def again(service: Service, principal: Principal, id: str) -> Delivery:
     """Have a delivery posted again. Raises `Problem`."""
     check_all(principal)
     done = await service.store.deliveries.redeliver(id)
@@ -61,7 +61,7 @@ async def again(service: Service, principal: Who, id: str) -> Delivery:
 @routes.get(
     "/webhooks/deliveries",
     "listDeliveries",
-    may=May.OPERATE,
+    permission=Permission.OPERATE,
     query={
         "state": Field(Choice(tuple(state.value for state in DeliveryState)), "", default=None),
         "webhook": Field(Text(most=64), "to this webhook", default=None),
@@ -73,18 +73,18 @@ async def listed(call: Call) -> Response:
     """List deliveries of webhooks.
 
     Those of the store: of all services that share it."""
-    check_all(call.who)
+    check_all(call.principal)
     query = call.query
     listed_deliveries = await call.service.look(
         deliveries.listed(query["state"], query["webhook"], query["limit"])
     )
-    return Json({"deliveries": [told_of(delivery) for delivery in listed_deliveries]})
+    return Json({"deliveries": [delivery_json(delivery) for delivery in listed_deliveries]})
 
 
 @routes.post(
     "/webhooks/deliveries/{id}/redeliver",
     "redeliver",
-    may=May.OPERATE,
+    permission=Permission.OPERATE,
     body=REDELIVER,
     answers={200: Answer("It is pending again.", answers.DELIVERY)},
     problems=("NoSuchDelivery",),
@@ -93,4 +93,4 @@ async def redeliver(call: Call) -> Response:
     """Post a delivery again.
 
     Under its id, with all its attempts, also where it was delivered or given up."""
-    return Json(told_of(await again(call.service, call.who, call.path["id"])))
+    return Json(delivery_json(await again(call.service, call.principal, call.path["id"])))
