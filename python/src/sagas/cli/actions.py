@@ -1,4 +1,6 @@
-"""`abort`, `complete`, `fail` and `retry`, which are asked of the program that has the store."""
+"""`abort`, `complete`, `fail`, `retry` and `compensate`: requests to the program that has the
+store.
+"""
 
 from __future__ import annotations
 
@@ -33,14 +35,15 @@ from sagas.storage.queries import DEFINITION, PHASE
 Json = dict[str, Any]
 VERBS = {"complete": "completes", "fail": "fails", "retry": "retries"}
 WITHDRAWN = "withdrawn"
-"""The answer to an abort of a start that no node had taken."""
+"""The answer to an abort of a start that no node had accepted."""
 SAGA = f"SELECT id, {PHASE} FROM sagas s WHERE key = ?"
 CHILDREN = child_results.CHILDREN.format(PHASE)
 
 
 def ask(path: str, key: str, command: str, value: Any, timeout: float) -> tuple[Any, bool]:
-    """Leaves a request in the store; gives the answer of the program that has the saga, or None
-    where none has come yet, and whether a program has the store.
+    """Store a request for the program that executes the saga.
+
+    Returns its answer, or None if there is none yet, and whether a program has the store open.
     """
     with admin.writing(path) as link:
         if command in ("complete", "fail") and is_repeated(link, key, command, value):
@@ -67,13 +70,16 @@ def ask(path: str, key: str, command: str, value: Any, timeout: float) -> tuple[
 
 
 def gone(key: str) -> Trouble:
-    """What is said where the saga goes while it is asked."""
+    """Return the error for a saga that is deleted while a request to it is stored."""
     return Trouble(f"saga {key} was deleted meanwhile")
 
 
 def target_of(link: admin.Source, key: str, command: str, value: Any) -> int | None:
-    """The id of the saga that is asked; below 0 that of a client's start. None: that start, which
-    no node had taken, is withdrawn. Raises `Trouble` where nothing can be asked."""
+    """Return the id of the saga that a request is for.
+
+    The id of a client's start is negative. None: the start, which no node had accepted, is
+    withdrawn. Raises `Trouble` if the saga cannot take the request.
+    """
     rows = link.ask(SAGA, key)
     if not rows and command == "abort":
         if link.withdraw(key):
@@ -102,8 +108,10 @@ def target_of(link: admin.Source, key: str, command: str, value: Any) -> int | N
 
 
 def is_repeated(link: admin.Source, key: str, command: str, value: Any) -> bool:
-    """Whether a saga is over, and this was reported of its step before. Raises `Trouble` where
-    another outcome was."""
+    """Return whether a saga has ended and already has this report of its step.
+
+    Raises `Trouble` if another outcome was reported.
+    """
     for id, phase in link.ask(SAGA, key):
         names = step_names(str(link.ask(DEFINITION, id)[0][0]))
         if phase == "open" or value["step"] not in names:
@@ -127,7 +135,7 @@ def is_repeated(link: admin.Source, key: str, command: str, value: Any) -> bool:
 
 
 def check_abortable(key: str) -> None:
-    """Raises `Trouble` where the saga undoes a child: no program would abort it."""
+    """Raise `Trouble` if the saga undoes a child: no program would abort it."""
     try:
         children.check_abortable(key)
     except NotAbortable as error:
@@ -135,7 +143,7 @@ def check_abortable(key: str) -> None:
 
 
 def check_child(link: admin.Source, key: str, step: str, result: Any) -> None:
-    """Raises `Trouble` where a step that has started a child is completed with what is none."""
+    """Raise `Trouble` if a step that has started a child is completed with an invalid result."""
     for id, phase in link.ask(SAGA, key):
         rows = [(str(key), str(phase)) for key, phase in link.ask(CHILDREN, id)]
         is_child = any(children.is_of_step(child, key, step) for child, _ in rows)
@@ -148,7 +156,7 @@ def check_child(link: admin.Source, key: str, step: str, result: Any) -> None:
 
 
 def check_step(link: admin.Source, key: str, id: int, step: str) -> None:
-    """Raises `Trouble` where the saga's definition has no such step: no program would take it."""
+    """Raise `Trouble` if the saga's definition has no such step."""
     names = step_names(str(link.ask(DEFINITION, id)[0][0]))
     if step not in names:
         raise Trouble(f"saga {key!r} has no step {step!r}{meant(step, names)}")
@@ -157,7 +165,7 @@ def check_step(link: admin.Source, key: str, id: int, step: str) -> None:
 def request(
     path: str, options: argparse.Namespace, command: str, value: Any, done: str, refused: str
 ) -> int:
-    """Asks the program for something, and says what came of it."""
+    """Send a request and print its result."""
     answer, is_executed = ask(path, options.key, command, value, options.timeout)
     is_accepted = answer is None or answer is True or answer == WITHDRAWN
     if options.json:
@@ -250,7 +258,7 @@ def compensate(path: str, options: argparse.Namespace) -> int:
 
 
 def check_steps(options: argparse.Namespace, command: str) -> None:
-    """Raises `Trouble` where it is not said which steps are meant, or twice."""
+    """Raise `Trouble` unless the options select steps in exactly one way."""
     check_keys(options, bool(options.key))
     if options.key and not options.step:
         raise Trouble(f"{command} takes KEY and STEP", 2)
@@ -263,9 +271,10 @@ def check_steps(options: argparse.Namespace, command: str) -> None:
 def answer(
     path: str, options: argparse.Namespace, command: str, report: Json, done: str, refused: str
 ) -> int:
-    """Says it of a step, or with --all of each of the filter whose attempts are used up.
+    """Report a step, or with --all each step of the filter whose attempts are used up.
 
-    All of them are asked before the first answer is waited for."""
+    All requests are stored before the first answer is waited for.
+    """
     if not options.all:
         return request(
             path, options, command, report_of(options) | report, f"{options.step} {done}", refused
@@ -289,7 +298,7 @@ def answer(
 def show_answers(
     options: argparse.Namespace, command: str, waits: Sequence[Waits], answers: list[Any], done: str
 ) -> int:
-    """Says what came of it for each step."""
+    """Print the result of the request for each step."""
     outcomes = [
         reason(entry)
         if isinstance(entry, dict)
@@ -314,12 +323,12 @@ def show_answers(
 
 
 def kind_of(undo: bool) -> str:
-    """What an attempt does for its step."""
+    """Return the kind of an attempt: `undo` or `run`."""
     return "undo" if undo else "run"
 
 
 def report_of(options: argparse.Namespace) -> Json:
-    """Which step is meant, and why."""
+    """Return the common fields of a report: the step and the note."""
     early = getattr(options, "early", True) and not options.all  # those of --all are under way
     value = words_of(options.step, kind_of(options.undo), early)
     return value | ({"note": options.note} if options.note else {})

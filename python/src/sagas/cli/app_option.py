@@ -24,8 +24,10 @@ def add_app_option(part: argparse.ArgumentParser) -> argparse.ArgumentParser:
 
 
 def read_by(options: argparse.Namespace) -> Read:
-    """Return what reads a value for a command that shows it. Raises `Trouble`, as what it returns
-    does where a value cannot be decoded."""
+    """Return a function that decodes a stored value for display.
+
+    Raises `Trouble`. So does the function if a value cannot be decoded.
+    """
     payloads = payloads_of(options)
 
     def read(text: str) -> Any:

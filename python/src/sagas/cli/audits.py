@@ -25,7 +25,7 @@ from sagas.storage.admin import Trouble
 Attempt = tuple[int, int, str, int]
 """id, step, action, number"""
 Standing = tuple[str | None, Any, bool, bool]
-"""phase, outcome, recovered, undo_failed: as the row of a saga has them"""
+"""The phase, outcome, recovered and undo_failed columns of a saga's row."""
 SHARDS = "SELECT shard, name, closed FROM shards ORDER BY shard"
 SAGAS = """
 SELECT id, key, definition_index, phase, outcome, recovered, undo_failed FROM sagas
@@ -33,19 +33,19 @@ WHERE id >= ? AND id < ? ORDER BY id
 """
 ATTEMPTS = "SELECT id, step, action, number, event FROM attempts WHERE id >= ? AND id < ?"
 TRANSACTION = "ok"
-"""The event of a row that a step's own transaction wrote, until the shard has that event."""
+"""The event of a row that a step's own transaction wrote, until the shard has the event."""
 MOST_SHOWN = 8
 
 
 class Events:
-    """What the events of a shard say.
+    """The content of a shard's event log.
 
     Attributes:
         first: The id of its first saga.
-        places: Of each saga the place of its definition, by id.
-        attempts: The event to which each attempt came.
-        under_way: The attempts that have begun and are not over.
-        standings: How each saga stands for the engine, by id.
+        places: The index of each saga's definition, by the saga's id.
+        attempts: The event that ended each attempt.
+        under_way: The attempts that have begun and have not ended.
+        standings: The state of each saga according to the engine, by id.
     """
 
     def __init__(self, log: int, text: str) -> None:
@@ -68,7 +68,7 @@ class Events:
         self.under_way = {*running.values()}
 
     def ask(self, texts: program.Texts) -> None:
-        """Asks the engine how each saga stands behind these events. Raises `Trouble`."""
+        """Ask the engine for the state of each saga after these events. Raises `Trouble`."""
         if not self.places:
             return
         log, *definitions = texts.paths
@@ -81,7 +81,7 @@ class Events:
 
 
 def standing(reply: str) -> Standing:
-    """How a saga stands, by the engine's reply to `show`, as a row has it."""
+    """Return the state of a saga from the engine's reply to `show`, as a row has it."""
     phase, text = protocol.standing(reply)
     if not EnginePhase(phase).is_over:
         return None, None, False, False
@@ -93,7 +93,7 @@ def standing(reply: str) -> Standing:
 def ran(
     arguments: list[str], texts: program.Texts, requests: str = ""
 ) -> subprocess.CompletedProcess[str]:
-    """Runs the program over texts that it was given."""
+    """Run the program over texts that are passed as files."""
     return subprocess.run(
         [program.path(), *arguments],
         input=requests,
@@ -106,8 +106,12 @@ def ran(
 
 @dataclasses.dataclass
 class ShardAudit:
-    """A shard: what `sagas audit` says of its events, whether that is yes, and where its rows
-    differ from them.
+    """The audit of a shard.
+
+    Attributes:
+        said: What `sagas audit` prints about its events.
+        is_allowed: Whether it accepts them.
+        differences: Where the rows of the shard differ from its events.
     """
 
     said: str
@@ -120,7 +124,7 @@ class ShardAudit:
 
 
 def audit_shard(store: Snapshot, log: int) -> ShardAudit:
-    """Verifies the events of a shard, and then compares its rows with them. Raises `Trouble`."""
+    """Verify the events of a shard, and compare its rows with them. Raises `Trouble`."""
     texts = [text for _, text in store.rows(queries.TEXTS, log, log)]
     lines, _ = queries.joined(store.rows(queries.LINES, log))
     with contextlib.closing(program.Texts([protocol.HEADER + lines, *texts])) as opened:
@@ -141,7 +145,7 @@ def audit_shard(store: Snapshot, log: int) -> ShardAudit:
 
 
 def compare_sagas(rows: Sequence[Row], events: Events) -> list[str]:
-    """Where the rows of sagas differ from the events: definition, phase and outcome."""
+    """Return where rows of sagas differ from the events: definition, phase and outcome."""
     differences = []
     for id, key, index, phase, outcome, recovered, undo_failed in rows:
         if id not in events.places:
@@ -165,7 +169,7 @@ def compare_sagas(rows: Sequence[Row], events: Events) -> list[str]:
 
 
 def parsed(outcome: str | None) -> Any:
-    """What an outcome says; the text, where it is no JSON."""
+    """Return a parsed outcome, or its text if it is not JSON."""
     try:
         return None if outcome is None else json.loads(outcome)
     except ValueError:
@@ -173,7 +177,7 @@ def parsed(outcome: str | None) -> Any:
 
 
 def phase_of(saga: Standing) -> str:
-    """The phase of a saga, in the words of `list`."""
+    """Return the phase of a saga, in the words of `list`."""
     phase, _, recovered, _ = saga
     is_known = phase in (None, EnginePhase.ENDED, EnginePhase.STUCK)
     return saga_phase(phase, recovered, None).value if is_known else repr(phase)
@@ -182,7 +186,7 @@ def phase_of(saga: Standing) -> str:
 def compare_attempts(
     store: Snapshot, log: int, events: Events, keys: dict[int, str], texts: list[str]
 ) -> list[str]:
-    """Where the rows of attempts differ from the events: which attempts are over, and how."""
+    """Return where rows of attempts differ from the events: which have ended, and how."""
     rows: dict[Attempt, str] = {
         (id, step, action, count): event
         for id, step, action, count, event in store.rows(ATTEMPTS, *queries.bounds(log))
@@ -206,7 +210,7 @@ def compare_attempts(
 
 
 def in_order(attempt: Attempt) -> tuple[int, list[str]]:
-    """For the order of attempts, also of rows that somebody has spoilt."""
+    """Return the sort key of an attempt. Rows may hold values of any type."""
     return attempt[0], [str(part).zfill(4) for part in attempt[1:]]
 
 
@@ -241,7 +245,7 @@ def audit(path: str, options: argparse.Namespace) -> int:
 
 
 def show(reports: list[dict[str, Any]]) -> None:
-    """Prints what was found, for a person."""
+    """Print the results of an audit."""
     heads = ["SHARD", "NAME", "CLOSED", "GOOD", "AUDIT"]
     rows = [
         (

@@ -21,7 +21,7 @@ from sagas.storage.filters import Filter
 
 Json = dict[str, Any]
 UNCLAIMED = 60.0
-"""Seconds after which a task that no worker has claimed is listed: by then one would have asked."""
+"""Seconds after which an unclaimed task is listed. Usually, a worker polls within this time."""
 NEEDS = {
     AttentionReason.STUCK: "stuck",
     AttentionReason.UNDO_FAILED: "undo failed",
@@ -31,11 +31,11 @@ NEEDS = {
     AttentionReason.UNUSED_REPORT: "unused report",
     AttentionReason.DAMAGED: "damaged shard",
 }
-"""Why a saga needs a person, in words."""
+"""Why a saga needs an operator, in words."""
 
 
 def held_json(wait: Waits) -> Json:
-    """A held attempt, for programs."""
+    """Return a suspended attempt as JSON."""
     is_leased = wait.why == "external"
     return {
         "key": wait.key,
@@ -52,14 +52,14 @@ def held_json(wait: Waits) -> Json:
 
 
 def start_json(key: str, saga: str, version: int, at: float) -> Json:
-    """A start that a client left and no node has taken, for programs."""
+    """Return a client's start that no node has accepted, as JSON."""
     start: Json = {"key": key, "step": None, "kind": "start", "attempt": None, "why": "node"}
     start |= {"count": 0, "since": at, "until": None, "error": None, "worker": None}
     return start | {"saga": saga, "version": version}
 
 
 def show_held(held: Sequence[Json]) -> None:
-    """Prints what is held."""
+    """Print suspended attempts as a table."""
     heads = ["KEY", "STEP", "KIND", "ATTEMPT", "WAITS FOR", "SINCE", "UNTIL", "DETAIL"]
     cells = []
     for entry in held:
@@ -70,7 +70,7 @@ def show_held(held: Sequence[Json]) -> None:
 
 
 def waits_for(entry: Json) -> str:
-    """Whom a held attempt waits for."""
+    """Describe what a suspended attempt waits for."""
     why, until = entry["why"], entry["until"]
     if why == "unknown":
         times = f" ({number(entry['count'], 'time')})"
@@ -193,14 +193,14 @@ def attention(path: str, options: argparse.Namespace) -> int:
 
 
 def _detail(entry: Attention) -> str | None:
-    """What is said of it; of a report that was not used its result, and who reported it."""
+    """Return the detail of an entry; for an unused report, its result and reporter."""
     if entry.why is not AttentionReason.UNUSED_REPORT:
         return entry.detail
     return f"{entry.detail} by {entry.by}" if entry.by else entry.detail
 
 
 def _meant(entry: Attention) -> str:
-    """The step, or its compensation."""
+    """Return the step's name, with `(undo)` for its compensation."""
     return "" if entry.step is None else f"{entry.step} (undo)" if entry.undo else entry.step
 
 

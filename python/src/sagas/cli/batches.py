@@ -1,4 +1,4 @@
-"""`resolve`, and the commands to all sagas of a filter."""
+"""`resolve`, and the commands that apply to all sagas of a filter."""
 
 from __future__ import annotations
 
@@ -23,7 +23,7 @@ LEFT_OUT = "left out, because it undoes a child"
 
 
 def add_filter_options(part: argparse.ArgumentParser, prefix: str) -> None:
-    """The options that say which sagas are meant."""
+    """Add the options that select sagas."""
     part.add_argument("--saga", metavar="NAME", help=f"{prefix}only sagas of this name")
     part.add_argument(
         "--label",
@@ -35,7 +35,7 @@ def add_filter_options(part: argparse.ArgumentParser, prefix: str) -> None:
 
 
 def add_limit_option(part: argparse.ArgumentParser, noun: str) -> None:
-    """The option that says how many are listed."""
+    """Add the option for the maximum number of rows."""
     part.add_argument(
         "--limit",
         type=integer_from(0),
@@ -46,7 +46,7 @@ def add_limit_option(part: argparse.ArgumentParser, noun: str) -> None:
 
 
 def filter_of(options: argparse.Namespace) -> Filter:
-    """The filter of these options. Raises `Trouble`."""
+    """Return the filter that the options describe. Raises `Trouble`."""
     labels: dict[str, str] = {}
     for label in options.label:
         name, equals, value = label.partition("=")
@@ -61,7 +61,7 @@ def filter_of(options: argparse.Namespace) -> Filter:
 
 
 def check_keys(options: argparse.Namespace, has_keys: bool) -> None:
-    """Raises `Trouble` where neither keys nor --all say which sagas are meant, or both do."""
+    """Raise `Trouble` unless either keys or --all select the sagas."""
     if has_keys == options.all:
         raise Trouble(
             "give the keys of the sagas, or --all for every saga of --saga and --label", 2
@@ -71,7 +71,7 @@ def check_keys(options: argparse.Namespace, has_keys: bool) -> None:
 
 
 def abort_all(path: str, options: argparse.Namespace) -> int:
-    """Says how many sagas that are; with --yes aborts them."""
+    """Count the sagas of the filter; with --yes, abort them."""
     with admin.writing(path) as link:
         batch = Batch(link, sagas := filter_of(options))
         if not options.yes:
@@ -96,7 +96,7 @@ def abort_all(path: str, options: argparse.Namespace) -> int:
 
 
 def warn_of(path: str, sagas: Filter, is_needed: bool, step: str | None = None) -> None:
-    """Says of a filter that selects nothing which labels no saga has, and no definition's step."""
+    """Warn about labels and steps that nothing has, if the filter selects nothing."""
     if is_needed and (sagas.labels or step):
         with Snapshot(path) as store:
             for warning in store.ask(unmatched.of(sagas, step)):
@@ -106,8 +106,10 @@ def warn_of(path: str, sagas: Filter, is_needed: bool, step: str | None = None) 
 def show_count(
     options: argparse.Namespace, count: int, remedy: str, noun: str = "saga", left_out: int = 0
 ) -> int:
-    """Says how many sagas, or steps, are meant, and by what they are changed. `left_out`: how many
-    sagas are not, because they undo children."""
+    """Print how many sagas or steps are selected, and the option that changes them.
+
+    `left_out`: how many sagas are excluded because they undo children.
+    """
     if options.json:
         show_json({"count": count} | ({"undoing": left_out} if left_out else {}))
     else:
@@ -150,7 +152,7 @@ def resolve(path: str, options: argparse.Namespace) -> int:
 
 
 def check_same(path: str, keys: list[str], note: str) -> None:
-    """Raises `Trouble` for sagas that nobody has to resolve, except those with this note."""
+    """Raise `Trouble` for sagas that cannot be resolved, except those resolved with this note."""
     with Snapshot(path) as store:
         different = [view for key in keys if (view := store.saga(key)).note != clean(note)]
     if different:
@@ -158,7 +160,7 @@ def check_same(path: str, keys: list[str], note: str) -> None:
 
 
 def why_not(view: SagaView) -> str:
-    """What is said of a saga that nobody has to resolve."""
+    """Return why a saga cannot be resolved."""
     if view.note is not None:
         return f"{view.key} is resolved already, and its first note stays"
     return f"{view.key} does not need to be resolved: it is {view.phase}"

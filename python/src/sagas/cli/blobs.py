@@ -1,4 +1,4 @@
-"""`own-blobs`: whose the values in a blob store are."""
+"""`own-blobs`: makes a store the owner of the values in a blob store."""
 
 from __future__ import annotations
 

@@ -1,4 +1,4 @@
-"""`deliveries`: lists posts to webhooks, and repeats one."""
+"""`deliveries`: lists the deliveries of webhooks, or repeats one."""
 
 from __future__ import annotations
 
@@ -18,7 +18,7 @@ from sagas.storage.deliveries import REDELIVER, DeliveryState
 
 
 def add_deliveries_options(part: argparse.ArgumentParser) -> None:
-    """The options of `deliveries`."""
+    """Add the options of `deliveries`."""
     part.add_argument("change", nargs="?", choices=["redeliver"], help="what to do with ID")
     part.add_argument("id", metavar="ID", nargs="?", help="the delivery's id")
     states = [state.value for state in DeliveryState]
@@ -54,7 +54,7 @@ def deliveries(path: str, options: argparse.Namespace) -> int:
 
 
 def row_of(delivery: Delivery) -> tuple[object, ...]:
-    """A delivery as a person reads it."""
+    """Return the table row of a delivery."""
     answer = short(delivery.error) if delivery.error else delivery.status or ""
     at = moment(delivery.at)
     return (

@@ -31,17 +31,17 @@ Json = dict[str, Any]
 
 
 def phase_of(summary: Summary) -> str:
-    """A saga's phase as a person reads it."""
+    """Return a saga's phase, with a remark if a compensation failed."""
     return f"{summary.phase}, undo failed" if summary.undo_failed else summary.phase
 
 
 def labels_text(summary: Summary) -> str:
-    """A saga's labels as a person reads them."""
+    """Return a saga's labels as text."""
     return ", ".join(f"{name}={value}" for name, value in summary.labels.items())
 
 
 def summary_json(summary: Summary) -> Json:
-    """A saga in a list, for programs."""
+    """Return a saga of a list as JSON."""
     fields = dataclasses.asdict(summary)
     fields["at"] = fields.pop("started")
     order = "id key saga phase at ended note undo_failed labels deadline"
@@ -129,7 +129,7 @@ def show(path: str, options: argparse.Namespace) -> int:
 
 
 def view_json(view: SagaView) -> Json:
-    """How a saga stands, for programs."""
+    """Return the state of a saga as JSON."""
     return summary_json(view.summary) | {
         "aborted": view.aborted,
         "input": view.input,
@@ -142,14 +142,14 @@ def view_json(view: SagaView) -> Json:
 
 
 def resolved_text(view: SagaView) -> str:
-    """When it was resolved, and by whom, as far as somebody is named."""
+    """Return when a saga was resolved, and by whom if this is known."""
     if (note := view.resolution) is None:
         return ""
     return moment(note.at) + (f" by {note.told['by']}" if note.told.get("by") else "")
 
 
 def step_json(step: StepView) -> Json:
-    """A step of a saga, for programs."""
+    """Return a step of a saga as JSON."""
     return {
         "step": step.name,
         "state": known_state(step.state),
@@ -164,9 +164,7 @@ def step_json(step: StepView) -> Json:
 
 
 def show_steps(view: SagaView) -> None:
-    """Prints the steps of a saga; of one whose compensation failed for good also what that
-    raised.
-    """
+    """Print the steps of a saga, with the error of a permanently failed compensation."""
     undos = {
         attempt.step: f"its compensation: {short(attempt.value)}"
         for attempt in view.attempts
@@ -201,7 +199,7 @@ def log(path: str, options: argparse.Namespace) -> int:
 
 
 def detail_of(event: HistoryEvent) -> str:
-    """What came of an event, in one line: of what an operator did, who did it and why."""
+    """Return the result of an event on one line; for a command, who sent it and why."""
     if event.event != "note":
         return short(event.value)
     command: Json = event.value
@@ -275,7 +273,7 @@ def export(path: str, options: argparse.Namespace) -> int:
 
 
 def results_json(view: SagaView) -> Sequence[Json]:
-    """How each attempt of a saga ended, in the order of time, for programs."""
+    """Return how each attempt of a saga ended, in the order of time, as JSON."""
     return [
         {
             "step": attempt.step,

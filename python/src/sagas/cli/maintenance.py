@@ -65,7 +65,7 @@ def nodes(path: str, options: argparse.Namespace) -> int:
 
 
 def why(start: dict[str, Any]) -> str:
-    """What a start waits for that no node has taken."""
+    """Return what a start that no node has accepted waits for."""
     if start["nodes"]:
         return f"a node with this definition: {', '.join(start['nodes'])} has another one"
     return "its turn" if start["fits"] else "a node with this saga"

@@ -1,4 +1,4 @@
-"""`record`: checks what programs recorded of a store, with what its database has."""
+"""`record`: verifies the records of nodes and clients against the database."""
 
 from __future__ import annotations
 
@@ -32,8 +32,16 @@ EVENT = re.compile(r'"saga":(\d+)')
 
 @dataclasses.dataclass
 class ShardCheck:
-    """A shard: how many events its record has, what the program says of it, where its event log
-    has gaps, and what was lost. It is good if the program says yes and there is no gap."""
+    """The check of a shard.
+
+    Attributes:
+        events: How many events its record has.
+        good: Whether the program accepts the record, and the event log has no gap.
+        answer: What the program prints.
+        gaps: Gaps in its event log.
+        losses: Acknowledged commits that are missing.
+        ends_lost: Sagas whose acknowledged end is missing.
+    """
 
     shard: int
     name: str
@@ -46,13 +54,14 @@ class ShardCheck:
 
     @property
     def is_whole(self) -> bool:
-        """Whether it is allowed, and nothing that was acknowledged is missing."""
+        """Return whether it is accepted and nothing acknowledged is missing."""
         return self.good and not self.losses and not self.ends_lost
 
 
 def read(paths: list[str]) -> Records:
-    """The records of programs. A last line that is not whole is left out: its program may be
-    writing it. Raises `Trouble`.
+    """Read the records of programs. Raises `Trouble`.
+
+    An incomplete last line is skipped, because its program may be writing it.
     """
     records = Records()
     for path in paths:
@@ -82,7 +91,7 @@ def save(path: pathlib.Path, text: str) -> None:
 
 
 class RecordChecker:
-    """Judges the shards of a store, as of one moment."""
+    """Checks the shards of a store, as of one moment."""
 
     def __init__(
         self,
@@ -97,7 +106,7 @@ class RecordChecker:
         ((self._timeline,),) = store.rows(LINE)
 
     def all(self) -> list[ShardCheck]:
-        """Each shard of the store, and each one that was recorded."""
+        """Check each shard of the store, and each one that was recorded."""
         names: dict[int, str] = {shard: name for shard, name in self._store.rows(SHARDS)}
         numbers = sorted({*names, *self._records.shards()})
         progress, checked = Progress("shards", len(numbers)), []
@@ -128,8 +137,10 @@ class RecordChecker:
         return ShardCheck(shard, name, record.events, good, answer, gaps, record.losses, lost)
 
     def _chunks(self, shard: int) -> tuple[list[Chunk], dict[int, int]]:
-        """Return the chunks of a shard, and for each of its sagas the number of events of the shard
-        up to the last one of that saga.
+        """Return the chunks of a shard.
+
+        Also returns, for each saga, the number of events of the shard up to the saga's last
+        one.
         """
         chunks, at, events, digest = list[Chunk](), dict[int, int](), 0, 0
         for epoch, first, text in self._store.rows(CHUNKS, shard):
@@ -143,8 +154,10 @@ class RecordChecker:
 
 
 def gaps_of(chunks: Sequence[Chunk]) -> list[str]:
-    """Return where a commit does not follow the one before it. A record has the number of chunks
-    alone, so the program cannot tell."""
+    """Return where a commit does not follow the previous one.
+
+    A record has only the number of chunks, so the program cannot detect this.
+    """
     gaps, events = [], 0
     for chunk in chunks:
         if chunk.first != events:
@@ -155,8 +168,9 @@ def gaps_of(chunks: Sequence[Chunk]) -> list[str]:
 
 
 def audit_record(text: str) -> tuple[bool, str]:
-    """What `sagas audit --fleet` says of a record, and whether it is yes. Raises `Trouble` where
-    it gives no answer.
+    """Return whether `sagas audit --fleet` accepts a record, and what it prints.
+
+    Raises `Trouble` if it fails.
     """
     done = program.run("audit", [text], options=["--fleet"])
     answer = (done.stdout or done.stderr).strip()
@@ -185,12 +199,12 @@ def record(path: str, options: argparse.Namespace) -> int:
 
 
 def cells(shard: ShardCheck) -> tuple[object, ...]:
-    """A row of the table."""
+    """Return the table row of a shard."""
     return shard.shard, shard.name, shard.events, "yes" if shard.good else "NO", shard.answer
 
 
 def shown(shard: ShardCheck) -> dict[str, Any]:
-    """A shard for programs."""
+    """Return a shard as JSON."""
     fields: dict[str, Any] = json.loads(json.dumps(dataclasses.asdict(shard)))
     fields["losses"] = [
         {"chunks": loss.had, "told": [telling._asdict() for telling in loss.told]}
@@ -200,8 +214,7 @@ def shown(shard: ShardCheck) -> dict[str, Any]:
 
 
 def lost(shard: ShardCheck) -> list[str]:
-    """Return where a shard has gaps, and what of it was acknowledged and does not exist any
-    more."""
+    """Return the gaps of a shard, and what was acknowledged and no longer exists."""
     lines = [f"shard {shard.shard}: gap: {gap}" for gap in shard.gaps]
     for loss in shard.losses:
         last = max(telling.chunks for telling in loss.told)

@@ -1,4 +1,4 @@
-"""`prune`."""
+"""`prune`: deletes ended sagas."""
 
 from __future__ import annotations
 
@@ -13,7 +13,7 @@ from sagas.storage.admin import Trouble
 
 
 def add_prune_options(part: argparse.ArgumentParser) -> None:
-    """Its options."""
+    """Add the options of `prune`."""
     either = part.add_mutually_exclusive_group(required=True)
     either.add_argument(
         "--older-than",

@@ -26,7 +26,7 @@ CHANGES: dict[str, tuple[str, Callable[[Schedules, str], str | None]]] = {
 
 
 def add_schedules_options(part: argparse.ArgumentParser) -> None:
-    """The options of `schedules`."""
+    """Add the options of `schedules`."""
     part.add_argument("change", nargs="?", choices=[*CHANGES], help="what to do with NAME")
     part.add_argument("name", metavar="NAME", nargs="?", help="the schedule's name")
     add_app_option(part)
@@ -67,12 +67,12 @@ def schedules(path: str, options: argparse.Namespace) -> int:
 
 
 def when(schedule: Schedule) -> str:
-    """The times of a schedule as a person reads them."""
+    """Return the times of a schedule in words."""
     return (
         f"{schedule.cron} {schedule.timezone}" if schedule.cron else f"every {schedule.every:g} s"
     )
 
 
 def times(schedule: Schedule) -> tuple[str, str]:
-    """The last and the next time of a schedule."""
+    """Return the last and the next time of a schedule."""
     return moment(schedule.last_at), "paused" if schedule.paused else moment(schedule.next_at)

@@ -1,8 +1,8 @@
-"""`sagas store STORE ..`: its words and its errors.
+"""`sagas store STORE COMMAND`: its arguments and its errors.
 
-What only looks changes nothing. `abort`, `complete`, `fail`, `retry` and `compensate` leave a
-request in the store, which the program that has it open (or the next one that opens it) takes up;
-`resolve` marks sagas as seen to by a person.
+Commands that only inspect the store change nothing. `abort`, `complete`, `fail`, `retry` and
+`compensate` store a request. The program that has the store open handles it, or the next one
+that opens it. `resolve` marks sagas as resolved by an operator.
 """
 
 from __future__ import annotations
@@ -56,7 +56,7 @@ EXAMPLES = {
     "own-blobs": "own-blobs --blobs /var/lib/shop/blobs",
     "record": "record node-1.record node-2.record",
 }
-"""The words of an example; of other commands just their names."""
+"""The arguments of an example. For other commands, the name is enough."""
 REFUSED = {
     "list": "no saga has the key of --after",
     **dict.fromkeys(("show", "log", "draw", "export"), "no saga has the key"),
@@ -74,11 +74,11 @@ REFUSED = {
     "deliveries": "no delivery has the id",
     "prune": "another program is deleting ended sagas of this store",
 }
-"""What status 1 means of a command that has it."""
+"""The meaning of status 1, for each command that can return it."""
 
 
 def ending(name: str) -> str:
-    """An example of a command, and each exit status that it can have."""
+    """Return an example of a command, and its exit statuses."""
     store = "postgresql:///shop" if name in ("init", "nodes", "record") else "shop.db"
     usage = "invalid arguments" + ("" if store == "shop.db" else ", or the store is a file")
     statuses = {0: "done", 1: REFUSED.get(name), 2: usage, 4: CANNOT_USE, 130: "interrupted"}
@@ -88,7 +88,7 @@ def ending(name: str) -> str:
 
 
 def parser() -> argparse.ArgumentParser:
-    """The words of the command."""
+    """Return the parser of the command."""
     description = (
         "Look at the sagas of a store, and change them, also while a program has it "
         "open. Times are in UTC."
@@ -128,7 +128,7 @@ def parser() -> argparse.ArgumentParser:
 
 
 def add_looks(add: Add) -> None:
-    """What only looks."""
+    """Add the commands that only inspect the store."""
     part = add("list", list_sagas)
     part.add_argument(
         "--phase",
@@ -171,7 +171,7 @@ def add_looks(add: Add) -> None:
 
 
 def add_asks(add: Add) -> None:
-    """What changes something."""
+    """Add the commands that change sagas."""
     part = add("abort", abort)
     part.add_argument("key", metavar="KEY", nargs="?", help="the saga's key")
     part.add_argument("--all", action="store_true", help="every open saga, instead of KEY")
@@ -213,7 +213,7 @@ def add_asks(add: Add) -> None:
 
 
 def add_steps(part: argparse.ArgumentParser, verb: str) -> None:
-    """The step that is meant, or all of a filter, and the options of a report."""
+    """Add the step or the filter that a report is for, and the options of a report."""
     part.add_argument("key", metavar="KEY", nargs="?", help="the saga's key")
     part.add_argument("step", metavar="STEP", nargs="?", help="the step's name")
     part.add_argument(
@@ -230,7 +230,7 @@ def add_steps(part: argparse.ArgumentParser, verb: str) -> None:
 
 
 def add_files(part: argparse.ArgumentParser) -> None:
-    """The files of a record, and what is claimed of the standby."""
+    """Add the files of records, and the options of `record`."""
     part.add_argument(
         "files", nargs="*", metavar="FILE", help="what a node or a client wrote by SAGAS_RECORD"
     )
@@ -245,7 +245,7 @@ def add_files(part: argparse.ArgumentParser) -> None:
 
 
 def add_early(part: argparse.ArgumentParser) -> None:
-    """The option that a report is only of a step that waits."""
+    """Add the option that rejects reports of steps that have not begun."""
     part.add_argument(
         "--no-early",
         dest="early",
@@ -255,12 +255,12 @@ def add_early(part: argparse.ArgumentParser) -> None:
 
 
 def add_note(part: argparse.ArgumentParser) -> None:
-    """The option why."""
+    """Add the option for a note."""
     part.add_argument("--note", metavar="TEXT", help="why; stored with the time")
 
 
 def add_timeout(part: argparse.ArgumentParser) -> None:
-    """The option how long to wait for the program's answer."""
+    """Add the option for the time to wait for an answer."""
     part.add_argument(
         "--timeout",
         type=not_negative,
@@ -271,8 +271,10 @@ def add_timeout(part: argparse.ArgumentParser) -> None:
 
 
 def main(arguments: list[str] | None = None) -> int:
-    """Runs `sagas store` with the words behind it, and gives the status: 0 good, 1 no, 2 usage,
-    4 a file, 130 interrupted.
+    """Run `sagas store` and return its exit status.
+
+    0: done, 1: refused, 2: invalid arguments, 4: the store or the output cannot be used, 130:
+    interrupted.
     """
     escape()
     options = parser().parse_args(arguments)
@@ -291,7 +293,7 @@ def main(arguments: list[str] | None = None) -> int:
 
 
 def status_of(options: argparse.Namespace) -> int:
-    """Runs the command, and says why it was refused. Raises `OSError`."""
+    """Run the command, and print why it was refused. Raises `OSError`."""
     command: Command = options.do
     try:
         return command(options.path, options)

@@ -1,7 +1,7 @@
 """Active attempts of a saga, merged with its stored state.
 
-What has begun of a saga, as its node knows it, beside what the store has: what runs, and for what
-the others wait.
+The node that executes a saga knows which attempts run and what the others wait for. The store
+has only the part of this that must survive a restart.
 """
 
 from __future__ import annotations
@@ -14,12 +14,13 @@ from sagas.core.states import known_state
 from sagas.inspection.views import SagaView, StepView, Waits
 
 BEGUN = ("running", "undoing")
-"""The states of a step of which an attempt has begun."""
+"""The states of a step that has an active attempt."""
 
 
 def with_active_attempts(view: SagaView, active: Iterable[ActiveAttempt], now: float) -> SagaView:
-    """A saga with what its node says of what has begun. A worker whose lease has run out has
-    nothing any more.
+    """Return a saga's view with the active attempts that its node reports.
+
+    A worker whose lease has expired no longer has the task.
     """
     begun = {(entry.step, entry.undo): entry for entry in view.stretches if entry.ended is None}
     waiting: dict[tuple[str, bool], Waits] = {
@@ -56,9 +57,7 @@ def with_active_attempts(view: SagaView, active: Iterable[ActiveAttempt], now: f
 
 
 def _waits(view: SagaView, attempt: ActiveAttempt, since: float, lease: Waits | None) -> Waits:
-    """An attempt that waits, of which the store has no row, or the row of a lease that has run
-    out.
-    """
+    """Return a waiting attempt for which the store has no row, or only an expired lease."""
     detail, count = (_lease_of(lease), lease.count) if lease else (None, 0)
     return Waits(
         view.id,
@@ -80,5 +79,5 @@ def _lease_of(held: Waits) -> str:
 
 
 def state_of(view: SagaView, step: StepView) -> str:
-    """A step's state: `running` where somebody knows that it runs, else `begun`."""
+    """Return a step's state: `running` if its attempt is known to run, else `begun`."""
     return step.state if (step.name, False) in view.running else known_state(step.state)

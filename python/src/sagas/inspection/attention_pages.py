@@ -19,12 +19,12 @@ from sagas.storage.filters import Filter
 from sagas.storage.queries import DAMAGED, DAMAGED_SINCE, PHASES
 
 EntryPosition = Optional[tuple[float, int, int]]
-"""The last entry of the page before: the start of its saga, that, and its step, or -1."""
+"""The last entry of the previous page: its saga's start and id, and its step's index or -1."""
 APPROVAL = "approval"
 KINDS = (*(reason.value for reason in AttentionReason), APPROVAL)
 CAUSE = """(SELECT x.value FROM attempts x WHERE x.id = s.id AND x.event = 'fail'
   ORDER BY x.at DESC, x.step LIMIT 1)"""
-"""What the step raised that failed last."""
+"""Selects the error of the step that failed last."""
 STUCK = f"""
 SELECT s.at AS started, s.id, -1 AS place, s.key, s.saga, d.definition, '' AS action,
   s.outcome, {CAUSE}, s.ended, NULL
@@ -63,16 +63,20 @@ BY_KIND = {
 }
 NOTHING = Filter()
 NUMBERS = re.compile(r"[0-9a-f]{8,}(?:-[0-9a-f]{4,})*|\d+")
-"""What differs between errors of one cause: numbers, and names that are made of them."""
+"""The parts that differ between errors of one cause: numbers and hexadecimal identifiers."""
 MOST_GROUPED = 20_000
 
 
 @dataclasses.dataclass(frozen=True, slots=True)
 class Entry:
-    """Something that needs a person. `step` is None of a saga that is stuck: `blocking` has the
-    steps because of which it is; and of one whose shard is damaged. `detail`: what was raised, or
-    what cannot be read; of a report that was not used its result, as it is stored. `by`: who
-    reported that."""
+    """An item that needs an operator.
+
+    Attributes:
+        step: The step's name. None if the saga is stuck or its shard is damaged.
+        blocking: The steps that make every plan infeasible, if the saga is stuck.
+        detail: The error, or what cannot be read. For an unused report, its result as stored.
+        by: Who sent the unused report.
+    """
 
     kind: str
     started: float
@@ -90,7 +94,7 @@ class Entry:
 
     @property
     def cause(self) -> str:
-        """What is meant, and its detail without numbers: the same for all of one cause."""
+        """Return the step and its error without numbers: equal for all entries of one cause."""
         of = " and ".join(self.blocking) or self.step or ""
         of = f"undoing {of}" if self.undo else of
         if self.kind == AttentionReason.UNUSED_REPORT:  # each has another result
@@ -118,9 +122,17 @@ def entries(
     newest: bool = False,
     most: int = 100,
 ) -> Question[list[Entry]]:
-    """A page of one of `KINDS`, by the starts of the sagas. `sagas`: without a phase; `step`: of the
-    steps with this name, or that are declared with it; `undo`: of a `step`, whether its
-    compensation is meant; None: both are."""
+    """Return a page of entries of one of `KINDS`, ordered by the starts of the sagas.
+
+    Args:
+        kind: The kind of entries.
+        sagas: The filter of sagas, without a phase.
+        step: The name or the declared name of a step. Default: entries of all steps.
+        undo: Whether to return compensations (True) or actions (False) of `step`. Default: both.
+        after: The last entry of the previous page.
+        newest: Whether the newest sagas come first.
+        most: The maximum number of entries.
+    """
     text, step_column = BY_KIND[kind]
     conditions, parameters = _among(sagas)
     if after is not None:
@@ -148,7 +160,7 @@ def entries(
 
 
 def _among(sagas: Filter) -> tuple[list[str], list[Any]]:
-    """A condition on the sagas of a filter, and its words. Few sagas need a person."""
+    """Return the condition of a filter and its parameters, for a small result."""
     condition, parameters = sagas.where(of_few=True)
     return [condition], parameters
 
@@ -186,7 +198,7 @@ def count(
     *,
     by_saga: bool = False,
 ) -> Question[int]:
-    """How many there are of a kind; `undo`: as of `entries`; `by_saga`: of how many sagas."""
+    """Count the entries of a kind. With `by_saga`, count each saga once."""
     if step is not None:
         return len((yield from entries(kind, sagas, step, undo, most=MOST_GROUPED)))
     conditions, parameters = _among(sagas)
@@ -197,7 +209,7 @@ def count(
 
 
 def groups(listed: Iterable[Entry]) -> list[Group]:
-    """Entries by definition and cause: in the order of the first of each."""
+    """Group entries by definition and cause, in the order of the first entry of each group."""
     result: dict[tuple[str, str], Group] = {}
     for entry in listed:
         at = entry.saga, entry.cause

@@ -6,21 +6,25 @@ import dataclasses
 from collections.abc import Hashable, Sequence
 
 FEW = 6
-"""So many equal steps are drawn as one."""
+"""From this number on, equal steps are drawn as one box."""
 
 
 @dataclasses.dataclass(frozen=True, slots=True)
 class Folded:
-    """A box: the numbers of its steps in the order of the definition, and what it needs, by the
-    places of other boxes."""
+    """A box: the numbers of its steps in the order of the definition, and the indexes of the boxes
+    that it needs.
+    """
 
     steps: list[int]
     needs: list[int]
 
 
 def folded(needs: Sequence[Sequence[int]], looks: Sequence[Hashable]) -> list[Folded]:
-    """The boxes of steps, by what each needs and how each looks. Equal are steps that look the
-    same, need the same, and are needed by the same."""
+    """Return the boxes of steps.
+
+    Steps are equal if they have the same needs, are needed by the same steps, and look the
+    same.
+    """
     needed_by: list[list[int]] = [[] for _ in needs]
     for step, needed in enumerate(needs):
         for need in needed:

@@ -1,4 +1,4 @@
-"""What a picture and a table say of steps that are shown as one."""
+"""The states and boxes of steps that are shown as one group."""
 
 from __future__ import annotations
 
@@ -9,12 +9,12 @@ from typing import NamedTuple, Optional
 from sagas.definition.groups import ALL, Block, Group, Groups
 
 MOST_ITEMS = 12
-"""Items of an unfolded group that are boxes of a picture; the others are one box."""
+"""How many items of an unfolded group have a box of their own. The others share one box."""
 
 
 class StepDisplay(NamedTuple):
-    """What a step's box says: its state in words, and why; its colour and its icon. `left`: it
-    is not run.
+    """How a step is shown: its state in words, a remark, its color and its icon. `left` is true if
+    the step will not run.
     """
 
     state: str
@@ -25,8 +25,14 @@ class StepDisplay(NamedTuple):
 
 
 class Box(NamedTuple):
-    """A box of a picture: its title, its state, the numbers of its steps, where a click on it
-    leads, and whether it is never joined with its equals.
+    """A box of a picture.
+
+    Attributes:
+        title: Its title.
+        display: The state that it shows.
+        steps: The numbers of its steps.
+        href: The target of a click on it.
+        alone: Whether it is never folded with equal boxes.
     """
 
     title: str
@@ -37,18 +43,20 @@ class Box(NamedTuple):
 
 
 Link = Callable[[Group], Optional[str]]
-"""Where a click on a group leads."""
+"""Returns the target of a click on a group."""
 
 
 def urgency(display: StepDisplay) -> int:
-    """What failed comes first, then what asks a person, then what is under way."""
+    """Return the rank of a state: failures first, then questions to an operator, then active
+    steps.
+    """
     return {"failed": 0, "undo_failed": 0, "person": 1, "running": 2, "undoing": 2}.get(
         display.tone, 3 if display.tone != "waiting" else 4
     )
 
 
 def counted(displays: Sequence[StepDisplay]) -> StepDisplay:
-    """Return the state of several steps: how many are in each, the urgent ones first."""
+    """Return the state of several steps: how many are in each state, the most urgent first."""
     counts = Counter(display.state for display in displays)
     first = {display.state: display for display in reversed(displays)}
     states = sorted(counts, key=lambda state: urgency(first[state]))
@@ -64,7 +72,7 @@ def counted(displays: Sequence[StepDisplay]) -> StepDisplay:
 
 
 def blocks_of(groups: Groups, count: int, unfold: Collection[str]) -> list[Block]:
-    """The blocks of a picture: those of a definition, or of an unfolded whole the steps."""
+    """Return the blocks of a picture: groups, or each step if all is unfolded."""
     if ALL in unfold:
         return [Block([step]) for step in range(count)]
     return groups.blocks(count, unfold)
@@ -76,8 +84,9 @@ def boxes_of(
     displays: Sequence[StepDisplay],
     link: Link | None = None,
 ) -> list[Box]:
-    """The boxes of a picture. Of the items of an unfolded group some are drawn, the urgent ones
-    first, and the others as one.
+    """Return the boxes of a picture.
+
+    An unfolded group has a box for each of its most urgent items, and one box for the others.
     """
     boxes, items = list[Box](), dict[str, list[int]]()
     for block in blocks:
@@ -99,7 +108,7 @@ def boxes_of(
 def _few(
     boxes: list[Box], name: str, items: list[int], displays: Sequence[StepDisplay]
 ) -> list[Box]:
-    """The boxes, with those items of a group as one that are many, and not urgent."""
+    """Return the boxes with the less urgent items of a group joined into one box."""
     rest = sorted(items, key=lambda step: urgency(displays[step]))[MOST_ITEMS:]
     if len(rest) < 2:
         return boxes

@@ -16,7 +16,7 @@ Point = tuple[float, float]
 
 @dataclasses.dataclass(slots=True)
 class Item:
-    """A step in its layer, or a line that passes it. `y` is its middle."""
+    """A step in its layer, or a line that passes the layer. `y` is its vertical center."""
 
     step: int | None
     layer: int
@@ -32,8 +32,9 @@ class Item:
 
 @dataclasses.dataclass(frozen=True, slots=True)
 class Placed:
-    """The upper left corner of each step, and for each need (step, the place in its needs) the
-    points that its line passes.
+    """The upper left corner of each step, and the points of each line.
+
+    The key of a line is the step and the index in its needs.
     """
 
     corners: Sequence[Point]
@@ -43,7 +44,7 @@ class Placed:
 
 
 def layers_of(needs: Sequence[Sequence[int]]) -> list[int]:
-    """The layer of each step: one more than the last of those that it needs."""
+    """Return the layer of each step: one more than the last layer among its needs."""
     layers: dict[int, int] = {}
     for first in range(len(needs)):
         stack = [first]
@@ -91,7 +92,7 @@ class Layout:
         self.chains[step, index] = chain
 
     def _order(self) -> None:
-        """Each item near the middle of its neighbours, from left to right and back."""
+        """Move each item near the mean of its neighbors, in alternating sweeps."""
         for layer in self.layers:
             self._number(layer)
         for sweep in range(SWEEPS):
@@ -119,7 +120,7 @@ class Layout:
         )
 
     def _stack(self) -> None:
-        """Gives each item its height, as near to its neighbours as the order allows."""
+        """Give each item its vertical position, as near to its neighbors as the order allows."""
         for layer in self.layers:
             self._put(layer, [0.0] * len(layer))
         for sweep in range(SWEEPS):
@@ -147,7 +148,7 @@ class Layout:
             self.items[number].y += off
 
     def placed(self) -> Placed:
-        """All corners and lines."""
+        """Return all corners and lines."""
         self._order()
         self._stack()
         top = min(item.y - item.height / 2 for item in self.items)
@@ -170,5 +171,5 @@ class Layout:
 
 
 def lay_out(needs: Sequence[Sequence[int]]) -> Placed:
-    """The layout of steps by what each needs."""
+    """Return the layout of steps, given what each needs."""
     return Layout(needs).placed()

@@ -1,4 +1,4 @@
-"""Questions about many sagas: counts, pages, what waits for an operator."""
+"""Questions about many sagas: counts, lists, and what waits for an operator."""
 
 from __future__ import annotations
 
@@ -48,8 +48,7 @@ SUMMARY = (
     f"{LABELS}"
 )
 HELD_BADLY = "((reason = 'unknown' AND until IS NULL) OR reason IN ('exhausted', 'cannot_decode'))"
-"""The rows of attempts that need a person to say something, or another program. An approval is
-asked for, and no trouble."""
+"""Rows of attempts that need an operator, or another program. Approvals are not among them."""
 SAME = (
     "{0}.id = {1}.id AND {0}.step = {1}.step AND {0}.action = {1}.action AND {0}.number = "
     "{1}.number"
@@ -62,18 +61,21 @@ SUSPENDED = f"""(
     e.worker
   FROM external_attempts e
   WHERE e.outcome IS NULL AND e.worker IS NOT NULL AND e.until IS NOT NULL{{e}}{{unclaimed}})"""
-"""What is suspended, and what a worker has; of what is offered again nobody waits for a time, and
-no worker has it, though its row says who had it last. With a further condition of each."""
+"""Suspended attempts and claimed tasks, with room for a further condition on each.
+
+A task that is offered again is not listed, although its row still names the last worker.
+"""
 UNCLAIMED = """
   UNION ALL SELECT e.id, e.step, e.action, e.number, 'worker', 0, e.offered_at, NULL, NULL
   FROM external_attempts e
   WHERE e.outcome IS NULL AND e.task > '' AND e.worker IS NULL AND e.offered_at < ?"""
-"""What is offered to workers since an earlier time, and none has claimed."""
+"""Tasks that were offered to workers before a given time, and that no worker has claimed."""
 OF_KEY = " AND {}.id = (SELECT id FROM sagas WHERE key = ?)"
 PERSON = f"(reason = 'approval' OR {HELD_BADLY})"
 WAITS = "NOT (reason = 'wait' AND until = 0) AND number > 0"
-"""The row of a wait stays behind its time, so that nobody waits once more. Of attempt 0 are the
-reports of steps that have not begun."""
+"""Excludes timers that have expired, whose rows remain, and reports of steps that have not begun
+(attempt 0).
+"""
 COUNTS = f"""
 SELECT saga, 'completed', count(*) FROM sagas s WHERE {{0}} GROUP BY saga
 UNION ALL SELECT saga, 'open', count(*) FROM sagas s WHERE {PHASES["open"]} AND {{0}} GROUP BY saga
@@ -82,18 +84,21 @@ UNION ALL SELECT saga, CASE WHEN note IS NULL THEN 'stuck' ELSE 'resolved' END, 
 UNION ALL SELECT saga, CASE WHEN note IS NULL THEN 'recovered' ELSE 'resolved' END, count(*)
   FROM sagas s WHERE recovered AND {{0}} GROUP BY 1, 2
 """
-"""All sagas of each definition, and those of the phases that have an index: so nothing is sorted
-but names."""
+"""All sagas of each definition, and those of each phase that has an index. So the query sorts only
+names.
+"""
 UNASKED = """NOT EXISTS (SELECT 1 FROM operator_commands r WHERE r.key = s.key
   AND r.command = 'abort' AND (r.answer IS NULL OR r.answer IN ('true', 'false')))"""
-"""Nobody has asked to abort a saga `s`. Where that was refused, it always is."""
+"""No operator has requested to abort saga `s`. A request that was refused counts: it would be
+refused again.
+"""
 OLDEST = "ORDER BY +s.at, s.id"
-"""The oldest first, of few sagas: a + keeps the databases from the index of all."""
+"""Oldest first, for small results. The + keeps the databases from using the index of all sagas."""
 MOST, ALL = 100, 1 << 60
 
 
 def summary_of(row: Row) -> Summary:
-    """A line of a list, by the columns of `SUMMARY`."""
+    """Return a saga summary from the columns of `SUMMARY`."""
     id, key, saga, phase, at, ended, note, recovered, undo_failed, deadline, labels = row
     phase = states.saga_phase(phase, bool(recovered), note).value
     label_values = labels_of(labels)
@@ -101,7 +106,7 @@ def summary_of(row: Row) -> Summary:
 
 
 def counts(scope: Scope = EVERYTHING) -> Question[Counts]:
-    """How many sagas there are, by name and phase."""
+    """Count sagas by name and phase."""
     result: Counts = {}
     condition, parameters = scope.where()
     rows = yield Query(
@@ -116,7 +121,7 @@ def counts(scope: Scope = EVERYTHING) -> Question[Counts]:
 
 
 HEADS = "SELECT definition, substr(text, 1, 40) FROM definitions"
-"""Of each definition as much as its version stands in."""
+"""The beginning of each definition, which contains its version."""
 
 
 OpenByToken = dict[str, tuple[int, int]]
@@ -127,7 +132,9 @@ WHERE {PHASES["open"]}
 
 
 def open_by_token() -> Question[OpenByToken]:
-    """How many open sagas each token started by a service, and the bytes of their inputs."""
+    """Return, by token name, how many open sagas a service started for it, and the bytes of their
+    inputs.
+    """
     result: OpenByToken = {}
     for (text,) in (yield Query(OPEN_BY_TOKEN, is_long=True)):
         size, _, name = text.partition(" ")
@@ -137,7 +144,7 @@ def open_by_token() -> Question[OpenByToken]:
 
 
 def definitions() -> Question[list[DefinitionCount]]:
-    """How many sagas there are of each version of each definition, by name and version."""
+    """Count the sagas of each version of each definition, ordered by name and version."""
     rows = yield Query(
         f"""
         SELECT d.definition, s.saga, count(*), count(CASE WHEN s.phase IS NULL THEN 1 END)
@@ -157,21 +164,22 @@ def definitions() -> Question[list[DefinitionCount]]:
 
 
 def schedules() -> Question[list[Schedule]]:
-    """The schedules, by name."""
+    """Return the schedules, ordered by name."""
     rows = yield Query(schedules_module.ALL)
     return [schedules_module.of_row(row) for row in rows]
 
 
 def count(filter: Filter) -> Question[int]:
-    """How many sagas there are of a filter."""
+    """Count the sagas that a filter selects."""
     condition, parameters = filter.where()
     rows = yield Query(f"SELECT count(*) FROM sagas s WHERE {condition}", (*parameters,))
     return int(rows[0][0])
 
 
 def to_abort(sagas: Filter, most: int) -> Question[tuple[int, list[str]]]:
-    """How many sagas of a filter nobody has asked to abort, and the keys of the oldest of them.
-    Those that undo children are left out.
+    """Count the sagas of a filter without an abort request, and return the keys of the oldest.
+
+    Sagas that undo children are left out.
     """
     condition, parameters = sagas.where()
     source = f"FROM sagas s WHERE {condition} AND {UNASKED} AND NOT {UNDOES_CHILD}"
@@ -181,7 +189,7 @@ def to_abort(sagas: Filter, most: int) -> Question[tuple[int, list[str]]]:
 
 
 def undoing(sagas: Filter) -> Question[int]:
-    """How many sagas of a filter undo children."""
+    """Count the sagas of a filter that undo children."""
     condition, parameters = sagas.where()
     query = f"SELECT count(*) FROM sagas s WHERE {condition} AND {UNDOES_CHILD}"
     rows = yield Query(query, (*parameters, UNDOING_KEYS))
@@ -189,9 +197,12 @@ def undoing(sagas: Filter) -> Question[int]:
 
 
 def attention_counts(scope: Scope = EVERYTHING) -> Question[dict[str, int]]:
-    """How many things wait for a person: stuck sagas, sagas of which a compensation failed
-    permanently, reports that were not used, approvals, attempts that are exhausted, whose outcome
-    is unknown, or whose stored values cannot be read, and open sagas whose shard is damaged."""
+    """Count what waits for an operator, by reason.
+
+    The reasons are: stuck sagas, permanently failed compensations, unused reports, approvals,
+    exhausted attempts, unknown outcomes, stored values that cannot be read, and open sagas of
+    damaged shards.
+    """
     (condition, parameters), within = scope.where(), ""
     if scope != EVERYTHING:
         within = f" AND id IN (SELECT id FROM sagas s WHERE {condition})"
@@ -219,11 +230,19 @@ def waits(
     offered_before: float | None = None,
     step: str | None = None,
 ) -> Question[list[Waits]]:
-    """What is held, the oldest first; by default what a person has to say something about. `why`:
-    of this reason alone; `key`: of one saga alone; `within`: of those sagas alone;
-    `offered_before`: of all sagas also the tasks that were offered to workers before then, and
-    that none has claimed (`worker`); `step`: of the steps with this name, or that are declared
-    with it."""
+    """Return suspended attempts, the oldest first.
+
+    Args:
+        most: The maximum number of attempts.
+        person: Whether to return only attempts that wait for an operator.
+        why: Only attempts with this reason.
+        key: Only attempts of the saga with this key.
+        scope: Only attempts of sagas in this scope.
+        within: Only attempts of sagas that this filter selects.
+        offered_before: Also return tasks offered to workers before this time that none has claimed,
+            with the reason `worker`.
+        step: Only attempts of steps with this name or declared name.
+    """
     visible, parameters = scope.where()
     conditions = [WAITS, visible]
     if within is not None:
@@ -281,7 +300,7 @@ def _waits(
 
 
 def stuck(most: int = MOST, scope: Scope = EVERYTHING) -> Question[list[tuple[Summary, list[str]]]]:
-    """The stuck sagas that nobody has resolved, with the chain of each, the oldest first."""
+    """Return the unresolved stuck sagas with their blocking steps, the oldest first."""
     condition, parameters = scope.where()
     rows = yield Query(
         f"""
@@ -299,13 +318,13 @@ def stuck(most: int = MOST, scope: Scope = EVERYTHING) -> Question[list[tuple[Su
 
 
 def chain_of(names: list[str], end: str | None) -> list[str]:
-    """The steps because of which a saga is stuck, by what is kept of its end."""
+    """Return the names of the steps that block a stuck saga, from its stored outcome."""
     answer = (json.loads(end).get("answer") if end else None) or {}
     return [names[step] for step in answer.get("chain", ())]
 
 
 def stuck_results(kind_of: Callable[[str], Kind], most: int) -> Question[list[SagaResult]]:
-    """As `stuck`, with all that is kept of the end of each."""
+    """Return the full results of the unresolved stuck sagas, the oldest first."""
     rows = yield Query(
         f"""
         SELECT {SAGA}, d.definition FROM sagas s {OF_SHARD}
@@ -324,7 +343,7 @@ def stuck_results(kind_of: Callable[[str], Kind], most: int) -> Question[list[Sa
 
 
 def unknown(most: int) -> Question[list[UnknownAttempt]]:
-    """The attempts with an unknown outcome; first those that a person has to report."""
+    """Return attempts with an unknown outcome, those that an operator must report first."""
     rows = yield Query(
         f"""
         SELECT s.key, s.saga, d.definition, l.name, {HELD}
@@ -355,7 +374,7 @@ SELECT s.key, s.saga, coalesce(d.definition, ''), 'damaged', NULL, '', l.audit, 
 def attention(
     most: int = MOST, decode: Callable[[str], str] = unescaped
 ) -> Question[list[Attention]]:
-    """What needs a person, the oldest first. `decode`: reads a stored result."""
+    """Return what needs an operator, the oldest first. `decode` reads a stored result."""
     stuck_sagas = f"""
         SELECT s.key, s.saga, d.definition, 'stuck', NULL, NULL, s.outcome,
           s.ended
@@ -391,7 +410,7 @@ def attention(
 def _reported(
     entry: Attention, reporters: unused_reports.Reporters, decode: Callable[[str], str]
 ) -> Attention:
-    """Of a report that was not used who reported what."""
+    """Return an entry for an unused report with its result and the reporter's name."""
     if entry.why is not AttentionReason.UNUSED_REPORT or entry.step is None:
         return entry
     try:
@@ -402,14 +421,13 @@ def _reported(
 
 
 def undone(most: int = MOST, scope: Scope = EVERYTHING) -> Question[list[Attention]]:
-    """The compensations that failed permanently of sagas that have ended and that nobody has
-    resolved, the oldest first."""
+    """Return permanently failed compensations of unresolved sagas that have ended, oldest first."""
     rows = yield undone_query(most, scope)
     return (yield from _entries(rows, most))
 
 
 def undone_query(most: int, scope: Scope = EVERYTHING) -> Query:
-    """Asks for compensations that failed permanently."""
+    """Return the query for permanently failed compensations."""
     condition, parameters = scope.where()
     return Query(
         f"""
@@ -426,8 +444,11 @@ def undone_query(most: int, scope: Scope = EVERYTHING) -> Query:
 def _entries(
     rows: list[Row], most: int, errors: Mapping[tuple[str, int], tuple[bool, str]] = {}
 ) -> Question[list[Attention]]:
-    """`errors`: by the key of a stuck saga and a step, what that raised last, and whether its
-    compensation did."""
+    """Return entries from rows.
+
+    `errors` maps the key of a stuck saga and a step to the last error, and to whether its
+    compensation raised it.
+    """
     names = yield from names_module.of_digests(row[2] for row in rows)
     entries = []
     for key, saga, digest, reason, step, action, text, since in rows:

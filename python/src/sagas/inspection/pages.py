@@ -18,25 +18,26 @@ from sagas.storage.queries import PHASES, SORTED_AT
 from sagas.storage.sqlite.schema import PLANNED
 
 Position = Optional[tuple[float, int]]
-"""A place in the list: the start of a saga, and its id."""
+"""A position in the list: the start of a saga, and its id."""
 Bounds = tuple[Position, Position]
-"""Places: the sagas are behind the first, and before the second, where there is one."""
+"""Exclusive bounds of a page: sagas come after the first and before the second. None: no bound."""
 RARE = ("stuck", "undo_failed", "resolved")
-"""The phases that few sagas are in, however many there are."""
+"""Phases that hold few sagas, however many sagas the store has."""
 FEW = 3000
-"""So many are sorted without further questions."""
+"""Up to this number, sagas are sorted without further checks."""
 LABELED = "SELECT 1 FROM labels WHERE name = ? AND value = ?"
 INDEXED = {
     "open": f"SELECT 1 FROM sagas s WHERE {PHASES['open']}",
     "recovered": f"SELECT 1 FROM sagas s WHERE {PLANNED}",
 }
 NEAR, MOST_NEAR = 100, 20_000
-"""Sagas that are looked at one by one for each that is wanted, and at most: of what is rarer, all
-are sorted."""
+"""How many neighboring sagas are scanned for each one that is wanted, and at most. If these do not
+suffice, all sagas of the filter are sorted.
+"""
 
 
 def check(phase: str | None, after: object, limit: int) -> None:
-    """Raises `ValueError` or `TypeError` where no page is asked for by these words."""
+    """Raise `ValueError` or `TypeError` if the arguments of a page are invalid."""
     if phase is not None and phase not in PHASES:
         raise ValueError(f"phase={phase!r}: must be one of {', '.join(PHASES)}")
     if not (after is None or isinstance(after, Summary) or validation.is_count(after)):
@@ -47,7 +48,10 @@ def check(phase: str | None, after: object, limit: int) -> None:
 
 
 def position(after: Summary | int | None) -> Question[Position]:
-    """Where a page ends, by its last saga or the id of that. Raises `ValueError`."""
+    """Return the position after which a page begins, from a summary or a saga's id.
+
+    Raises `ValueError` if no saga has the id.
+    """
     if after is None:
         return None
     if isinstance(after, Summary):
@@ -63,7 +67,7 @@ def position(after: Summary | int | None) -> Question[Position]:
 
 
 def position_of(summary: Summary) -> tuple[float, int]:
-    """The place of a saga."""
+    """Return the position of a saga."""
     return summary.started, summary.id
 
 
@@ -79,13 +83,22 @@ def page(
     most: int | None = 50,
     of: Filter | None = None,
 ) -> Question[list[Summary]]:
-    """A page of the list, the newest first, or the oldest first: those `before` a place, or `after`
-    one. `newest`: which are first; by default the oldest where `after` is given.
+    """Return a page of the list of sagas: those `before` or `after` a position.
 
-    `most`: None for all; `phase`, `saga`, `labels`, `search`: as of a `Filter`, or `of`.
+    Args:
+        phase: As in `Filter`.
+        saga: As in `Filter`.
+        labels: As in `Filter`.
+        search: As in `Filter`.
+        before: Return only sagas before this position.
+        after: Return only sagas after this position.
+        newest: Whether the newest come first. Default: no if `after` is given, else yes.
+        most: The maximum number of sagas. None: no maximum.
+        of: A filter, instead of `phase`, `saga`, `labels` and `search`.
 
-    A database cannot know which is less work: to go through the sagas in their order, or to sort
-    all that are of the filter. So it goes through those that are near, and then it sorts.
+    A database cannot know which is cheaper: to scan sagas in their order, or to sort all sagas of
+    the filter. So this scans a limited number of neighbors first, and sorts
+    only if that is not enough.
     """
     of = of or Filter(phase, saga, labels, search)
     is_newest = after is None if newest is None else newest
@@ -106,7 +119,7 @@ def page(
 
 
 def _bounds(of: Filter, after: Position, before: Position) -> Bounds:
-    """The times of a filter as places, with those of a page: ids are above -1."""
+    """Combine the times of a filter and the bounds of a page. All ids are above -1."""
     since, until = (
         (at, -1) if at is not None else None for at in (of.started_after, of.started_before)
     )
@@ -116,7 +129,7 @@ def _bounds(of: Filter, after: Position, before: Position) -> Bounds:
 
 
 def _are_many(of: Filter) -> Question[bool]:
-    """Whether there may be so many of a filter that it is much work to sort them."""
+    """Return whether a filter may select too many sagas to sort them."""
     if of.phase in RARE:
         return False
     probes: list[tuple[str, tuple[str, ...]]] = [(LABELED, label) for label in of.labels.items()]
@@ -130,7 +143,7 @@ def _are_many(of: Filter) -> Question[bool]:
 
 
 def _near(bounds: Bounds, newest: bool, most: int) -> Question[tuple[Bounds, bool]]:
-    """The places between which the first so many are, of any filter, and whether that is all."""
+    """Return bounds that contain the next `most` sagas of any filter, and whether these are all."""
     conditions, parameters = _within(bounds, "s.at")
     rows = yield Query(
         f"SELECT s.at, s.id FROM sagas s WHERE {' AND '.join(conditions)} "
@@ -144,8 +157,10 @@ def _near(bounds: Bounds, newest: bool, most: int) -> Question[tuple[Bounds, boo
 
 
 def _within(bounds: Bounds, at: str) -> tuple[list[str], list[Any]]:
-    """A condition on the places of sagas, and its words. `at`: with a + where the index of the
-    starts is not to be used, as it leads to more sagas than another."""
+    """Return the conditions of bounds, and their parameters.
+
+    `at` has a + if another index than that of the starts leads to fewer sagas.
+    """
     limits = [(sign, position) for sign, position in zip("><", bounds) if position is not None]
     conditions = [f"({at}, s.id) {sign} (?, ?)" for sign, _ in limits]
     return ["1 = 1", *conditions], [value for _, position in limits for value in position]
@@ -158,8 +173,10 @@ def _order(at: str, newest: bool) -> str:
 def _rows(
     of: Filter, bounds: Bounds, newest: bool, most: int | None, at: str, **form: bool
 ) -> Question[list[Summary]]:
-    """`at`: `s.at` where the index of the starts leads to them; the others as of `_within`. `form`:
-    as of `Filter.where`."""
+    """Return the sagas of a filter within bounds.
+
+    `at` is `s.at` if the index of the starts is used. `form` are options of `Filter.where`.
+    """
     conditions, parameters = _within(bounds, at)
     rest = dataclasses.replace(of, started_after=None, started_before=None)
     condition_of_filter, more = rest.where(in_order=at == "s.at", **form)

@@ -52,11 +52,12 @@ color-scheme:light dark;
 
 
 def shorten(text: str, most: int) -> str:
+    """Return a text, cut off after `most` characters."""
     return text if len(text) <= most else text[: most - 1] + "…"
 
 
 def shorten_name(text: str, most: int) -> str:
-    """A name, without its middle where it is longer: names often differ in their ends."""
+    """Return a name, shortened in its middle, because names often differ in their ends."""
     return (
         text
         if len(text) <= most
@@ -65,7 +66,7 @@ def shorten_name(text: str, most: int) -> str:
 
 
 def displays_of(view: SagaView) -> list[StepDisplay]:
-    """What the boxes say, by step."""
+    """Return how each step of a saga is shown."""
     choices = (
         {choice.step: choice for choice in view.plan.choices}
         if view.plan and view.plan.cost is not None
@@ -98,7 +99,7 @@ def displays_of(view: SagaView) -> list[StepDisplay]:
         )
         tone = icon = step.state
         if wait and wait.asks:
-            state, tone = ASKED.get(wait.why, "waits"), "person"
+            state, tone = QUESTION_STATES.get(wait.why, "waits"), "person"
         elif wait and wait.why == "worker":
             state, icon, why = (
                 "waits for a worker",
@@ -112,13 +113,13 @@ def displays_of(view: SagaView) -> list[StepDisplay]:
 
 
 EARLY = {"complete": "its success is reported", "fail": "its failure is reported"}
-ASKED = {
+QUESTION_STATES = {
     "approval": "to approve",
     "unknown": "unknown",
     "exhausted": "exhausted",
     "cannot_decode": "unreadable",
 }
-"""The state of a step that waits for a person's word."""
+"""The state of a step that waits for an operator."""
 TURNS = {
     "ordered": "in its queue",
     "unknown": "unknown; retried soon",
@@ -128,11 +129,11 @@ TURNS = {
 }
 """What some attempts wait for, in a few words."""
 SLOTS = ("concurrency", "fleet_concurrency", "rate_limit", "slot")
-"""What others wait for, as `WAITS_FOR` says it."""
+"""Reasons that are described by `WAITS_FOR`."""
 
 
 def waiting(held: Waits) -> str:
-    """What a held attempt waits for, in a few words."""
+    """Describe in a few words what a suspended attempt waits for."""
     if held.why == "external":
         return f"at {held.said}" if held.said else "claimed by a worker"
     if held.why == "worker":
@@ -147,18 +148,19 @@ def waiting(held: Waits) -> str:
 
 
 def decided(choice: Choice) -> str:
-    """What the plan decided of a step, and what that costs."""
+    """Describe what the plan decided about a step, and the cost of that."""
     cost = choice.cost_to_keep if choice.kept else choice.cost_to_drop
     text = f", costs {cost:,}" if cost else ""
     return f"plan: {wording.DECISIONS[choice.decision]}{text}"
 
 
 def tried(attempts: int, state: str) -> str:
+    """Describe the number of an attempt, if it is worth mentioning."""
     return f"attempt {attempts}" if attempts > 1 or state == "running" else ""
 
 
 def line(points: list[Point]) -> str:
-    """The path of a need, from a step to the one that needs it: level where it enters and leaves
+    """Return the SVG path from a step to one that needs it. It is level where it enters and leaves
     a layer.
     """
     path = []
@@ -175,8 +177,10 @@ def line(points: list[Point]) -> str:
 
 
 def boxes(shown: list[Box], placed: Placed) -> list[str]:
-    """Draw the steps. The table next to the picture has the same links, so a box's own is skipped
-    by the keyboard.
+    """Draw the steps.
+
+    The keyboard skips the links of boxes, because the table next to the picture has the same
+    links.
     """
     result = []
     for (step, display, _, href, _), (x, y) in zip(shown, placed.corners):
@@ -198,7 +202,7 @@ def boxes(shown: list[Box], placed: Placed) -> list[str]:
 
 
 def titled(equal: list[Box]) -> Box:
-    """A box; of several equal ones their number and the first."""
+    """Return one box for several equal ones, titled with their number and the first title."""
     first = equal[0]
     if len(equal) == 1:
         return first
@@ -206,7 +210,7 @@ def titled(equal: list[Box]) -> Box:
 
 
 def spoken(view: SagaView, shown: list[Box]) -> str:
-    """The picture in words."""
+    """Describe the picture in words."""
     steps = "; ".join(
         f"{box.title} {box.display.state}{' (' + box.display.why + ')' if box.display.why else ''}"
         for box in shown
@@ -223,9 +227,15 @@ def svg(
     unfold: Collection[str] = (),
     link: Link | None = None,
 ) -> str:
-    """The picture; without a style it is for the page, whose style sheet has the same classes.
+    """Return the picture of a saga.
 
-    `unfold`: the groups whose parts are drawn; `link`: where a click on a group leads.
+    Args:
+        view: The saga.
+        style: A style sheet. Default: none, for a page whose style sheet has the same classes.
+        displays: How the steps are shown, if this is known already.
+        groups: The groups of steps, if these are known already.
+        unfold: The groups whose parts are drawn.
+        link: Returns the target of a click on a group.
     """
     displays = displays_of(view) if displays is None else displays
     groups = Groups.read(view.definition) if groups is None else groups
@@ -237,7 +247,7 @@ def svg(
 
 
 def ordered(needs: list[list[int]], displays: list[StepDisplay]) -> Placed:
-    """The places of boxes, the urgent ones of a layer above the others as far as lines allow."""
+    """Return the layout of boxes: urgent ones are above others if lines allow it."""
     order = sorted(range(len(needs)), key=lambda box: urgency(displays[box]))
     number = {box: count for count, box in enumerate(order)}
     layout = lay_out([[number[need] for need in needs[box]] for box in order])
@@ -246,7 +256,7 @@ def ordered(needs: list[list[int]], displays: list[StepDisplay]) -> Placed:
 
 
 def plain_boxes(steps: list[tuple[str, list[str]]], displays: list[StepDisplay]) -> list[Box]:
-    """A box for each step."""
+    """Return a box for each step."""
     return [
         Box(name, display, [index])
         for index, ((name, _), display) in enumerate(zip(steps, displays))
@@ -254,7 +264,7 @@ def plain_boxes(steps: list[tuple[str, list[str]]], displays: list[StepDisplay])
 
 
 def needs_of(steps: list[tuple[str, list[str]]], shown: list[Box]) -> list[list[int]]:
-    """The boxes that each box needs, by their places."""
+    """Return the indexes of the boxes that each box needs."""
     number = {name: index for index, (name, _) in enumerate(steps)}
     at = {step: index for index, box in enumerate(shown) for step in box.steps}
     result = []
@@ -267,9 +277,7 @@ def needs_of(steps: list[tuple[str, list[str]]], shown: list[Box]) -> list[list[
 def drawn(
     steps: list[tuple[str, list[str]]], shown: list[Box], description: str, style: str = ""
 ) -> str:
-    """Boxes of steps with their needs, and the picture in words. Many equal ones are one box, but
-    for those that stand alone.
-    """
+    """Draw boxes of steps and their needs. Equal boxes are folded, except those that stay alone."""
     looks = [object() if box.alone else box.display for box in shown]
     groups = folded(needs_of(steps, shown), looks)
     joined = [titled([shown[index] for index in group.steps]) for group in groups]
@@ -294,5 +302,5 @@ def drawn(
 
 
 def document(view: SagaView, unfold: Collection[str] = ()) -> str:
-    """The picture as a file of its own."""
+    """Return the picture as a self-contained file."""
     return svg(view, STYLE, unfold=unfold)

@@ -48,7 +48,7 @@ ELSEWHERE = """
 SELECT step, action, number, offered_at, since, worker, lease FROM external_attempts WHERE id = ?
 """
 EARLY = "SELECT step, reason FROM suspensions WHERE id = ? AND number = 0"
-SAID = {
+EARLY_COMMANDS = {
     EarlyReason.RESULT: "complete",
     EarlyReason.ERROR: "fail",
     EarlyReason.UNDONE: "complete",
@@ -59,13 +59,13 @@ NOTES = (
 
 
 def find(key: str) -> Question[SagaRow | None]:
-    """The saga with this key."""
+    """Return the row of the saga with this key, or None."""
     rows = yield Query(queries.FIND, (key,))
     return SagaRow(*rows[0]) if rows and rows[0][1] == key else None
 
 
 def there(key: str) -> Question[SagaRow]:
-    """The saga with this key. Raises `NoSuchSaga`."""
+    """Return the row of the saga with this key. Raises `NoSuchSaga`."""
     row = yield from find(key)
     if row is None:
         raise NoSuchSaga(f"no saga has the key {key!r}")
@@ -73,7 +73,10 @@ def there(key: str) -> Question[SagaRow]:
 
 
 def definition(id: int) -> Question[str]:
-    """The text of a saga's definition. Raises `NoSuchSaga` where it was let go meanwhile."""
+    """Return the text of a saga's definition.
+
+    Raises `NoSuchSaga` if the saga was deleted concurrently.
+    """
     rows = yield Query(queries.DEFINITION, (id,))
     if not rows:
         raise NoSuchSaga(f"the saga {id} is not kept any more")
@@ -88,7 +91,7 @@ def _token(id: int) -> Question[str]:
 
 
 class _Kept:
-    """What the store has of a saga, read: its definition, attempts and events."""
+    """The stored parts of a saga, parsed: its definition, attempts and events."""
 
     def __init__(self, row: SagaRow, rows: list[tuple[Any, ...]], read: Read) -> None:
         stored = queries.known(rows, row.key)
@@ -110,23 +113,26 @@ class _Kept:
 
 
 def _kept(row: SagaRow, read: Read = json.loads) -> Question[_Kept]:
-    """Raises `NoSuchSaga` where it was let go since its row was read."""
+    """Read the stored parts of a saga.
+
+    Raises `NoSuchSaga` if the saga was deleted after its row was read.
+    """
     text, *parameters = queries.known_words(row.id, history=True)
     return _Kept(row, (yield Query(text, (*parameters,), is_long=True)), read)
 
 
 def plan(row: SagaRow) -> Question[Plan | None]:
-    """The last plan that a saga adopted, with the states that this found."""
+    """Return the last plan that a saga adopted, with the states at that time."""
     return (yield from _kept(row)).plan
 
 
 def log(row: SagaRow, read: Read) -> Question[list[HistoryEvent]]:
-    """The events of a saga, each with what came of it. `read`: as of `view`."""
+    """Return the events of a saga, each with its result or error. `read` is as in `view`."""
     return (yield from _kept(row, read)).events
 
 
 def notes(key: str, read: Read = json.loads) -> Question[list[Note]]:
-    """What people did to a saga, in the order of time. `read`: as of `view`."""
+    """Return the operator commands for a saga, in the order of time. `read` is as in `view`."""
     rows = yield Query(NOTES, (key,))
     return [
         Note(key, command, at, _told(value, read), answer and json.loads(answer))
@@ -135,7 +141,7 @@ def notes(key: str, read: Read = json.loads) -> Question[list[Note]]:
 
 
 def _told(value: str | None, read: Read) -> dict[str, Any]:
-    """What is kept of a command, with the result that it reports."""
+    """Return the details of a command, with the reported result decoded."""
     details: dict[str, Any] = json.loads(value or "null") or {}
     if "result" in details:
         details["result"] = read(json.dumps(details["result"], separators=(",", ":")))
@@ -143,8 +149,7 @@ def _told(value: str | None, read: Read) -> dict[str, Any]:
 
 
 def view(key: str, read: Read = json.loads) -> Question[SagaView | None]:
-    """All of a saga, if there is one with this key. `read`: of the JSON of its input and of its
-    results."""
+    """Return the saga with this key, or None. `read` decodes the JSON of its input and results."""
     while rows := (yield Query(SAGA, (key,))):
         (*columns, recovered, undo_failed, labels, deadline) = rows[0]
         row = SagaRow(*columns)
@@ -168,7 +173,7 @@ def _view(
     deadline: float | None,
     read: Read,
 ) -> Question[SagaView]:
-    """All of a saga that is there. Raises `NoSuchSaga` where it was let go meanwhile."""
+    """Return a saga's view. Raises `NoSuchSaga` if the saga is deleted concurrently."""
     kept = yield from _kept(row, read)
     held = yield from waits(MOST_HELD, person=False, key=row.key)
     done = yield from notes(row.key, read)
@@ -178,7 +183,9 @@ def _view(
     spans = yield Query(SPANS, (row.id,))
     elsewhere = yield Query(ELSEWHERE, (row.id,))
     early_rows = yield Query(EARLY, (row.id,))
-    early = {step: SAID[EarlyReason(why)] for step, why in early_rows if row.phase is None}
+    early = {
+        step: EARLY_COMMANDS[EarlyReason(why)] for step, why in early_rows if row.phase is None
+    }
     left = sorted(step for step, why in early_rows if row.phase and why == EarlyReason.RESULT)
     states = zip(kept.names, history.states)
     parent, children = yield from families.of(row.id, row.key)
@@ -224,8 +231,9 @@ def steps_of(
     progress: Mapping[tuple[Any, ...], Progress],
     early: Mapping[int, str],
 ) -> list[StepView]:
-    """The steps of a saga as they stand. `progress`: by step, action and attempt; `early`: what was
-    reported of steps before they have begun.
+    """Return the steps of a saga in their current states.
+
+    `progress` is by step, action and attempt. `early` are reports of steps that have not begun.
     """
     now = {
         (entry.step, entry.undo): entry.attempt

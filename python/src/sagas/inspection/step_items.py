@@ -1,4 +1,4 @@
-"""Which item a step is of, in words."""
+"""Describes which item a step belongs to."""
 
 from __future__ import annotations
 
@@ -9,8 +9,9 @@ from sagas.definition.shape_values import ShapeValues
 
 
 def of(spots: Sequence[Spot], names: Sequence[str], shape: str | None) -> dict[str, str]:
-    """Return, by the names of steps of items, the index of the item, and its key if it came from a
-    dict. `shape`: as it is stored. If it is encoded, the keys are not known.
+    """Describe, by step name, the index of the step's item, and its key if it came from a dict.
+
+    `shape` is the stored shape. If it is encoded, the keys are unknown.
     """
     values = ShapeValues() if shape is None else ShapeValues.read(shape)
     described = ((name, [*_parts(spot, values)]) for name, spot in zip(names, spots))
@@ -18,7 +19,7 @@ def of(spots: Sequence[Spot], names: Sequence[str], shape: str | None) -> dict[s
 
 
 def _parts(spot: Spot, values: ShapeValues) -> Iterator[str]:
-    """The item of each inclusion, and that of the step."""
+    """Yield the item of each enclosing inclusion, and then that of the step."""
     for depth, (name, number) in enumerate((*spot.scope, (spot.name, spot.number))):
         if number is None:
             continue

@@ -14,7 +14,7 @@ from sagas.definition import listed_steps
 from sagas.inspection.views import Note, SagaView, Waits
 
 Key = tuple[str, bool, int]
-"""A step, whether its compensation is meant, and the attempt."""
+"""A step, whether the attempt is a compensation, and the attempt's number."""
 STATES: dict[str, tuple[str, str | None]] = {
     QUEUED_WORD: ("queued", "slot"),
     "slot": ("queued", "slot"),
@@ -39,7 +39,9 @@ STATES: dict[str, tuple[str, str | None]] = {
     Suspension.APPROVAL.value: ("waiting", "approval"),
     Suspension.CHILD.value: ("waiting", "child"),
 }
-"""The state and the reason by what was noted (`core.spans`), and by what its node says of it."""
+"""State and reason of a span, by the recorded word (`core.spans`) or the reason that the node
+reports.
+"""
 OUTCOMES = {
     "commit": "succeeded",
     "undone": "succeeded",
@@ -57,8 +59,7 @@ FIRST = {
     ("queued", "concurrency"),
     ("queued", "fleet_limit"),
 }
-"""What an attempt does from its begin on, where it is the first that was noted: the others follow a
-call."""
+"""First spans that can begin an attempt. All other recorded spans follow a call."""
 CALLED_AGAIN = "called again: the program that called it before has ended"
 UNKNOWNS = (Suspension.UNKNOWN.value, PERSON_WORD)
 DECIDED = ("complete", "fail", "retry")
@@ -66,18 +67,18 @@ DECIDED = ("complete", "fail", "retry")
 
 @dataclasses.dataclass(frozen=True, slots=True)
 class Span:
-    """A part of an attempt. They follow one another without gaps.
+    """A part of an attempt. Spans follow one another without gaps.
 
     Attributes:
         state: `queued`, `running`, `waiting` or `backoff`.
-        why: For what it was queued (`slot`, `concurrency`, `fleet_limit`), or waits (`approval`,
-            `wait`, `child`, `worker`, `unknown`, `person`, `exhausted`, `cannot_decode`); of one
-            that runs `worker`, where one has it.
+        why: The reason: of a queued attempt `slot`, `concurrency` or `fleet_limit`; of a waiting
+            one `approval`, `wait`, `child`, `worker`, `unknown`, `person`, `exhausted` or
+            `cannot_decode`; of a running one `worker` if a worker has it.
         began: Wall time, in seconds since 1970.
-        ended: The same; None while it lasts.
-        worker: Who had it, if it was done elsewhere.
+        ended: Wall time, or None if it has not ended.
+        worker: The worker that had the attempt, if any.
         lease: The number of that worker's lease.
-        detail: What was raised before.
+        detail: The error before this span.
     """
 
     state: str
@@ -91,21 +92,21 @@ class Span:
 
 @dataclasses.dataclass(frozen=True, slots=True)
 class AttemptTimes:
-    """What an attempt did.
+    """The times of one attempt.
 
     Attributes:
         step: The step's name.
-        undo: Whether its compensation is meant.
+        undo: Whether it is an attempt of the compensation.
         attempt: Its number, from 1.
-        ready: Since when it could begin, as far as the order of the steps is concerned.
+        ready: When the order of the steps first allowed it to begin.
         began: When it began.
-        ended: When it ended; None while it lasts.
-        outcome: `succeeded`, `failed` (no other attempt follows), `retried` (one follows),
-            `not_called` (it was given up before its function was called), or None.
-        error: What was raised.
+        ended: When it ended, or None.
+        outcome: `succeeded`, `failed` (no attempt follows), `retried` (one follows), `not_called`
+            (it was given up before its function was called), or None.
+        error: The error, if it failed.
         unknowns: How often its outcome was unknown.
         spans: Its parts, from `ready` on.
-        decision: What a person did by which it ended, or was called again last.
+        decision: The operator's command that ended it, or that last retried it.
     """
 
     step: str
@@ -121,7 +122,7 @@ class AttemptTimes:
     decision: Note | None
 
     def seconds(self, now: float) -> dict[str, float]:
-        """How long it was in each state."""
+        """Return the time that it spent in each state."""
         totals: dict[str, float] = {}
         for span in self.spans:
             duration = (now if span.ended is None else span.ended) - span.began
@@ -130,7 +131,7 @@ class AttemptTimes:
 
 
 def of(view: SagaView, now: float) -> list[AttemptTimes]:
-    """The attempts of a saga, in the order in which they began."""
+    """Return the attempts of a saga, in the order in which they began."""
     ready, marks = _ready(view), _marks(view)
     ends = {(entry.step, entry.undo, entry.attempt): entry for entry in view.attempts}
     held = {(entry.step, entry.undo, entry.attempt): entry for entry in view.held}
@@ -154,7 +155,7 @@ def _times(
     notes: list[Note],
     now: float,
 ) -> AttemptTimes:
-    """An attempt, by what was noted of it."""
+    """Return the times of an attempt from its recorded spans."""
     outcome, error = OUTCOMES.get(stretch.outcome or ""), None
     if end is not None and end.outcome in MISSES:
         error = str((end.value or {}).get("error", ""))
@@ -180,7 +181,7 @@ def _times(
 
 
 def _is_of(note: Note, stretch: Stretch) -> bool:
-    """Whether it was said of this attempt; a report may come before its step begins."""
+    """Return whether a command concerns this attempt. A report may come before its step begins."""
     is_undo, is_early = (
         note.told.get("kind") == "undo",
         note.what != "retry" and stretch.attempt == 1,
@@ -190,7 +191,7 @@ def _is_of(note: Note, stretch: Stretch) -> bool:
 
 
 def _joined(ready: float, stretch: Stretch, marks: list[Span]) -> list[Span]:
-    """The parts without gaps: each lasts until the next, or to the end."""
+    """Return spans without gaps: each lasts until the next one, or to the end."""
     first = Span("running", None, stretch.began, None)
     is_first = bool(marks) and marks[0].detail is None  # else it was called, and that was raised
     if is_first and (marks[0].state, marks[0].why) in FIRST:
@@ -211,7 +212,7 @@ def _joined(ready: float, stretch: Stretch, marks: list[Span]) -> list[Span]:
 
 
 def _marks(view: SagaView) -> dict[Key, list[Span]]:
-    """What was noted of each attempt, in the order of time. A mark has no end yet."""
+    """Return the recorded marks of each attempt, in the order of time. A mark has no end yet."""
     names, result = [step.name for step in view.steps], dict[Key, list[Span]]()
     for step, action, number, offered, since, worker, lease in view.noted.elsewhere:
         marks = result.setdefault((names[step], action == "undo", number), [])
@@ -241,7 +242,7 @@ def _mark(
 def _now(
     view: SagaView, stretch: Stretch, marks: list[Span], held: Waits | None, now: float
 ) -> list[Span]:
-    """What one does that is under way, where nothing was stored of that."""
+    """Return the current span of an active attempt, if the store has no mark for it."""
     last = (marks[-1].state, marks[-1].why) if marks else ("running", None)
     if held is None:
         is_known = (stretch.step, stretch.undo) in view.running and last[0] != "running"
@@ -256,8 +257,11 @@ def _now(
 
 
 def _ready(view: SagaView) -> dict[Key, float]:
-    """Since when each attempt could begin: the needs of its step were committed, or what needed it
-    was undone; a plan was adopted; the attempt before it had ended."""
+    """Return when each attempt could begin.
+
+    That is when its needs were committed, or what needed it was undone; when the plan was
+    adopted; and when the previous attempt ended.
+    """
     names = [step.name for step in view.steps]
     needs = {step.name: [*step.needs] for step in listed_steps.of(view.definition)}
     above: dict[str, list[str]] = {}
@@ -285,13 +289,15 @@ def _ready(view: SagaView) -> dict[Key, float]:
 
 
 def _before(name: str, undo: bool, others: dict[str, list[str]]) -> Iterable[tuple[str, bool]]:
-    """What has to be over before an attempt: the one before it, too."""
+    """Return what must end before an attempt, including the previous attempt."""
     return [(name, undo), *((other, undo) for other in others.get(name, ()))]
 
 
 def decisions(view: SagaView) -> list[dict[str, Any]]:
-    """What people did, in the order of time: what, when, to which step, who, why, and whether it
-    was accepted (None: it has no answer yet)."""
+    """Return the operator commands in the order of time.
+
+    `accepted` is None if a command has no answer yet.
+    """
     return [
         {
             "command": note.what,

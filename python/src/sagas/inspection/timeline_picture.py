@@ -1,4 +1,4 @@
-"""The timeline of a saga as SVG: when attempts were queued, ran and waited."""
+"""The timeline of a saga as SVG: when attempts were queued, ran, waited and backed off."""
 
 from __future__ import annotations
 
@@ -15,7 +15,7 @@ from sagas.inspection.timeline import AttemptTimes, Span
 LONG, ROW, TOP = 900, 28, 24
 MOST_NAME = 20
 MOST_ROWS = 20
-"""Steps that are drawn; of more, those that failed or are not over, then the longest."""
+"""How many steps are drawn. Failed and active steps are preferred, then the longest."""
 TICKS = (
     *(0.01, 0.02, 0.05, 0.1, 0.2, 0.5, 1, 2, 5, 10, 15, 30),
     *(60, 120, 300, 600, 900, 1800, 3600, 7200, 14400, 43200),
@@ -24,19 +24,19 @@ TICKS = (
 TONES = {"retried": "missed", "not_called": "waiting", None: "running"}
 STATES = {"queued": "queued", "running": "ran", "waiting": "waited", "backoff": "backed off"}
 HIGH = {"running": 16, "waiting": 10, "queued": 4, "backoff": 2}
-"""How high the bar of each state is."""
+"""The height of the bar of each state."""
 PERSON = ("approval", "exhausted", "person", "cannot_decode")
-"""What an attempt waits for that a person has to say."""
+"""The reasons for which an attempt waits for an operator."""
 
 
 def ticks(long: float) -> list[float]:
-    """Some round moments of so many seconds."""
+    """Return round moments within a duration."""
     step = next((step for step in TICKS if long / step <= 6), TICKS[-1])
     return [count * step for count in range(int(long / step) + 1)]
 
 
 def rows_of(attempts: list[AttemptTimes], now: float, titles: Mapping[str, str]) -> list[str]:
-    """The steps and groups that are drawn, in the order in which they began."""
+    """Return the steps and groups that are drawn, in the order in which they began."""
     weights: dict[str, tuple[bool, float]] = {}
     for attempt in attempts:
         name = titles.get(attempt.step, attempt.step)
@@ -50,8 +50,10 @@ def rows_of(attempts: list[AttemptTimes], now: float, titles: Mapping[str, str])
 def drawn(
     attempts: list[AttemptTimes], started: float, now: float, titles: Mapping[str, str] = {}
 ) -> str:
-    """A row for each step, and in it a bar for each span of its attempts. `titles`: by the names of
-    steps, the groups that have a row in their place: there spans that overlap are one.
+    """Draw a row for each step, with a bar for each span of its attempts.
+
+    `titles` maps the names of steps to groups. A group has one row, in which overlapping spans
+    are merged.
     """
     rows = {step: row for row, step in enumerate(rows_of(attempts, now, titles))}
     shown = [attempt for attempt in attempts if titles.get(attempt.step, attempt.step) in rows]
@@ -92,7 +94,7 @@ def drawn(
 
 
 class Scale(NamedTuple):
-    """Where a moment is: `left` is the place of the first one."""
+    """The horizontal scale. `left` is the position of the first moment."""
 
     first: float
     now: float
@@ -103,7 +105,7 @@ class Scale(NamedTuple):
 def by_group(
     attempts: Iterable[AttemptTimes], titles: Mapping[str, str]
 ) -> dict[str, list[AttemptTimes]]:
-    """The attempts of the groups that have a row of their own."""
+    """Return the attempts of the groups that have a row."""
     groups: dict[str, list[AttemptTimes]] = {}
     for attempt in attempts:
         if attempt.step in titles:
@@ -112,25 +114,25 @@ def by_group(
 
 
 def tone_of(attempt: AttemptTimes) -> str:
-    """The colour of an attempt."""
+    """Return the color of an attempt."""
     tone = TONES.get(attempt.outcome, attempt.outcome or "")
     tone = {"succeeded": "undone" if attempt.undo else "committed"}.get(tone, tone)
     return "undo_failed" if tone == "failed" and attempt.undo else tone
 
 
 def bar(attempt: AttemptTimes, at: Scale, top: float) -> str:
-    """An attempt, a part for each of its spans."""
+    """Draw an attempt, with a part for each of its spans."""
     parts = "".join(part(span, at, top) for span in attempt.spans)
     title = escape(describe(attempt, at.now))
     return f'<g class="run {tone_of(attempt)}"><title>{title}</title>{parts}</g>'
 
 
 ORDER = ("waiting", "committed", "undone", "running", "missed", "undo_failed", "failed")
-"""The colours of a group's bars: the later ones are above."""
+"""The colors of a group's bars. Later ones are drawn above earlier ones."""
 
 
 def group_bar(title: str, attempts: list[AttemptTimes], at: Scale, top: float) -> str:
-    """The attempts of a group: of each colour the spans of a state that overlap are one."""
+    """Draw the attempts of a group. Overlapping spans of one color and state are merged."""
     result = []
     for tone in ORDER:
         of_tone = [attempt for attempt in attempts if tone_of(attempt) == tone]
@@ -144,12 +146,12 @@ def group_bar(title: str, attempts: list[AttemptTimes], at: Scale, top: float) -
             for span in merged(spans_by_state.get((state, is_person), []), at.now)
         )
         if parts:
-            title_text = escape(f"{title}: {number(len(of_tone), 'attempt')}, {SAID[tone]}")
+            title_text = escape(f"{title}: {number(len(of_tone), 'attempt')}, {TONE_WORDS[tone]}")
             result.append(f'<g class="run {tone}"><title>{title_text}</title>{parts}</g>')
     return "".join(result)
 
 
-SAID = {
+TONE_WORDS = {
     "waiting": "not called",
     "committed": "succeeded",
     "undone": "undone",
@@ -161,7 +163,7 @@ SAID = {
 
 
 def merged(spans: list[Span], now: float) -> list[Span]:
-    """Spans of one kind, with those that overlap as one."""
+    """Merge overlapping spans of one state."""
     result = list[Span]()
     for span in sorted(spans, key=lambda span_of_state: span_of_state.began):
         ended = now if span.ended is None else span.ended
@@ -174,7 +176,7 @@ def merged(spans: list[Span], now: float) -> list[Span]:
 
 
 def part(span: Span, at: Scale, top: float) -> str:
-    """A span: the higher, the more is done in it."""
+    """Draw a span. Its height shows how active the state is."""
     high = HIGH[span.state]
     wide = ((span.ended or at.now) - span.began) * at.scale
     wide = max(wide, 3.0 if span.state == "running" else 0.0)
@@ -188,7 +190,7 @@ def part(span: Span, at: Scale, top: float) -> str:
 
 
 def describe(attempt: AttemptTimes, now: float) -> str:
-    """An attempt in words."""
+    """Describe an attempt in words."""
     action = "compensation" if attempt.undo else "action"
     outcome = wording.OUTCOMES.get(attempt.outcome or "", "under way")
     after = f" after {wording.span((attempt.ended or now) - attempt.began)}"

@@ -1,4 +1,4 @@
-"""Labels and steps that a filter names and nothing has: they may be misspelt."""
+"""Warnings about labels and steps of a filter that nothing has: they may be misspelled."""
 
 from __future__ import annotations
 
@@ -12,20 +12,21 @@ from sagas.inspection.question import Query, Question
 from sagas.storage.filters import EVERYTHING, Filter
 
 MOST_NAMES, MOST_DEFINITIONS = 256, 256
-"""Names of labels, and definitions, among which the one is looked for that may be meant."""
+"""How many label names and definitions are searched for a similar name."""
 
 
 def of(
     filter: Filter, step: str | None = None, declared: Iterable[str] = ()
 ) -> Question[list[str]]:
-    """What is said of a filter that selects nothing: of its labels that no saga of its scope has,
-    and of its step, if no definition has that. In a scope nothing is said of names that others may
-    use.
+    """Return warnings about a filter that selects nothing.
+
+    They name labels that no saga of the filter's scope has, and the step if no definition has
+    it. In a restricted scope, names that others may use are not revealed.
 
     Args:
         filter: The filter.
-        step: The name of a step, or its declared name, that is asked for beside it.
-        declared: Names of steps that the program's definitions have, beside those of the store.
+        step: The name or declared name of a step that was also requested.
+        declared: Names of steps of the program's definitions, in addition to those of the store.
     """
     warnings, is_whole = list[str](), filter.scope == EVERYTHING
     if step is not None and is_whole and (why := (yield from _step(step, declared))):
@@ -43,7 +44,9 @@ def of(
 
 
 def _label_names() -> Question[list[str]]:
-    """The names of labels, one after the other by their index: there may be millions of labels."""
+    """Return the names of labels. Uses the index for each, because there may be millions of
+    labels.
+    """
     names, last = list[str](), ""
     while len(names) < MOST_NAMES:
         ((name,),) = yield Query("SELECT min(name) FROM labels WHERE name > ?", (last,))
@@ -55,7 +58,7 @@ def _label_names() -> Question[list[str]]:
 
 
 def _step(name: str, declared: Iterable[str]) -> Question[str | None]:
-    """What is said of a step that no definition has; None if one has it."""
+    """Return a warning if no definition has a step, else None."""
     known = {*declared}
     if name in known:
         return None

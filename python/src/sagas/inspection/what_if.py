@@ -1,4 +1,4 @@
-"""What a saga would come to if it were aborted now, or if one of its steps ended."""
+"""What an abort of a saga, or the end of one of its steps, would lead to now."""
 
 from __future__ import annotations
 
@@ -13,18 +13,21 @@ from sagas.inspection.views import SagaView, StepView
 
 MOST_LISTED = 8
 ENDS = {"running": "committed", "undoing": "undone"}
-"""How steps that are under way are taken to end."""
+"""The states in which active steps are assumed to end."""
 CALLED = ("external", "ordered", "unknown", "cannot_decode")
-"""What an attempt waits for that may have had its effect. Others are given up by an abort, and by
-a failure if the step may be attempted again."""
-TOLD = {"undo_failed": "fixed"}
-"""States that the program calls otherwise."""
+"""Reasons of suspended attempts that may have had their effect. Other attempts are given up by an
+abort, and by a failure if the step may be attempted again.
+"""
+PLANNER_STATES = {"undo_failed": "fixed"}
+"""States that have another name in the planner's format."""
 RECOVERS = ("failed", "undoing", "undone", "undo_failed")
 
 
 @dataclasses.dataclass(frozen=True, slots=True)
 class WhatIf:
-    """A plan that nobody goes by. `assumed`: how steps that are under way were taken to end."""
+    """A plan that is not executed. `assumed`: the states in which active steps were assumed to
+    end.
+    """
 
     plan: Plan
     assumed: dict[str, str]
@@ -33,9 +36,9 @@ class WhatIf:
 def of(
     view: SagaView, *, abort: bool = False, failed: str | None = None, done: str | None = None
 ) -> WhatIf:
-    """Plans for a saga as it stands, once it is aborted, or once a step has failed or is done.
+    """Compute the plan of a saga if it is aborted now, or if a step fails or succeeds.
 
-    Of a step that is being undone, `failed` and `done` mean its compensation.
+    If a step is being undone, `failed` and `done` are about its compensation.
 
     Raises:
         ValueError: The step has ended already, or there is no such step.
@@ -51,7 +54,9 @@ def of(
     if done is not None:
         assumed[done] = ENDS[states[done]]
     states |= _failed(view) | assumed
-    case: dict[str, object] = {"states": [TOLD.get(state, state) for state in states.values()]}
+    case: dict[str, object] = {
+        "states": [PLANNER_STATES.get(state, state) for state in states.values()]
+    }
     if aborted:
         case["aborted"] = True
     verdict = library.plan(view.definition, json.dumps(case))
@@ -60,8 +65,10 @@ def of(
 
 
 def _failed(view: SagaView) -> dict[str, str]:
-    """The steps of which a further attempt fails without a call, since an earlier one failed
-    permanently: for the engine they are still to be attempted.
+    """Return the steps whose next attempt fails without a call, because an earlier one failed
+    permanently.
+
+    For the engine, these are still to be attempted.
     """
     final = {
         (attempt.step, attempt.undo)
@@ -78,7 +85,9 @@ def _failed(view: SagaView) -> dict[str, str]:
 
 
 def _assumed(view: SagaView, aborted: bool) -> dict[str, str]:
-    """How each step ends that is under way: one that waits and was not called is given up."""
+    """Return how each active step is assumed to end. One that waits and was not called is given
+    up.
+    """
     waits = {entry.step: entry.why for entry in view.held if not entry.undo}
     tries = {entry.name: entry.tries for entry in listed_steps.of(view.definition)}
     assumed = {}
@@ -92,7 +101,7 @@ def _assumed(view: SagaView, aborted: bool) -> dict[str, str]:
 
 
 def describe(forecast: WhatIf) -> str:
-    """What would be done, for a person: "Undo car and hotel, keep flight: costs 15"."""
+    """Describe a plan, for example "Undo car and hotel, keep flight: costs 15"."""
     if forecast.plan.cost is None:
         because = " and ".join(forecast.plan.blocking_steps)
         return f"It would be stuck, because of {because}"
@@ -108,17 +117,17 @@ def describe(forecast: WhatIf) -> str:
 
 
 def describe_abort(view: SagaView) -> str:
-    """What an abort would do now."""
+    """Describe what an abort would do now."""
     return describe(of(view, abort=True))
 
 
 def describe_failure(view: SagaView, step: str) -> str:
-    """What becomes of a saga once a step, or its compensation, has failed permanently."""
+    """Describe what happens if a step, or its compensation, fails permanently."""
     return describe(of(view, failed=step))
 
 
 def describe_completion(view: SagaView, step: str) -> str:
-    """What becomes of a saga once a step, or its compensation, is done."""
+    """Describe what happens if a step, or its compensation, succeeds."""
     if view.aborted or any(other.state in RECOVERS for other in view.steps):
         return describe(of(view, done=step))
     done = {other.name for other in view.steps if other.state == "committed"} | {step}
@@ -131,12 +140,12 @@ def describe_completion(view: SagaView, step: str) -> str:
 
 
 def begins_with(waiting: StepView, done: set[str], step: str) -> bool:
-    """Whether a step begins now that one of its needs is the last to be done."""
+    """Return whether a step can begin because the last of its needs is done now."""
     return waiting.state == "waiting" and step in waiting.needs and done.issuperset(waiting.needs)
 
 
 def listed(names: list[str]) -> str:
-    """Names in a sentence; of many the first."""
+    """Return names as part of a sentence; of many names only the first."""
     if len(names) > MOST_LISTED:
         return f"{', '.join(names[:MOST_LISTED])} and {len(names) - MOST_LISTED} more"
     return " and ".join([", ".join(names[:-1]), names[-1]] if len(names) > 1 else names)

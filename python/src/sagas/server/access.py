@@ -1,7 +1,7 @@
 """Authentication, roles and rates of each request.
 
-`Resource` asks it by the headers alone: whoever may not is answered before a byte of the body is
-read.
+`Resource` checks the headers first: a request without permission is answered before a byte of
+its body is read.
 """
 
 from __future__ import annotations
@@ -20,17 +20,19 @@ from sagas.server.problems import Problem
 from sagas.server.service import Service
 
 PRINCIPAL_NAME = "sagas.who"
-"""In a scope: the name of whoever asks, for the log."""
+"""In a scope: the name of the principal, for the log."""
 PRINCIPAL = "sagas.owner"
-"""In a scope: the `Principal`, once the route has let the request in."""
+"""In a scope: the `Principal`, once the request is authorized."""
 SIZE = "sagas.size"
-"""In a scope: the bytes of the body, once it was read."""
+"""In a scope: the number of bytes of the body, once it was read."""
 HAS_SLOT = "sagas.place"
-"""In a scope: that the request has taken one of its token's places."""
+"""In a scope: whether the request occupies one of its token's slots."""
 ANY_TIME = ("/health/", "/ui/static/", LOGIN)
-"""Paths that are answered however many connections there are: at once, and without a token."""
+"""Paths that are answered regardless of the number of connections: they are fast and need no
+token.
+"""
 CHECK = "sagas.check"
-"""In a scope: a function that raises `Problem` where whoever asks may not do so any more."""
+"""In a scope: a function that raises `Problem` if the principal has lost the permission."""
 
 
 def service_of(request: Request) -> Service:
@@ -43,7 +45,7 @@ def address(request: Request) -> str:
 
 
 def authenticate(request: Request) -> Principal:
-    """Whose bearer token the request has. Raises `Problem`."""
+    """Return the principal of the request's bearer token. Raises `Problem`."""
     service = service_of(request)
     if service.tokens is None:
         return LOCAL_PRINCIPAL
@@ -70,18 +72,18 @@ def _why_not(service: Service, token: str) -> str:
 
 
 def count_request(request: Request, principal: Principal) -> None:
-    """Counts the request. Raises `Problem` where its maker makes too many."""
+    """Count the request. Raises `Problem` if its client exceeds the rate."""
     if not service_of(request).rates.take(client_key(request, principal)):
         raise Problem("TooManyRequests", "too many requests; wait a second")
 
 
 def client_key(request: Request, principal: Principal) -> str:
-    """What requests and streams are counted by: the token, or without tokens the address."""
+    """Return what requests and streams are counted by: the token, or without tokens the address."""
     return principal.digest or address(request)
 
 
 def occupy(request: Request, principal: Principal) -> None:
-    """Take one of the token's places, until the request is over. Raises `Problem`."""
+    """Take one of the token's slots until the request ends. Raises `Problem`."""
     CURRENT_CLIENT.set(client_key(request, principal))
     if HAS_SLOT not in request.scope:
         leave = service_of(request).places.take(client_key(request, principal), Kind.CONNECTION)
@@ -91,7 +93,7 @@ def occupy(request: Request, principal: Principal) -> None:
 
 @contextlib.contextmanager
 def waiting(request: Request, principal: Principal, kind: Kind) -> Iterator[None]:
-    """The request waits. Raises `Problem` where too many of the token do."""
+    """Count the request as waiting. Raises `Problem` if too many of the token wait."""
     leave = service_of(request).places.take(client_key(request, principal), kind)
     try:
         yield
@@ -100,7 +102,7 @@ def waiting(request: Request, principal: Principal, kind: Kind) -> Iterator[None
 
 
 def check_capacity(request: Request, is_operator: bool) -> None:
-    """Raises `Problem` where the places that are left are for health and for operators."""
+    """Raise `Problem` if the remaining connections are reserved for health checks and operators."""
     why = request.scope[CROWDING]
     if why and not is_operator and not request.scope["path"].startswith(ANY_TIME):
         raise Problem(
@@ -109,7 +111,10 @@ def check_capacity(request: Request, is_operator: bool) -> None:
 
 
 def authorize(request: Request, permission: Permission) -> Principal:
-    """Who asks, by the headers. Raises `Problem` where they do not say that this may be done."""
+    """Return the principal of a request.
+
+    Raises `Problem` if its headers do not prove the permission.
+    """
     principal = authenticate(request)
     request.scope[PRINCIPAL_NAME] = principal.name
     if not principal.has_permission(permission):
@@ -128,8 +133,11 @@ def authorize(request: Request, permission: Permission) -> Principal:
 
 
 async def body_of(request: Request) -> bytes:
-    """The whole body. Each route reads it by this, since it may take a while to come: raises
-    `Problem` where whoever sends it may not do so any more."""
+    """Return the whole body.
+
+    Each route reads its body by this function. A body may take long to arrive, so this raises
+    `Problem` if the principal has lost its permission since.
+    """
     body = b"".join([part async for part in request.stream()])  # the request would keep it
     request.scope[SIZE] = len(body)
     if CHECK in request.scope:
@@ -138,26 +146,30 @@ async def body_of(request: Request) -> bytes:
 
 
 def is_unchanged(request: Request, principal: Principal) -> bool:
-    """Whether the token is in its file as it was when it was looked up, and has not expired."""
+    """Return whether the token file still has the same entry for the token, and it has not
+    expired.
+    """
     tokens = service_of(request).tokens
     return tokens is None or tokens.of(principal.digest) == principal
 
 
 def check_unchanged(request: Request, principal: Principal) -> None:
-    """Raises `Problem` where the token has ended since the request was let in, or was changed."""
+    """Raise `Problem` if the token has expired or changed since the request was authorized."""
     if not is_unchanged(request, principal):
         authenticate(request)  # raises where it has ended
         raise rights_changed()
 
 
 def rights_changed() -> Problem:
-    """The token is there, and is kept to something else than it was."""
+    """Return the problem for a token whose rights have changed."""
     return Problem("RightsChanged", "the rights of your token have changed. Send the request again")
 
 
 def check_definition(principal: Principal, definition: str | None, starts: bool = True) -> None:
-    """Raises `Problem` where sagas of this definition are not the token's to see. `starts`: they
-    are to be started, and not only to be looked at; no caller starts those that undo children."""
+    """Raise `Problem` if the token has no right to sagas of this definition.
+
+    `starts`: whether sagas are to be started. No caller starts sagas that undo children.
+    """
     sees = principal.sees if starts else principal.scope.may_have
     if definition is not None and not sees(definition):
         raise Problem(
@@ -166,13 +178,13 @@ def check_definition(principal: Principal, definition: str | None, starts: bool 
 
 
 def check_key(principal: Principal, key: str) -> None:
-    """Raises `Problem` where sagas with this key are not the token's to start."""
+    """Raise `Problem` if the token may not start sagas with this key."""
     if not principal.scope.has_key(key):
         raise Problem("Forbidden", f"{principal.name} has no right to the key {key[:64]!r}")
 
 
 def check_steps(principal: Principal, steps: list[str]) -> None:
-    """Raises `Problem` where tasks of some of these steps are not the token's to take."""
+    """Raise `Problem` if the token may not claim tasks of some of these steps."""
     forbidden = sorted({step for step in steps if not principal.does(step)})
     if forbidden:
         listed = ", ".join(forbidden[:10]) + (" .." if forbidden[10:] else "")
@@ -180,5 +192,5 @@ def check_steps(principal: Principal, steps: list[str]) -> None:
 
 
 def unslashed(text: str) -> str:
-    """A part of a path, with its own slashes."""
+    """Return a part of a path with its own slashes."""
     return text.replace(SLASH, "/")

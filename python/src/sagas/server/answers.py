@@ -1,4 +1,4 @@
-"""Shapes of what the API answers, as the OpenAPI document has them."""
+"""Shapes of the API's responses, as in the OpenAPI document."""
 
 from __future__ import annotations
 
@@ -41,7 +41,7 @@ KINDS = (
     "damaged",
     "approval",
 )
-"""What needs a person."""
+"""What needs an operator."""
 NAME = Text(most=32, pattern=DEFINITION.pattern)
 COUNT = Number(least=0, whole=True)
 SECONDS = Number()
@@ -50,7 +50,7 @@ MAYBE = Nullable(Text())
 
 
 def time(name: str, description: str, nullable: bool = False) -> dict[str, Field]:
-    """A time in seconds, and beside it as text."""
+    """Return two fields for a time: in seconds, and as text."""
     seconds: Shape = Nullable(SECONDS) if nullable else SECONDS
     text: Shape = Nullable(Text(form="date-time")) if nullable else Text(form="date-time")
     return {

@@ -59,18 +59,19 @@ PAGES = [
 
 
 def operations() -> list[Operation]:
-    """All of the API."""
+    """Return all operations of the API."""
     return [operation for routes in API for operation in routes.operations]
 
 
 def answered(request: Request, problem: Problem) -> Response:
-    """A problem of a call."""
+    """Return the response for a problem of an API call."""
     return problems.response(problem)
 
 
 class Paths:
-    """The router, and before it the paths that have no parts of their own: each is found at once,
-    where the router would look at each path before it.
+    """A router that looks up fixed paths directly.
+
+    The wrapped router would compare a request with each path in turn.
     """
 
     def __init__(self, routes: list[Route]) -> None:
@@ -87,19 +88,19 @@ class Paths:
 
 
 async def no_such_path(scope: Scope, receive: Receive, send: Send) -> None:
-    """There is no such path."""
+    """Answer that the path does not exist."""
     await problems.response(not_found())(scope, receive, send)
 
 
 def application(settings: Settings, connections: Connections | None = None) -> tuple[App, Service]:
-    """The application over a store, which whoever serves it opens and closes."""
+    """Return the application over a store. The server opens and closes the store."""
     service, routes = Service(settings), resources([*API, *PAGES], answered, refused)
     service.pages = [route.path_regex for route in routes if is_shown(route)]
     return Guard(Paths(routes), service, connections), service
 
 
 def is_shown(route: Route) -> bool:
-    """Whether it is a page that a person looks at."""
+    """Return whether a route is a page that users visit."""
     is_page = route.path == DASHBOARD or route.path.startswith(f"{DASHBOARD}/")
     is_aside = route.path in (LOGIN, f"{DASHBOARD}/events", f"{DASHBOARD}/static/{{name}}")
     return is_page and not is_aside and "GET" in getattr(route.app, "operations", ())

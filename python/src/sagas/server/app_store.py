@@ -1,4 +1,4 @@
-"""What `--app` names: sagas, or a store, whose options the service takes over."""
+"""The value that `--app` names: sagas, or a store with options for the service."""
 
 from __future__ import annotations
 
@@ -12,21 +12,21 @@ from sagas.api.sync_store import SyncStore
 from sagas.definition.saga import Saga
 
 NOT_TAKEN_OVER = ("path", "sagas", "accept_new", "clock")
-"""Arguments of `sagas.open` that the service does not take over: it has its own."""
+"""Arguments of `sagas.open` that the service does not take over, because it has its own."""
 REFUSED = ("accept_new", "clock")
-"""Those of them of which that is said."""
+"""Those arguments that are rejected if a store has them."""
 
 
 class AppStore:
-    """What a module has for a service.
+    """The sagas and options that a module provides for a service.
 
     Attributes:
         sagas: The definitions that are executed.
-        options: Of a store, the arguments of `sagas.open` that are no defaults.
+        options: The arguments of `sagas.open` that differ from their defaults, if it is a store.
     """
 
     def __init__(self, location: str, value: Any) -> None:
-        """`location`: where it is, for messages.
+        """`location`: the module and name, for messages.
 
         Raises:
             ValueError: It is something else, or has an option that the service cannot take over.
@@ -49,7 +49,7 @@ class AppStore:
 
 
 def _options_of(location: str, store: Store) -> dict[str, Any]:
-    """The options of a store that are no defaults. Raises `ValueError`."""
+    """Return the options of a store that differ from their defaults. Raises `ValueError`."""
     defaults = inspect.signature(opening.open).parameters
     set_options = {
         name: value

@@ -39,13 +39,13 @@ KEYS = (
 NAME = r"[a-z][a-z0-9_-]{0,31}"
 DEFINITION = re.compile(NAME)
 STEP = re.compile(rf"({NAME})/({NAME})(/undo)?")
-"""A definition's step, or its compensation: as workers ask for it."""
+"""A definition's step or its compensation, as workers request it."""
 KEY = re.compile(r"(?!.*/:)[^*]{0,511}(?:[^*]|\*)")
-"""A key, or with a `*` at the end what keys begin with."""
+"""A key, or with a `*` at the end a prefix of keys."""
 
 
 class Permission(enum.Enum):
-    """What a token may be good for. A route asks for one of these."""
+    """What a token can permit. Each route requires one of these."""
 
     LOOK = "look at sagas"
     START = "start and abort sagas"
@@ -62,7 +62,7 @@ ROLES = {
     "operator": frozenset(Permission),
     "metrics": frozenset({Permission.MEASURE}),
 }
-"""What each role may."""
+"""The permissions of each role."""
 
 
 class TokenFault(Exception):
@@ -71,10 +71,15 @@ class TokenFault(Exception):
 
 @dataclasses.dataclass(frozen=True, slots=True)
 class Limits:
-    """What a token is kept to. None: it is not.
+    """Restrictions of a token. None: no restriction.
 
-    `scope`: the sagas that it sees; `steps`: those of workers that it takes tasks of;
-    `expires`: when it ends; `open_sagas`, `open_bytes`: its quota, None: the service's."""
+    Attributes:
+        scope: The sagas that it may see.
+        steps: The steps whose tasks it may claim.
+        expires: When it expires.
+        open_sagas: Its quota of open sagas. None: the service's default.
+        open_bytes: Its quota of input bytes. None: the service's default.
+    """
 
     scope: Scope = EVERYTHING
     steps: frozenset[str] | None = None
@@ -85,8 +90,10 @@ class Limits:
 
 @dataclasses.dataclass(frozen=True, slots=True)
 class Principal:
-    """Somebody with a token. An operator may do what callers, approvers and workers may, and read
-    the metrics."""
+    """The owner of a token, with its roles and limits.
+
+    An operator has the permissions of callers, approvers and workers, and may read the metrics.
+    """
 
     name: str
     roles: frozenset[str]
@@ -94,36 +101,39 @@ class Principal:
     limits: Limits = Limits()
 
     def has_permission(self, permission: Permission) -> bool:
+        """Return whether one of the roles has a permission."""
         return any(permission in ROLES[role] for role in self.roles)
 
     @property
     def definitions(self) -> frozenset[str] | None:
-        """The definitions that it sees; None: all."""
+        """Return the definitions that it may see. None: all."""
         return self.scope.definitions
 
     @property
     def scope(self) -> Scope:
-        """The sagas that it sees."""
+        """Return the sagas that it may see."""
         return self.limits.scope
 
     def sees(self, definition: str | None) -> bool:
-        """Whether sagas of this definition are its to see; what is of none is for those who see
-        all."""
+        """Return whether it may see sagas of this definition.
+
+        An event without a definition is visible only to principals that see all.
+        """
         return self.scope.has_definition(definition)
 
     def sees_event(self, event: Event) -> bool:
-        """Whether an event is of a saga that is its to see."""
+        """Return whether it may see the saga of an event."""
         return self.scope.has_saga(event.saga, event.key)
 
     def does(self, step: str) -> bool:
-        """Whether tasks of a step, `saga/step` or `saga/step/undo`, are its to take."""
+        """Return whether it may claim tasks of a step (`saga/step` or `saga/step/undo`)."""
         return self.sees(step.partition("/")[0]) and (
             self.limits.steps is None or step in self.limits.steps
         )
 
     @property
     def is_over(self) -> bool:
-        """Whether its token has expired."""
+        """Return whether its token has expired."""
         return (
             self.limits.expires is not None
             and datetime.datetime.now(datetime.timezone.utc) >= self.limits.expires
@@ -131,11 +141,11 @@ class Principal:
 
 
 LOCAL_PRINCIPAL = Principal("local", frozenset(ROLES))
-"""Whoever comes over the loopback where there are no tokens."""
+"""The principal of local connections if there is no token file."""
 
 
 ANONYMOUS = Principal("nobody", frozenset())
-"""Whoever asks for what needs no token: may do nothing else."""
+"""The principal of requests that need no token. It has no permissions."""
 
 
 def digest_of(token: str) -> str:
@@ -143,13 +153,16 @@ def digest_of(token: str) -> str:
 
 
 def read(path: pathlib.Path) -> dict[str, Principal]:
-    """The token file: tables `[[token]]`, each with `name`, `roles`, and `sha256`, the token's
-    digest. Raises `TokenFault`."""
+    """Read the token file: tables `[[token]]` with `name`, `roles` and `sha256`, the token's
+    digest.
+
+    Raises `TokenFault`.
+    """
     return _found(path, _text_of(path))
 
 
 def _text_of(path: pathlib.Path) -> str:
-    """Raises `TokenFault`."""
+    """Return the file's text. Raises `TokenFault`."""
     try:
         private_files.check(path)
         return path.read_text(encoding="utf-8")
@@ -158,7 +171,7 @@ def _text_of(path: pathlib.Path) -> str:
 
 
 def _found(path: pathlib.Path, text: str) -> dict[str, Principal]:
-    """The tokens of the file's text. Raises `TokenFault`."""
+    """Return the tokens in the file's text, by digest. Raises `TokenFault`."""
     try:
         document = tomllib.loads(text)
     except tomllib.TOMLDecodeError as error:
@@ -179,7 +192,7 @@ def _found(path: pathlib.Path, text: str) -> dict[str, Principal]:
 
 
 def _read_one(entry: Any) -> Principal:
-    """The owner of a token. Raises `ValueError`."""
+    """Return the principal of a table. Raises `ValueError`."""
     unknown = sorted(set(entry) - set(KEYS)) if isinstance(entry, dict) else ["?"]
     if unknown:  # a limit that is misspelt would be none
         raise ValueError(f"unknown key {unknown[0]!r}; the keys are {', '.join(KEYS)}")
@@ -203,7 +216,7 @@ def _read_one(entry: Any) -> Principal:
 
 
 def limits_of(roles: Collection[str], table: Mapping[str, Any]) -> Limits:
-    """What a token of these roles is kept to. Raises `ValueError`."""
+    """Return the restrictions of a token with these roles. Raises `ValueError`."""
     names = _listed("definitions", table, DEFINITION, "names of definitions")
     keys = _listed("keys", table, KEY, "keys, or beginnings of keys with * at the end, without /:")
     steps = _listed("steps", table, STEP, "DEFINITION/STEP or DEFINITION/STEP/undo")
@@ -248,7 +261,7 @@ def _count(key: str, table: Mapping[str, Any], roles: Collection[str]) -> int | 
 
 
 def _moment(value: Any) -> datetime.datetime | None:
-    """A moment with its offset, by a TOML time or a text."""
+    """Return a moment with an offset from a TOML time or a text."""
     if value is None:
         return None
     try:
@@ -261,11 +274,13 @@ def _moment(value: Any) -> datetime.datetime | None:
 
 
 def make(path: pathlib.Path, name: str, roles: list[str], limits: Limits = Limits()) -> str:
-    """Makes a token, and puts its digest into the file. One that is made is its user's alone, and
-    no link is followed. Gives the token, which is kept nowhere.
+    """Create a token and append its digest to the file. Returns the token, which is not stored.
 
-    Raises `TokenFault` where the file is invalid, or would be: then it is as it was. Raises
-    `OSError` where it cannot be written.
+    A new file is readable only by its user. Symbolic links are not followed.
+
+    Raises:
+        TokenFault: The file is invalid, or would become invalid. It is unchanged.
+        OSError: The file cannot be written.
     """
     token = f"sagas_{secrets.token_urlsafe(32)}"
     if path.is_symlink():
@@ -302,9 +317,10 @@ def _list_of(texts: Iterable[str]) -> str:
 
 
 class Tokens:
-    """The tokens of a file, which is read again when it changes. A file that cannot be read any
-    more leaves those that were there, and is read again at each look: what repairs it need not
-    change it, as `chown` does not.
+    """The tokens of a file. A changed file is read again.
+
+    If the file becomes unreadable, the previous tokens stay valid, and the file is read again
+    at each check. A repair need not change the file's time stamp: `chown` does not.
     """
 
     def __init__(self, path: pathlib.Path, complain: Callable[[str], None]) -> None:
@@ -320,18 +336,19 @@ class Tokens:
         return status.st_mtime_ns, status.st_size, status.st_ino
 
     def find(self, token: str) -> Principal | None:
-        """Whose token it is. It is looked up by its digest, so that no time tells of a part of
-        it.
+        """Return the owner of a token.
+
+        Tokens are compared by digest, so response times reveal nothing about a token.
         """
         return self.of(digest_of(token))
 
     def of(self, digest: str) -> Principal | None:
-        """Whose token has this digest; None where it has expired."""
+        """Return the owner of the token with this digest, or None if it is not valid."""
         principal = self._of(digest)
         return None if principal is None or principal.is_over else principal
 
     def has_expired(self, token: str) -> bool:
-        """Whether it was a right one."""
+        """Return whether it is a known token that has expired."""
         principal = self._of(digest_of(token))
         return principal is not None and principal.is_over
 
@@ -357,26 +374,28 @@ class Tokens:
 
 @dataclasses.dataclass(slots=True)
 class Session:
-    """Somebody at the page. `csrf` goes with each form."""
+    """A dashboard session. `csrf` is sent with each form."""
 
     principal: Principal
     csrf: str
     until: float
 
     def sent(self, csrf: str) -> bool:
-        """Whether a form is this session's own."""
+        """Return whether a form belongs to this session."""
         return hmac.compare_digest(self.csrf.encode(), csrf.encode(errors="replace"))
 
 
 class Sessions:
-    """The sessions of the page, in memory: a restart ends them. The oldest gives way."""
+    """The dashboard's sessions, in memory. A restart ends them. If there are too many, the oldest
+    ends.
+    """
 
     def __init__(self, seconds: float) -> None:
         self.seconds = seconds
         self._there: OrderedDict[str, Session] = OrderedDict()
 
     def begin(self, principal: Principal) -> tuple[str, Session]:
-        """A new session; gives the cookie's value."""
+        """Start a session. Returns the cookie's value and the session."""
         name = secrets.token_urlsafe(32)
         session = self._there[digest_of(name)] = Session(
             principal, secrets.token_urlsafe(32), time.monotonic() + self.seconds
@@ -386,7 +405,7 @@ class Sessions:
         return name, session
 
     def find(self, name: str) -> Session | None:
-        """The session of a cookie."""
+        """Return the session of a cookie, or None."""
         session = self._there.get(digest_of(name))
         if session and session.until < time.monotonic():
             self.end(name)
@@ -398,16 +417,14 @@ class Sessions:
 
 
 class Rates:
-    """How many requests each may still make: a bucket that fills at a rate, up to two seconds'
-    worth, and up to one at least.
-    """
+    """Token buckets of clients: each fills at a rate, up to two seconds' worth and at least 1."""
 
     def __init__(self, rate: float, most: int = 10_000) -> None:
         self.rate, self.most, self._size = rate, most, max(1.0, 2 * rate)
         self._there: OrderedDict[str, tuple[float, float]] = OrderedDict()
 
     def take(self, name: str) -> bool:
-        """Whether one more request is within the rate."""
+        """Return whether one more request is within the rate."""
         now = time.monotonic()
         available, at = self._there.pop(name, (self._size, now))
         available = min(self._size, available + (now - at) * self.rate)

@@ -21,9 +21,12 @@ async def first(
     seconds: float,
     *ends: "asyncio.Future[None]",
 ) -> bool:
-    """Waits for a piece of work, but no longer than the client, its token and the service are
-    there, and until one of the `ends` is done, or the client sends something else. Whether it is
-    done; else it is cancelled, to its end. Raises `Problem` where the token has ended."""
+    """Wait for work until the client, its token or the service ends.
+
+    The wait also ends when one of the `ends` is done, or the client sends something else.
+    Returns whether the work is done. Otherwise, it is cancelled and awaited. Raises `Problem`
+    if the token has expired or changed.
+    """
     service, loop = service_of(request), asyncio.get_running_loop()
     futures = {work, request.scope[GONE], request.scope[FOLLOWED], service.stopping, *ends}
     slice = seconds if service.tokens is None else min(seconds, CHECK)
@@ -42,7 +45,7 @@ async def first(
 
 
 async def _any_done(futures: "set[asyncio.Future[Any]]", seconds: float) -> bool:
-    """Whether one of them is done, at the latest after this time."""
+    """Return whether one of the futures is done within a time."""
     done, _ = await asyncio.wait(
         futures, timeout=max(0.0, seconds), return_when=asyncio.FIRST_COMPLETED
     )

@@ -1,7 +1,7 @@
-"""`sagas serve` and `sagas token`.
+"""The commands `sagas serve` and `sagas token`.
 
-`sagas serve STORE --definitions DIR`: the coordinator as a service; `sagas token FILE NAME
-ROLE..`: a token for it.
+`sagas serve STORE --definitions DIR` runs the coordinator as a service. `sagas token FILE NAME
+ROLE...` creates a token for it.
 """
 
 from __future__ import annotations
@@ -44,12 +44,13 @@ from sagas.storage import blob_option, factory
 
 GOOD, NO, USAGE, CANNOT, OVERDUE, INTERRUPTED = 0, 1, 2, 4, 5, 130
 GARBAGE = 5000
-"""Objects that are made, beyond those that went, before Python looks for cycles: requests leave
-few, and to look at each 700 takes a sixth of the processor's time.
+"""Net allocations before Python's cycle collector runs. Requests leave few cycles, and the default
+of 700 costs a sixth of the processor's time.
 """
 SWITCH = 0.0005
-"""Seconds after which a thread that computes lets the event loop go on. By default, 0.005, a small
-request waits for that several times."""
+"""Seconds after which a computing thread yields to the event loop. With the default of 0.005, a
+small request waits for that several times.
+"""
 PACKAGES = "python3-starlette, python3-uvicorn, python3-jinja2 and python3-prometheus-client"
 
 
@@ -60,11 +61,11 @@ PLACES = (
     ("--most-token-connections", 500, "connections of one token with a request"),
     ("--most-address-connections", 1000, "connections of one address, except of trusted proxies"),
 )
-"""Options of what there may be at once. Without a token file they hold for each address."""
+"""Options for limits on concurrency. Without a token file, they apply to each address."""
 
 
 class Trouble(Exception):
-    """What ends the command with a line on standard error."""
+    """An error that ends the command with a line on standard error."""
 
 
 SERVE_ENDING = """\
@@ -89,7 +90,7 @@ Exit status:
 
 
 def parser() -> argparse.ArgumentParser:
-    """The words of `sagas serve`."""
+    """Return the parser of `sagas serve`."""
     result = argparse.ArgumentParser(
         prog="sagas serve",
         description="Serve a store over HTTP: sagas, tasks for workers, and a dashboard.",
@@ -139,7 +140,7 @@ OF_APP = "default: that of a store of --app,"
 
 
 def add_sagas(result: argparse.ArgumentParser) -> None:
-    """What is served."""
+    """Add the options for what is served."""
     result.add_argument(
         "--definitions",
         type=pathlib.Path,
@@ -218,7 +219,7 @@ def add_webhooks(result: argparse.ArgumentParser) -> None:
 
 
 def add_access(result: argparse.ArgumentParser) -> None:
-    """Where it listens, and to whom."""
+    """Add the options for the address and for access."""
     result.add_argument(
         "--listen",
         default="127.0.0.1:8080",
@@ -243,7 +244,7 @@ def add_access(result: argparse.ArgumentParser) -> None:
 
 
 def add_limits(result: argparse.ArgumentParser) -> None:
-    """The limits of requests."""
+    """Add the options for limits of requests."""
     result.add_argument(
         "--most-body",
         type=integer_from(1),
@@ -299,7 +300,7 @@ def add_limits(result: argparse.ArgumentParser) -> None:
 
 
 def networks_of(text: str) -> tuple[Network, ...]:
-    """Networks, or single addresses, with commas between. Raises `argparse.ArgumentTypeError`."""
+    """Return comma-separated networks or addresses. Raises `argparse.ArgumentTypeError`."""
     try:
         return tuple(
             ipaddress.ip_network(network.strip()) for network in text.split(",") if network.strip()
@@ -311,7 +312,7 @@ def networks_of(text: str) -> tuple[Network, ...]:
 
 
 def listen_of(text: str) -> tuple[str, int]:
-    """Host and port. Raises `Trouble`."""
+    """Return host and port. Raises `Trouble`."""
     host, separator, port = text.rpartition(":")
     if not separator or not re.fullmatch("[0-9]{1,5}", port) or int(port) > 65535:
         raise Trouble(f"invalid --listen {text!r}: use HOST:PORT, for example 127.0.0.1:8080")
@@ -319,7 +320,7 @@ def listen_of(text: str) -> tuple[str, int]:
 
 
 def loaded(option: str, location: str) -> Any:
-    """What a module has by a name. Raises `Trouble`."""
+    """Return the value of a name in a module. Raises `Trouble`."""
     try:
         return module_values.loaded(option, location)
     except ValueError as error:
@@ -327,7 +328,7 @@ def loaded(option: str, location: str) -> Any:
 
 
 def blobs_of(location: str | None) -> Any:
-    """The blob store of an option. Raises `Trouble`."""
+    """Return the blob store of an option. Raises `Trouble`."""
     try:
         return None if location is None else blob_option.blobs_of(location)
     except ValueError as error:
@@ -335,7 +336,7 @@ def blobs_of(location: str | None) -> Any:
 
 
 def app_of(location: str | None) -> AppStore | None:
-    """What a module has for the service. Raises `Trouble`."""
+    """Return what a module provides for the service. Raises `Trouble`."""
     try:
         return None if location is None else AppStore(location, loaded("--app", location))
     except ValueError as error:
@@ -343,7 +344,10 @@ def app_of(location: str | None) -> AppStore | None:
 
 
 def options_of(parsed: argparse.Namespace, app: AppStore | None) -> dict[str, Any]:
-    """How the store is opened: as the options say, else as a store of `--app`. Raises `Trouble`."""
+    """Return the options of the store: those of the command, else those of a store of `--app`.
+
+    Raises `Trouble`.
+    """
     result = dict(app.options) if app else {}
     set_options = {
         "concurrency": parsed.concurrency,
@@ -370,7 +374,7 @@ def options_of(parsed: argparse.Namespace, app: AppStore | None) -> dict[str, An
 
 
 def settings_of(parsed: argparse.Namespace) -> Settings:
-    """What the words come to. Raises `Trouble`, `DefinitionError`."""
+    """Return the settings from the parsed arguments. Raises `Trouble`, `DefinitionError`."""
     host, port = listen_of(parsed.listen)
     if parsed.token_file is not None and not parsed.token_file.exists():
         raise Trouble(
@@ -431,7 +435,7 @@ def settings_of(parsed: argparse.Namespace) -> Settings:
 
 
 def serve(options: argparse.Namespace) -> int:
-    """Serves until it is asked to stop."""
+    """Serve until a signal stops the service."""
     try:
         from sagas.server.uvicorn_server import run
     except ImportError as error:
@@ -472,7 +476,7 @@ def serve(options: argparse.Namespace) -> int:
 
 
 def overdue() -> None:
-    """Ends the process, whose stop has taken too long."""
+    """End the process because its stop takes too long."""
     logging.getLogger("sagas.server").critical(
         "the stop has taken too long: the process ends without it. What was acknowledged is stored"
     )
@@ -481,9 +485,7 @@ def overdue() -> None:
 
 
 def main(argv: list[str]) -> int:
-    """Runs `sagas serve`; gives its status: 0 stopped, 1 a definition, 2 usage, 4 a file,
-    130 interrupted while it starts.
-    """
+    """Run `sagas serve` and return its exit status. `SERVE_ENDING` lists the statuses."""
     try:
         return serve(parser().parse_args(argv))
     except Trouble as trouble:
@@ -501,7 +503,7 @@ def main(argv: list[str]) -> int:
 
 
 def token_parser() -> argparse.ArgumentParser:
-    """The words of `sagas token`."""
+    """Return the parser of `sagas token`."""
     result = argparse.ArgumentParser(
         prog="sagas token",
         description="Print a new token, and add its digest to a token file.",
@@ -559,7 +561,7 @@ def token_parser() -> argparse.ArgumentParser:
 
 
 def token(argv: list[str]) -> int:
-    """Runs `sagas token`: prints a new token, and puts its digest into the file."""
+    """Run `sagas token`: print a new token, and add its digest to the file."""
     options = token_parser().parse_args(argv)
     if not options.name.isprintable() or not 0 < len(options.name) <= 64:
         print("sagas token: invalid name: use 1 to 64 printable characters", file=sys.stderr)

@@ -26,18 +26,21 @@ from sagas.server.auth import LOCAL_PRINCIPAL, Permission, Session, Principal
 from sagas.server.problems import Problem
 
 COOKIE = "sagas_session"
-"""The session's cookie, before the port."""
+"""The name of the session's cookie, before the port."""
 
 
 def cookie_of(request: Request) -> str:
-    """The cookie's name, with the port that the browser asks: browsers send the cookies of a host
-    to all of its ports, and another service may have one of them."""
+    """Return the cookie's name, with the port that the browser uses.
+
+    Browsers send the cookies of a host to all of its ports, and another service may use one of
+    them.
+    """
     port = request.headers.get("host", "").rpartition("]")[2].partition(":")[2]
     return f"{COOKIE}_{port}" if port.isascii() and port.isdigit() and len(port) < 6 else COOKIE
 
 
 def session_of(request: Request) -> Session | None:
-    """The session of an operator, with what its token says now; None where there is none."""
+    """Return the session of an operator with the current rights of its token, or None."""
     session = current_session(request)
     if session is not None:
         request.scope[PRINCIPAL_NAME], request.scope[PRINCIPAL] = (
@@ -51,7 +54,7 @@ def session_of(request: Request) -> Session | None:
 
 
 def current_session(request: Request) -> Session | None:
-    """As `session_of`, without a count of it."""
+    """Return the same as `session_of`, without counting the request."""
     service = service_of(request)
     session = service.sessions.find(request.cookies.get(cookie_of(request), ""))
     if session is None:
@@ -66,8 +69,9 @@ def current_session(request: Request) -> Session | None:
 
 
 def check_unchanged(request: Request, principal: Principal) -> None:
-    """Raises `Problem` where the session has ended since the request was let in, or its token was
-    changed."""
+    """Raise `Problem` if the session has ended since the request was authorized, or its token
+    changed.
+    """
     session = current_session(request)
     if session is None:
         raise expired_form()
@@ -76,7 +80,7 @@ def check_unchanged(request: Request, principal: Principal) -> None:
 
 
 def expired_form() -> Problem:
-    """A form is of no session, or of another one."""
+    """Return the problem for a form that does not belong to the session."""
     return Problem(
         "ExpiredForm",
         "this form is not of your session any more: go back, load the page again, and send it "
@@ -85,7 +89,7 @@ def expired_form() -> Problem:
 
 
 def viewer_of(request: Request) -> Principal:
-    """Who looks at a page that is not `login_redirect`."""
+    """Return the principal that views a page, after `login_redirect` has let the request pass."""
     principal: Principal = (
         request.scope.get(PRINCIPAL, LOCAL_PRINCIPAL)
         if service_of(request).tokens is None
@@ -95,7 +99,7 @@ def viewer_of(request: Request) -> Principal:
 
 
 def begin(request: Request, response: Response, principal: Principal) -> Session:
-    """A new session, and its cookie."""
+    """Start a session and set its cookie."""
     name, session = service_of(request).sessions.begin(principal)
     response.set_cookie(
         cookie_of(request),
@@ -112,7 +116,7 @@ def begin(request: Request, response: Response, principal: Principal) -> Session
 def page(
     request: Request, template: str, session: Session | None, status: int = 200, **values: Any
 ) -> HTMLResponse:
-    """A page of this template."""
+    """Return a page of this template."""
     service = service_of(request)
     defaults: dict[str, Any] = {"here": "", "tokens": service.tokens is not None}
     all_values = {**defaults, "session": session, **values}
@@ -120,8 +124,10 @@ def page(
 
 
 def login_first(request: Request) -> Response:
-    """To the login, and back to the very address that was asked for: a part of its path that is
-    decoded may have a `#`, a `?` or a `%`."""
+    """Redirect to the login, and from there back to the requested address.
+
+    A decoded part of the path may contain `#`, `?` or `%`, so the raw path is used.
+    """
     target: bytes = request.scope["raw_path"]
     if query := request.scope["query_string"]:
         target += b"?" + query
@@ -130,7 +136,7 @@ def login_first(request: Request) -> Response:
 
 
 def show_page(request: Request, template: str, status: int = 200, **values: Any) -> Response:
-    """The page for whoever is logged in; over the loopback without tokens everybody is."""
+    """Return a page for the logged-in user. Without tokens, every local user is logged in."""
     session = session_of(request)
     if session is not None:
         return page(request, template, session, status, **values)
@@ -144,19 +150,21 @@ def show_page(request: Request, template: str, status: int = 200, **values: Any)
 
 
 def login_redirect(request: Request) -> Response | None:
-    """What somebody gets who has to log in first."""
+    """Return a redirect to the login if there is no session, else None."""
     if service_of(request).tokens is None or session_of(request) is not None:
         return None
     return login_first(request)
 
 
 async def form_of(request: Request) -> dict[str, str]:
-    """The words of a form. Raises `Problem`."""
+    """Return the fields of a form. Raises `Problem`."""
     return dict(await fields_of(request, 20))
 
 
 async def fields_of(request: Request, most: int) -> list[tuple[str, str]]:
-    """The fields of a form in their order, of which some may be there again. Raises `Problem`."""
+    """Return the fields of a form in their order. A name may occur more than once. Raises
+    `Problem`.
+    """
     kind = request.headers.get("content-type", "").partition(";")[0].strip()
     if kind != "application/x-www-form-urlencoded":
         raise Problem("UnsupportedMediaType", "a form is application/x-www-form-urlencoded")
@@ -168,14 +176,17 @@ async def fields_of(request: Request, most: int) -> list[tuple[str, str]]:
 
 
 async def sent(request: Request) -> tuple[Session, dict[str, str]]:
-    """The session of a form, and its words. Raises as `sent_fields`."""
+    """Return the session of a form, and its fields. Raises the same as `sent_fields`."""
     session, fields = await sent_fields(request, 20)
     return session, dict(fields)
 
 
 async def sent_fields(request: Request, most: int) -> tuple[Session, list[tuple[str, str]]]:
-    """The session of a form, and its fields. Raises `Problem` where the form is not the session's
-    own: without a session before it is read."""
+    """Return the session of a form, and its fields in order.
+
+    Raises `Problem` if the form does not belong to the session. Without a session, the form is
+    not read.
+    """
     session = session_of(request)
     fields = await fields_of(request, most) if session else []
     if session is None or not session.sent(dict(fields).get("csrf", "")):
@@ -184,7 +195,7 @@ async def sent_fields(request: Request, most: int) -> tuple[Session, list[tuple[
 
 
 def refused(request: Request, problem: Problem) -> Response:
-    """A page that says why a request was not carried out."""
+    """Return a page that says why a request was not carried out."""
     session = None
     with contextlib.suppress(Problem):
         session = session_of(request)

@@ -1,22 +1,19 @@
-"""Definitions from a folder: `NAME.toml` and `NAME.service.toml`.
+"""Definitions from a directory: `NAME.toml` and `NAME.service.toml`.
 
-Sagas from a folder of definitions: `NAME.toml` (docs/FORMATS.md), and beside it, where wanted,
-`NAME.service.toml`.
-
-The second says of steps what a definition has no words for:
+`NAME.toml` is a definition (docs/FORMATS.md). The optional `NAME.service.toml` next to it has
+what a definition cannot express:
 
     [step.review]
-    kind = "approval"        # a person says how it ends; "wait": its time has to come; "work"
-    (where nothing is said): a worker does it
-    timeout = 86400          # of an approval: seconds after which it has failed
-    until = 3600             # of a wait: seconds from when its needs are done
-    backoff = { initial = 1, maximum = 60, multiplier = 2, jitter = 0.1 }  # between tries
-    max_unknown = 5         # after so many unknown outcomes a person has to say
-    concurrency = 4          # so many workers have it at once, at most
+    kind = "approval"        # an operator decides; "wait": a timer; "work" (the default): a worker
+    timeout = 86400          # of an approval: seconds after which it fails
+    until = 3600             # of a wait: seconds from the time when its needs are done
+    backoff = { initial = 1, maximum = 60, multiplier = 2, jitter = 0.1 }  # between attempts
+    max_unknown = 5          # unknown outcomes after which an operator must report the step
+    concurrency = 4          # maximum number of workers that have it at once
     on_exhausted = "ask"     # after the last attempt: fail (the default), ask or retry
     undo_on_exhausted = "ask"  # the same of its compensation, by default ask
-    max_attempts = 20        # of the step, where 9 are too few
-    early_unused = "compensate"  # an early report that is not used: ask (the default), compensate
+    max_attempts = 20        # of the step, if 9 are too few
+    early_unused = "compensate"  # an unused early report: ask (the default) or compensate
 """
 
 from __future__ import annotations
@@ -57,8 +54,10 @@ KEYS = {
 
 
 class Fault(Exception):
-    """Something is wrong with a definition, at this path of its text; or, where `beside`, of the
-    file beside it."""
+    """An error in a definition, at this path of its text.
+
+    `beside`: the error is in the service file.
+    """
 
     def __init__(self, text: str, *path: str | int, beside: bool = False) -> None:
         super().__init__(text)
@@ -66,7 +65,7 @@ class Fault(Exception):
 
 
 class File:
-    """One of the two files of a definition, parsed, and the lines of what stands in it."""
+    """One of the two files of a definition, parsed, with the line numbers of its parts."""
 
     def __init__(self, path: pathlib.Path) -> None:
         self.path = path
@@ -92,12 +91,12 @@ class File:
             raise DefinitionError(f"{self.path}:{max(1, number)}: invalid TOML: {text}") from error
 
     def at(self, *path: str | int) -> str:
-        """File and line of what has this path."""
+        """Return the file and line of the part with this path."""
         return f"{self.path}:{self._lines.of(*path)}"
 
 
 def read(folder: pathlib.Path) -> list[Saga]:
-    """The sagas of a folder, by file name. Raises `DefinitionError`, which names file and line."""
+    """Read the sagas of a directory. Raises `DefinitionError`, which names file and line."""
     if not folder.is_dir():
         if folder.exists():
             raise DefinitionError(f"{folder} is a file; pass the directory that contains it")
@@ -119,7 +118,7 @@ def read(folder: pathlib.Path) -> list[Saga]:
 
 
 def read_one(path: pathlib.Path) -> Saga:
-    """The saga of a file. Raises `DefinitionError`."""
+    """Read the saga of a file. Raises `DefinitionError`."""
     file = File(path)
     service_path = path.with_name(path.name.removesuffix(".toml") + SERVICE)
     service_file = File(service_path) if service_path.exists() else None
@@ -131,7 +130,7 @@ def read_one(path: pathlib.Path) -> Saga:
 
 
 def _manners(service_file: File) -> dict[str, Json]:
-    """What the second file says, by step. Raises `Fault`."""
+    """Return the options in the service file, by step. Raises `Fault`."""
     document = service_file.document
     steps = document.get("step", {})
     unknown = set(document) - {"step"}
@@ -179,7 +178,7 @@ def is_number(value: Any) -> bool:
 
 
 def _built(file: File, service_file: File | None) -> Saga:
-    """The saga of these files. Raises `Fault`, `DefinitionError`."""
+    """Build the saga of these files. Raises `Fault`, `DefinitionError`."""
     document, options_of_steps = file.document, _manners(service_file) if service_file else {}
     _check_keys(document)
     try:
@@ -199,7 +198,7 @@ def _built(file: File, service_file: File | None) -> Saga:
 
 
 def _check_keys(document: Json) -> None:
-    """Raises `Fault` where a definition has other keys than there are."""
+    """Raise `Fault` if a definition has unknown keys."""
     unknown = sorted(set(document) - {"format", "name", "step"})
     if document.get("format") not in (1, 2) or unknown:
         raise Fault(
@@ -228,8 +227,9 @@ def _check_keys(document: Json) -> None:
 def _add(
     saga: Saga, file: File, service_file: File | None, index: int, step: Json, options: Json
 ) -> None:
-    """One more step. Raises `Fault`, or `DefinitionError` with the line of the step, or of its key
-    that is named."""
+    """Add a step. Raises `Fault`, or `DefinitionError` with the line of the step or of the key in
+    question.
+    """
     kind = options.get("kind", "work")
     for name in sorted({"approval": {"run", "keep"}, "wait": {"run"}}.get(kind, set()) & set(step)):
         raise Fault(
@@ -256,7 +256,7 @@ def _add(
 
 
 def _said(error: DefinitionError) -> str:
-    """What is wrong, without the line of this module by which it was met."""
+    """Return the message of an error without the line of this module."""
     return "saga " + str(error).partition(": saga ")[2]
 
 
@@ -314,7 +314,7 @@ def _wait(saga: Saga, step: Json, options: Json) -> None:
 
 
 def _plain(document: Json) -> list[Any]:
-    """A definition without its spelling."""
+    """Return a definition in a canonical form."""
     result: list[Any] = [document["name"]]
     for step in document.get("step", ()):
         costs = [step.get(name, 0) for name in ("run", "undo", "skip", "keep")]

@@ -1,9 +1,9 @@
-"""Work that waits for a few threads, shared by who asked for it.
+"""Work for a few threads, shared fairly among clients.
 
-Each maker gets the same time of the threads, whatever one piece of its work costs: next is the one
-that has had the least. A maker whose work takes long leaves a thread to the others. One whose work
-computes for long has one thread of all kinds: threads that compute slow each other down, and the
-event loop with them.
+Each client gets the same thread time, whatever one piece of its work costs: the next piece is
+that of the client with the least time so far. A client whose work takes long leaves a thread to
+the others. A client whose work computes for long has one thread of all kinds, because threads
+that compute slow down each other and the event loop.
 """
 
 from __future__ import annotations
@@ -15,19 +15,23 @@ from typing import Generic, TypeVar
 
 J = TypeVar("J")
 CURRENT_CLIENT: contextvars.ContextVar[str] = contextvars.ContextVar("maker", default="")
-"""For whom the task that runs now works: a token, or without tokens an address."""
+"""The client that the current task works for: a token, or without tokens an address."""
 LONG = 0.01
-"""Seconds on the average from which on a maker's work takes long."""
+"""Average seconds from which a client's work counts as long."""
 WEIGHT = 0.25
-"""How much the last piece of work counts in the average."""
+"""The weight of the last piece of work in the average."""
 MOST_KNOWN = 1000
 
 
 @dataclasses.dataclass(slots=True)
 class _Maker(Generic[J]):
-    """One of those who have work, or had some. `used`: seconds of the threads, beginning with what
-    the others had when it came. `mean`, `computed`: averages of the seconds that a piece of its
-    work takes, and of those that it computes."""
+    """A client that has or had work.
+
+    Attributes:
+        used: Seconds of thread time. A new client starts with the time of the others.
+        mean: Average seconds of a piece of its work.
+        computed: Average seconds that a piece of its work computes.
+    """
 
     jobs: deque[J] = dataclasses.field(default_factory=deque)
     running: int = 0
@@ -37,8 +41,10 @@ class _Maker(Generic[J]):
 
 
 class FairQueue(Generic[J]):
-    """Work for so many threads. `computing`: whose work that computes for long is done now, by
-    threads of any kind."""
+    """Work for a number of threads.
+
+    `computing`: the clients whose long computations run now, on threads of any kind.
+    """
 
     def __init__(self, threads: int, computing: set[str]) -> None:
         self._threads, self._computing = threads, computing
@@ -47,7 +53,7 @@ class FairQueue(Generic[J]):
         self._running, self._floor = 0, 0.0
 
     def put(self, name: str, job: J) -> None:
-        """A maker has one more piece of work."""
+        """Add a piece of work of a client."""
         client_key = self._known.get(name)
         if client_key is None:
             client_key = self._known[name] = _Maker()
@@ -59,8 +65,7 @@ class FairQueue(Generic[J]):
         self._forget()
 
     def take(self) -> tuple[str, J] | None:
-        """What a thread does next, and for whom; None where no thread is free, or nothing may be
-        done now."""
+        """Return the next piece of work and its client, or None if nothing may start now."""
         if self._running >= self._threads:
             return None
         candidates = [item for item in self._ready.items() if self._may_run(*item)]
@@ -78,7 +83,7 @@ class FairQueue(Generic[J]):
         return name, job
 
     def done(self, name: str, seconds: float, computed: float) -> None:
-        """A piece of work that was taken has taken so long, and computed for a part of that."""
+        """Record that a piece of work took this time, and computed for a part of it."""
         self._running -= 1
         self._computing.discard(name)
         client_key = self._known[name]
@@ -88,7 +93,7 @@ class FairQueue(Generic[J]):
         client_key.computed += WEIGHT * (computed - client_key.computed)
 
     def _may_run(self, name: str, client_key: _Maker[J]) -> bool:
-        """Whether it may have one more thread."""
+        """Return whether a client may use one more thread."""
         if client_key.computed >= LONG and name in self._computing:
             return False
         return client_key.running < (
@@ -96,7 +101,7 @@ class FairQueue(Generic[J]):
         )
 
     def _forget(self) -> None:
-        """The maker that had no work for longest is forgotten where too many are known."""
+        """If too many clients are known, forget the one that had no work for the longest time."""
         if len(self._known) > MOST_KNOWN:
             name, client_key = next(iter(self._known.items()))
             self._known.move_to_end(name)

@@ -15,19 +15,20 @@ from sagas.server.event_stream import Hub
 from sagas.storage.filters import EVERYTHING, Scope
 
 Counts = tuple[dict[str, dict[str, int]], dict[str, int]]
-"""How many sagas there are by name and phase, and what waits for a person."""
+"""Counts of sagas by name and phase, and counts of what waits for an operator."""
 QUIET = 20.0
-"""Seconds for which figures hold longer where nothing has happened, as far as is known: an
-operator's command in another program makes no event here."""
+"""Seconds for which figures stay valid longer if no event arrived. An operator's command in
+another program makes no event here.
+"""
 logger = logging.getLogger("sagas.server")
 MOST_KEPT = 100
-"""Scopes of which the figures are kept."""
+"""Maximum number of scopes whose figures are cached."""
 
 
 @dataclasses.dataclass(frozen=True, slots=True)
 class Counted:
-    """Figures, until when they hold (of `time.monotonic`), and how many events the hub had had
-    before them.
+    """Figures, the monotonic time until which they are valid, and the number of events before
+    them.
     """
 
     found: Counts
@@ -36,8 +37,8 @@ class Counted:
 
 
 class Figures:
-    """The figures by scope. They are counted again at most each second, and less often where
-    that takes long.
+    """Cached figures by scope. They are counted at most once a second, and less often if that
+    takes long.
     """
 
     def __init__(self, hub: Hub, ask: Callable[[Question[Counts]], Awaitable[Counts]]) -> None:
@@ -46,15 +47,14 @@ class Figures:
         self._counting: dict[Scope, asyncio.Task[Counted]] = {}
 
     async def of(self, scope: Scope) -> Counts:
-        """The figures of these sagas."""
+        """Return the figures of a scope."""
         counted = self._kept.get(scope)
         if counted is None or time.monotonic() > self._until(counted):
             counted = await asyncio.shield(self._begin(scope))
         return counted.found
 
     def _until(self, counted: Counted) -> float:
-        """Until when figures hold: longer where no event came since, as far as this service hears
-        of events."""
+        """Return until when figures are valid: longer if this service received no event since."""
         return counted.until + (QUIET if counted.seen == self._hub.count else 0.0)
 
     def _begin(self, scope: Scope) -> asyncio.Task[Counted]:
@@ -66,7 +66,7 @@ class Figures:
         return counting
 
     def prime(self) -> None:
-        """Count all sagas once, so that nobody waits for that: at the start of a service."""
+        """Count all sagas at the start of a service, so that the first request need not wait."""
         self._begin(EVERYTHING)
 
     async def _count(self, scope: Scope) -> Counted:
@@ -94,19 +94,17 @@ class Figures:
             logger.debug("the sagas could not be counted: %s", type(task.exception()).__name__)
 
     def lag(self, scope: Scope) -> float | None:
-        """Seconds until these figures are counted anew, where something has happened since they
-        were counted; else None.
-        """
+        """Return the seconds until these figures are counted again, or None if they are current."""
         counted = self._kept.get(scope)
         if counted is None or counted.seen == self._hub.count:
             return None
         return max(0.0, counted.until - time.monotonic())
 
     def forget(self) -> None:
-        """Somebody changed something by hand, and looks at once."""
+        """Drop all figures, after a user changed something and looks at once."""
         self._kept.clear()
 
     async def rest(self) -> None:
-        """Waits until nothing is counted."""
+        """Wait until no count runs."""
         if self._counting:
             await asyncio.wait([*self._counting.values()])

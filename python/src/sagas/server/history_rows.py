@@ -1,4 +1,4 @@
-"""The tables of a saga's attempts and events: those of a group in one row."""
+"""The tables of a saga's attempts and events, with one row for each group."""
 
 from __future__ import annotations
 
@@ -13,7 +13,7 @@ from sagas.inspection.timeline import AttemptTimes, Span
 from sagas.inspection.views import Note
 
 Titles = Mapping[str, str]
-"""By the names of the steps that are folded, the titles of their groups."""
+"""The titles of folded groups, by the names of their steps."""
 OUTCOMES = ("failed", "retried", None, "not_called", "succeeded")
 """How attempts ended, in the order in which they are shown."""
 
@@ -24,14 +24,14 @@ class AttemptRow:
 
     Attributes:
         title: The step's name, or the group's title.
-        undo: Whether the compensation is meant.
-        number: The number of the attempt, from 1; None of a group.
+        undo: Whether it is an attempt of the compensation.
+        number: The number of the attempt, from 1. None for a group.
         outcome: How it ended, in words.
-        seconds: How long it was in each state; of a group the longest.
+        seconds: The time that it spent in each state; for a group the longest.
         workers: The spans at workers.
-        error: What was raised.
-        decision: What a person did.
-        urgency: What comes first in the table.
+        error: The error.
+        decision: The operator's command.
+        urgency: Its rank in the table.
     """
 
     title: str
@@ -46,8 +46,11 @@ class AttemptRow:
 
 
 def attempt_rows(attempts: Iterable[AttemptTimes], titles: Titles, now: float) -> list[AttemptRow]:
-    """A row for each attempt; for those of a folded group one of the actions, and one of the
-    compensations, where the first of them began."""
+    """Return a row for each attempt.
+
+    A folded group has one row for actions and one for compensations, at the position of the
+    first attempt.
+    """
     result, groups = dict[Any, AttemptRow | None](), dict[Any, list[AttemptTimes]]()
     for attempt in attempts:
         title = titles.get(attempt.step)
@@ -60,7 +63,7 @@ def attempt_rows(attempts: Iterable[AttemptTimes], titles: Titles, now: float) -
 
 
 SHORT = {"failed": "failed", "retried": "retried", "not_called": "not called"}
-"""How some attempts ended, behind their number."""
+"""How some attempts ended, after their number."""
 
 
 def _told(attempt: AttemptTimes) -> str:
@@ -110,12 +113,12 @@ class EventRow:
     """An event, or equal events of a group.
 
     Attributes:
-        event: What happened, as of `HistoryEvent`.
-        at: When; of several the first time.
-        until: Of several the last time.
+        event: The event's name, as in `HistoryEvent`.
+        at: When it happened; for several events, the first time.
+        until: For several events, the last time.
         step: The step's name, or the group's title.
-        value: As of `HistoryEvent`; of those of a group the first error.
-        count: How many events it stands for.
+        value: As in `HistoryEvent`; for a group, the first error.
+        count: How many events the row represents.
     """
 
     event: str
@@ -127,8 +130,10 @@ class EventRow:
 
 
 def event_rows(events: Sequence[HistoryEvent], titles: Titles) -> list[EventRow]:
-    """A row for each event. Of those of folded groups that follow one another, the equal ones of a
-    group are one row, where the first of them was."""
+    """Return a row for each event.
+
+    Consecutive equal events of a folded group share one row, at the position of the first.
+    """
     result, joined = list[EventRow](), dict[tuple[str, str], int]()
     for event in events:
         title = titles.get(event.step) if event.step else None
@@ -147,6 +152,6 @@ def event_rows(events: Sequence[HistoryEvent], titles: Titles) -> list[EventRow]
 
 
 def _said(event: HistoryEvent) -> Any:
-    """What is said of several events: the first error, with its step."""
+    """Return the value of several events: the first error, with its step."""
     is_error = isinstance(event.value, dict) and "error" in event.value
     return f"{event.step}: {wording.short(event.value)}" if is_error else ""

@@ -19,7 +19,7 @@ from sagas.storage.schedules import Schedule
 
 
 def summary(saga_summary: Summary) -> dict[str, Any]:
-    """A saga in a list."""
+    """Return a saga of a list."""
     return {
         "key": saga_summary.key,
         "definition": saga_summary.saga,
@@ -34,7 +34,7 @@ def summary(saga_summary: Summary) -> dict[str, Any]:
 
 
 def plan(found_plan: Plan | None) -> dict[str, Any] | None:
-    """Why each step stands or does not: what it costs to keep it, and to drop it (null: never)."""
+    """Return what a plan does with each step, and the costs to keep and drop it."""
     if found_plan is None:
         return None
     steps = [
@@ -51,7 +51,7 @@ def plan(found_plan: Plan | None) -> dict[str, Any] | None:
 
 
 def held(wait: Waits) -> dict[str, Any]:
-    """What an attempt waits for."""
+    """Return what an attempt waits for."""
     return {
         "step": wait.step,
         "undo": wait.undo,
@@ -64,7 +64,7 @@ def held(wait: Waits) -> dict[str, Any]:
 
 
 def relative(related: Relative) -> dict[str, Any]:
-    """A saga's parent, or one of its children."""
+    """Return a saga's parent, or one of its children."""
     return {
         "key": related.key,
         "definition": related.saga,
@@ -74,7 +74,7 @@ def relative(related: Relative) -> dict[str, Any]:
 
 
 def saga(view: SagaView) -> dict[str, Any]:
-    """A saga with its steps."""
+    """Return a saga with its steps."""
     return {
         "key": view.key,
         "definition": view.saga,
@@ -102,17 +102,17 @@ def saga(view: SagaView) -> dict[str, Any]:
 
 
 def log(view: SagaView) -> list[dict[str, Any]]:
-    """A saga's events in the order of its log, and what people did before the first later one."""
+    """Return a saga's events in the order of its log, with operator commands in between."""
     return [event(entry.event, entry.at, entry.step, entry.value) for entry in view.history]
 
 
 def event(name: str, at: float, step: str | None, value: Any) -> dict[str, Any]:
-    """An event of a saga."""
+    """Return an event of a saga."""
     return {"event": name, **times(at=at), "step": step, "value": value}
 
 
 def timeline(view: SagaView, now: float) -> dict[str, Any]:
-    """What each attempt did, and what people did."""
+    """Return what each attempt did, and the operator commands."""
     return {
         "attempts": [attempt_times(entry) for entry in timeline_module.of(view, now)],
         "decisions": [
@@ -122,7 +122,7 @@ def timeline(view: SagaView, now: float) -> dict[str, Any]:
 
 
 def attempt_times(attempt: AttemptTimes) -> dict[str, Any]:
-    """An attempt with its parts."""
+    """Return an attempt with its spans."""
     note = attempt.decision
     return {
         "step": attempt.step,
@@ -154,12 +154,12 @@ def attempt_times(attempt: AttemptTimes) -> dict[str, Any]:
 
 
 def certificate(certified: Plan) -> dict[str, Any]:
-    """What `sagas check` needs to judge a plan."""
+    """Return what `sagas check` needs to verify a plan."""
     return {"definition": certified.definition, "case": certified.case, "answer": certified.answer}
 
 
 def what_if(forecast: WhatIf) -> dict[str, Any]:
-    """What would be done, with its certificate."""
+    """Return a hypothetical plan with its certificate."""
     fields = {
         "cost": forecast.plan.cost,
         "plan": plan(forecast.plan),
@@ -169,7 +169,7 @@ def what_if(forecast: WhatIf) -> dict[str, Any]:
 
 
 def task(leased: LeasedTask, now: float) -> dict[str, Any]:
-    """A task as a worker gets it."""
+    """Return a task as a worker gets it."""
     task = leased.task
     deadline = task.deadline.timestamp() if task.deadline else None
     return {
@@ -193,12 +193,12 @@ def task(leased: LeasedTask, now: float) -> dict[str, Any]:
 
 
 def name_of(saga: str, step: str, undo: bool) -> str:
-    """What a worker asks for: `trip/car`, or `trip/car/undo`."""
+    """Return the task name that a worker requests: `trip/car`, or `trip/car/undo`."""
     return f"{saga}/{step}{'/undo' if undo else ''}"
 
 
 def schedule(stored: Schedule) -> dict[str, Any]:
-    """A schedule with its last and next times."""
+    """Return a schedule with its last and next times."""
     return {
         "name": stored.name,
         "definition": stored.saga,
@@ -218,7 +218,7 @@ def schedule(stored: Schedule) -> dict[str, Any]:
 
 
 def queue(waiting: Queue) -> dict[str, Any]:
-    """What waits for workers of a step."""
+    """Return the tasks of a step that wait for workers."""
     fields = {
         "definition": waiting.saga,
         "step": waiting.step,
@@ -238,7 +238,7 @@ CALLS = {
     "damaged": [],
     "approval": ["complete", "fail", "abort"],
 }
-"""The calls that apply to what needs a person."""
+"""The calls that apply to an entry that needs an operator."""
 WAITS_FOR = {
     "stuck": "somebody who sets right by hand what no plan could, and resolves it",
     "undo_failed": "somebody who undoes the step by hand, and resolves the saga",
@@ -252,7 +252,7 @@ WAITS_FOR = {
 
 
 def entry(attention: Entry) -> dict[str, Any]:
-    """Something that needs a person."""
+    """Return an entry that needs an operator."""
     because = f"because of {' and '.join(attention.blocking)}" if attention.blocking else ""
     return {
         "kind": attention.kind,

@@ -11,9 +11,7 @@ from sagas.base.wording import escaped
 
 
 class Lines(logging.Formatter):
-    """A JSON object a line: time, level, logger, message, and the fields that this package
-    tells.
-    """
+    """One JSON object a line: time, level, logger, message, and the fields of this package."""
 
     def format(self, record: logging.LogRecord) -> str:
         at = time.strftime("%Y-%m-%dT%H:%M:%S", time.gmtime(record.created))
@@ -34,8 +32,10 @@ class Lines(logging.Formatter):
 
 
 class Text(logging.Formatter):
-    """A line for people; its time is in UTC. No message makes a line of its own, and the lines of a
-    traceback are set in."""
+    """One line of text for each message, with its time in UTC.
+
+    Newlines in messages are escaped. The lines of a traceback are indented.
+    """
 
     converter = time.gmtime
     default_msec_format = "%s.%03dZ"
@@ -51,7 +51,7 @@ class Text(logging.Formatter):
 
 
 def begin(form: str, level: str, stream: TextIO) -> None:
-    """Sends all that is logged to a stream."""
+    """Send all log messages to a stream."""
     handler = logging.StreamHandler(stream)
     handler.setFormatter(
         Lines() if form == "json" else Text("%(asctime)s %(levelname)s %(name)s: %(message)s")

@@ -39,18 +39,18 @@ INTERNAL_ERRORS = (
 )
 TYPE = CONTENT_TYPE_LATEST
 MOST_BEGUN = 100_000
-"""Attempts of which it is known when they began."""
+"""Maximum number of attempts whose start time is remembered."""
 Begun = tuple[Optional[str], Optional[str], Union[int, str, None], bool, Optional[int]]
 """key, step, index, undo, attempt"""
 
 
 def _attempt(event: Event) -> Begun:
-    """Of which attempt an event tells."""
+    """Return the attempt that an event belongs to."""
     return event.key, event.step, event.index, event.undo, event.attempt
 
 
 class Metrics:
-    """Counts what a store tells; what it has is read when it is asked for."""
+    """Counts the events of a store. Gauges are read from the store when metrics are requested."""
 
     def __init__(self, service: Service) -> None:
         self.registry = CollectorRegistry()
@@ -106,11 +106,11 @@ class Metrics:
         self.registry.register(Now(self))  # type: ignore[arg-type]
 
     def _counter(self, name: str, description: str, *labels: str) -> Callable[..., Counter]:
-        """A counter's children by their labels, each of which is looked up in a dictionary."""
+        """Return a counter's children by their labels, cached."""
         return functools.cache(Counter(name, description, labels, registry=self.registry).labels)
 
     def event(self, event: Event) -> None:
-        """Something happened."""
+        """Count an event."""
         saga, outcome = event.saga or "", OUTCOMES.get(event.name)
         if event.name == "saga_started":
             self.started(saga).inc()
@@ -138,19 +138,19 @@ class Metrics:
                 self.durations.add((saga, event.step or "", event.undo), seconds)
 
     def request(self, method: str, status: int, seconds: float, waits: bool) -> None:
-        """A request is over."""
+        """Count a finished request."""
         known = method if method in ("GET", "POST", "HEAD") else "other"
         self.requests(known, str(status)).inc()
         self.request_seconds("yes" if waits else "no").observe(seconds)
 
     async def text(self) -> bytes:
-        """All figures, as Prometheus reads them."""
+        """Return all metrics in Prometheus's text format."""
         self.counts, self.attention_counts = await self._service.figures.of(EVERYTHING)
         self.queues = await self._service.store.workers.queues()
         return generate_latest(self.registry)
 
     def now(self) -> Iterator[Metric]:
-        """What the store has at this moment."""
+        """Yield the gauges of the store."""
         sagas = GaugeMetricFamily(
             "sagas_current", "Sagas, by definition and phase", labels=["saga", "phase"]
         )
@@ -182,7 +182,7 @@ class Metrics:
 
 
 class Now:
-    """Hands over to `Metrics.now` at each collection."""
+    """Delegates to `Metrics.now` at each collection."""
 
     def __init__(self, metrics: Metrics) -> None:
         self._metrics = metrics
@@ -195,7 +195,7 @@ class Now:
 
 
 def queues_of(queues: list[Queue], now: float) -> Iterator[Metric]:
-    """What waits for workers."""
+    """Yield the metrics of tasks that wait for workers."""
     families: list[tuple[str, str, Callable[[Queue], float]]] = [
         ("sagas_tasks_ready", "Tasks that wait for a worker", lambda queue: queue.ready),
         ("sagas_tasks_claimed", "Tasks that workers have", lambda queue: queue.claimed),

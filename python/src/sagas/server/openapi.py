@@ -1,7 +1,7 @@
-"""The OpenAPI document of the API, made of its operations.
+"""The OpenAPI document of the API, generated from its operations.
 
-`python3 -m sagas.server.openapi` prints it; the repository has it as `openapi.json` beside this
-module, and the service serves that file.
+`python3 -m sagas.server.openapi` prints it. The repository has it as `openapi.json` next to
+this module, and the service serves that file.
 """
 
 from __future__ import annotations
@@ -78,7 +78,7 @@ def _file() -> tuple[bytes, str]:
 
 
 def problems_of(operation: Operation) -> dict[int, list[str]]:
-    """The problems of an operation by their statuses."""
+    """Return the problems of an operation, by status."""
     names = [*ALWAYS, *operation.problems]
     names += WITH_TOKEN if operation.permission else ()
     names += WITH_BODY if operation.body else ()
@@ -89,7 +89,7 @@ def problems_of(operation: Operation) -> dict[int, list[str]]:
 
 
 def answer_of(answer: Answer) -> dict[str, Any]:
-    """An answer as the document has it."""
+    """Return a response object of the document."""
     result: dict[str, Any] = {"description": answer.description}
     if answer.headers:
         result["headers"] = {
@@ -108,12 +108,12 @@ def answer_of(answer: Answer) -> dict[str, Any]:
 
 
 def title_of(names: list[str]) -> str:
-    """The name of an answer with one of some problems."""
+    """Return the name of a response with one of several problems."""
     return ".".join(names)
 
 
 def problem_of(status: int, names: list[str]) -> dict[str, Any]:
-    """The problems of one status."""
+    """Return the response object for the problems of one status."""
     first = names[0]
     example = {
         "type": PREFIX + first,
@@ -133,7 +133,7 @@ def problem_of(status: int, names: list[str]) -> dict[str, Any]:
 
 
 def parameters_of(operation: Operation) -> list[dict[str, Any]]:
-    """The parameters of an operation, those of its path first."""
+    """Return the parameters of an operation, those of its path first."""
     parameters: list[dict[str, Any]] = [
         {
             "name": name,
@@ -153,7 +153,7 @@ def parameters_of(operation: Operation) -> list[dict[str, Any]]:
 
 
 def operation_of(operation: Operation) -> dict[str, Any]:
-    """An operation as the document has it."""
+    """Return an operation object of the document."""
     summary, more = operation.documentation
     result: dict[str, Any] = {"operationId": operation.name, "tags": [operation.tag]}
     result["summary"] = summary
@@ -185,7 +185,7 @@ def operation_of(operation: Operation) -> dict[str, Any]:
 
 
 def document(operations: Iterable[Operation]) -> dict[str, Any]:
-    """The document."""
+    """Return the document."""
     paths: dict[str, Any] = {}
     records_by_name: dict[str, Record] = {answers.PROBLEM.name: answers.PROBLEM}
     shared: dict[str, Any] = {}
@@ -226,7 +226,7 @@ def document(operations: Iterable[Operation]) -> dict[str, Any]:
 
 
 def text() -> str:
-    """The file's text."""
+    """Return the content of the file."""
     from sagas.server.app import operations
 
     return json.dumps(document(operations()), indent=1, ensure_ascii=False) + "\n"

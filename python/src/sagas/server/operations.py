@@ -40,7 +40,7 @@ logger = logging.getLogger("sagas.server")
 
 @dataclasses.dataclass(slots=True)
 class Call:
-    """A request that was let in and read: who makes it, and the values of its parts."""
+    """An authorized and parsed request."""
 
     request: Request
     principal: Principal
@@ -50,12 +50,12 @@ class Call:
 
     @property
     def service(self) -> Service:
-        """The service that is asked."""
+        """Return the service."""
         return service_of(self.request)
 
     @property
     def key(self) -> str:
-        """The key of the saga that the path names."""
+        """Return the key of the saga that the path names."""
         key: str = self.path["key"]
         return key
 
@@ -66,8 +66,10 @@ Refuse = Callable[[Request, Problem], Response]
 
 @dataclasses.dataclass(frozen=True)
 class Answer:
-    """An answer of an operation: JSON of a shape, or another media type. `or_text`: by a parameter
-    also as plain text."""
+    """A response of an operation: JSON of a shape, or another media type.
+
+    `or_text`: a parameter can select plain text instead.
+    """
 
     description: str
     shape: Shape | None = None
@@ -81,9 +83,11 @@ class Answer:
 class Operation:
     """One method of one path.
 
-    `headers`: what its handler reads of the request's headers; `problems`: the names of those that
-    are its own, beside those that any operation has. `may`: what the token has to allow; None: it
-    needs none."""
+    Attributes:
+        headers: The request headers that its handler reads.
+        problems: The problems of this operation, in addition to those of every operation.
+        permission: What the token must permit. None: no token is needed.
+    """
 
     method: str
     path: str
@@ -101,12 +105,12 @@ class Operation:
 
     @property
     def documentation(self) -> tuple[str, str]:
-        """Its summary and its description."""
+        """Return its summary and its description."""
         summary, _, more = (self.handler.__doc__ or "").partition("\n\n")
         return " ".join(summary.split()).rstrip("."), " ".join(more.split())
 
     async def call(self, request: Request, principal: Principal, is_open: bool) -> Call:
-        """What a request asks. Raises `Problem`."""
+        """Parse a request. Raises `Problem`."""
         path = {name: unslashed(text) for name, text in request.path_params.items()}
         try:
             for name, shape in self.parts.items():
@@ -122,13 +126,15 @@ KEY = Text(most=512, least=1)
 
 
 def not_found() -> Problem:
-    """There is no such path."""
+    """Return the problem for a path that does not exist."""
     return Problem("NotFound", "there is no such path: /openapi.json lists all")
 
 
 def read_query(fields: Mapping[str, Field], request: Request, is_open: bool) -> dict[str, Any]:
-    """The parameters of a query. `is_open`: of a page, which passes over others. Raises
-    `Problem`."""
+    """Parse the parameters of a query. Raises `Problem`.
+
+    `is_open`: unknown parameters are ignored, as on pages.
+    """
     values = {name: field.default for name, field in fields.items()}
     seen: set[str] = set()
     try:
@@ -154,7 +160,7 @@ def read_query(fields: Mapping[str, Field], request: Request, is_open: bool) -> 
 
 
 async def read_body(shape: Record, request: Request) -> dict[str, Any]:
-    """The body as its shape has it. Raises `Problem`."""
+    """Parse the body by its shape. Raises `Problem`."""
     sent = request.headers.get("content-type", "").partition(";")[0].strip().lower()
     is_empty = shape.is_optional and not sent
     if not is_empty and sent != "application/json" and not sent.endswith("+json"):
@@ -184,14 +190,15 @@ async def read_body(shape: Record, request: Request) -> dict[str, Any]:
 
 
 def invalid(error: Invalid) -> Problem:
-    """A part of the request that does not fit its shape."""
+    """Return the problem for a part of the request that does not match its shape."""
     return Problem("InvalidRequest", f"{error.field or 'the body'}: {error}", error.field or None)
 
 
 class Resource:
-    """The operations of one path. An ASGI application.
+    """The operations of one path, as an ASGI application.
 
-    `refuse`: how a problem is answered; `is_page`: whether it is the dashboard's."""
+    `refuse` answers a problem. `is_page`: whether it belongs to the dashboard.
+    """
 
     def __init__(self, path: str, is_page: bool, refuse: Refuse) -> None:
         self.path, self._is_page, self._refuse = path, is_page, refuse
@@ -199,7 +206,7 @@ class Resource:
 
     @property
     def allowed(self) -> str:
-        """The header `Allow`."""
+        """Return the value of the `Allow` header."""
         names = {*self.operations} | ({"HEAD"} if "GET" in self.operations else set())
         return ", ".join(sorted(names))
 
@@ -222,8 +229,11 @@ class Resource:
             return self._refuse(request, Problem("InternalError", why))
 
     async def _carried_out(self, request: Request) -> Response:
-        """The answer. Whoever may not is refused before a byte of the body is read. Raises
-        `Problem`, and errors of the package."""
+        """Return the answer.
+
+        Without permission, a request is refused before its body is read. Raises `Problem`, and
+        errors of the package.
+        """
         method = request.method
         operation = self.operations.get("GET" if method == "HEAD" else method)
         if operation is None:
@@ -244,29 +254,29 @@ class Resource:
 
 
 def headers_of(answer: Response) -> Response:
-    """An answer without its body."""
+    """Return an answer without its body."""
     head = Response(status_code=answer.status_code)
     head.raw_headers = answer.raw_headers
     return head
 
 
 class Routes:
-    """Operations with a common beginning of their paths, declared by decorators."""
+    """Operations with a common path prefix, declared by decorators."""
 
     def __init__(self, tag: str, prefix: str = "", is_page: bool = False) -> None:
         self.tag, self.prefix, self.is_page = tag, prefix, is_page
         self.operations: list[Operation] = []
 
     def get(self, path: str, name: str = "", **options: Any) -> Callable[[Handler], Handler]:
-        """Declare what `GET` does."""
+        """Declare the handler of `GET`."""
         return self._declare("GET", path, name, options)
 
     def post(self, path: str, name: str = "", **options: Any) -> Callable[[Handler], Handler]:
-        """Declare what `POST` does."""
+        """Declare the handler of `POST`."""
         return self._declare("POST", path, name, options)
 
     def delete(self, path: str, name: str = "", **options: Any) -> Callable[[Handler], Handler]:
-        """Declare what `DELETE` does."""
+        """Declare the handler of `DELETE`."""
         return self._declare("DELETE", path, name, options)
 
     def _declare(
@@ -282,7 +292,7 @@ class Routes:
 
 
 def resources(groups: list[Routes], refuse: Refuse, refuse_page: Refuse) -> list[Route]:
-    """The routes of a router: one for each path."""
+    """Return the routes of a router, one for each path."""
     result: dict[str, Resource] = {}
     for routes in groups:
         for operation in routes.operations:

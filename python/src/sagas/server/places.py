@@ -1,4 +1,4 @@
-"""How many requests each token may have at work at once, by what they do."""
+"""Limits on concurrent requests of each token, by what they do."""
 
 from __future__ import annotations
 
@@ -11,7 +11,7 @@ from sagas.server.settings import ConcurrencySettings
 
 
 class Kind(enum.Enum):
-    """What a place is taken for."""
+    """The kinds of requests that are limited."""
 
     CONNECTION = "connections with a request"
     WAIT = "requests that wait for a saga"
@@ -19,7 +19,7 @@ class Kind(enum.Enum):
 
 
 class ConcurrencyLimits:
-    """The places of all tokens; without tokens, of all addresses."""
+    """The slots of all tokens, or without tokens of all addresses."""
 
     def __init__(self, settings: ConcurrencySettings) -> None:
         self._limits = {
@@ -30,14 +30,14 @@ class ConcurrencyLimits:
         self._taken: Counter[tuple[str, Kind]] = Counter()
 
     def has_room(self, client_key: str, kind: Kind) -> bool:
-        """Whether one more may be taken."""
+        """Return whether one more slot is free."""
         return self._taken[client_key, kind] < self._limits[kind]
 
     def take(self, client_key: str, kind: Kind) -> Callable[[], None]:
-        """Take one more. Returns what gives it back, which is to be called once.
+        """Take a slot. Returns a function that frees it, to be called once.
 
         Raises:
-            Problem: The maker has as many as it may have.
+            Problem: The client has used up its slots.
         """
         if not self.has_room(client_key, kind):
             name = "TooManyConnections" if kind is Kind.CONNECTION else "TooManyWaits"

@@ -10,7 +10,7 @@ from sagas.base.errors import SagasError
 from sagas.server.responses import Json
 
 PREFIX = "urn:sagas:problem:"
-"""Before the name of a problem: its `type`, which never changes."""
+"""The prefix of a problem's `type`, which never changes."""
 MEDIA_TYPE = "application/problem+json"
 MOST_DETAIL = 1000
 logger = logging.getLogger("sagas.server")
@@ -18,7 +18,7 @@ logger = logging.getLogger("sagas.server")
 
 @dataclasses.dataclass(frozen=True, slots=True)
 class Kind:
-    """A problem's status, its title, and whether the same request is worth repeating."""
+    """A problem's status and title, and whether the same request is worth repeating."""
 
     status: int
     title: str
@@ -72,10 +72,10 @@ PROBLEMS = {
     "OwnerUnavailable": Kind(503, "The node that drives the saga does not answer", repeat=True),
     "StoreUnavailable": Kind(503, "The store cannot be read or written", repeat=True),
 }
-"""By their names. Those of the package's exceptions are theirs."""
+"""The problems by name. Problems of the package's exceptions have their names."""
 RENAMED = {"DefinitionError": "NoSuchDefinition"}
 REPEAT = sorted({kind.status for kind in PROBLEMS.values() if kind.repeat} | {502, 504})
-"""Statuses of requests that are worth repeating; two of them are of proxies alone."""
+"""Statuses of requests that are worth repeating. Only proxies send 502 and 504."""
 SILENT = {
     "StoreUnavailable": "the store cannot be read or written now: send the same request again in a "
     "while. An operator finds the cause in the service's log",
@@ -83,7 +83,8 @@ SILENT = {
     "OwnerUnavailable": "the node that executes the saga has not answered yet. What was asked may "
     "still happen: look at the saga, and send the same request again in a while",
 }
-"""What is told of errors whose text has names of hosts, roles, files or nodes: that is logged."""
+"""Details for errors whose text may name hosts, roles, files or nodes. The text itself is logged.
+"""
 HEADERS = {
     401: {"WWW-Authenticate": "Bearer"},
     429: {"Retry-After": "1"},
@@ -96,7 +97,7 @@ class Problem(Exception):
 
     Attributes:
         name: One of `PROBLEMS`.
-        field: The parameter, or the place in the body, that is not valid.
+        field: The parameter, or the path in the body, that is not valid.
         headers: Headers of the answer.
     """
 
@@ -108,12 +109,12 @@ class Problem(Exception):
 
     @property
     def kind(self) -> Kind:
-        """Its status and title."""
+        """Return its status and title."""
         return PROBLEMS[self.name]
 
 
 def of(error: SagasError) -> Problem:
-    """An error of the package: by its own name, or the nearest that there is."""
+    """Return the problem for an error of the package, by the name of its nearest base class."""
     names = (RENAMED.get(kind.__name__, kind.__name__) for kind in type(error).__mro__)
     name = next((name for name in names if name in PROBLEMS), "InternalError")
     if name not in SILENT:
@@ -123,7 +124,7 @@ def of(error: SagasError) -> Problem:
 
 
 def body(problem: Problem) -> dict[str, Any]:
-    """What is answered of a problem."""
+    """Return the problem details of a problem."""
     fields: dict[str, Any] = {
         "type": PREFIX + problem.name,
         "title": problem.kind.title,
@@ -134,7 +135,7 @@ def body(problem: Problem) -> dict[str, Any]:
 
 
 def response(problem: Problem) -> Json:
-    """The answer. Where the service cannot now, it says when to ask again."""
+    """Return the response for a problem, with `Retry-After` if the service is unavailable."""
     status = problem.kind.status
     headers = {**HEADERS.get(status, {}), **problem.headers}
     return Json(body(problem), status, headers, media_type=MEDIA_TYPE)

@@ -1,7 +1,7 @@
-"""Quotas of tokens: how many sagas that they started may be open, with how much input.
+"""Quotas of tokens: how many open sagas each may have started, with how much input.
 
-The store has with each saga who started it, so that a restart forgets nothing, and other services
-of the database count. Between two counts, the starts of this service are added.
+The store records which token started each saga. So a restart forgets nothing, and other
+services of the database are counted. Between two counts, this service adds its own starts.
 """
 
 from __future__ import annotations
@@ -19,16 +19,16 @@ from sagas.server.auth import Principal
 from sagas.server.problems import Problem
 
 OLD = 10.0
-"""Seconds after which is counted again, in the background."""
+"""Seconds after which a new count starts in the background."""
 SHARE = 10
-"""Of a service's time, at most this part is spent on counts: one tenth."""
+"""At most one part in this many of a service's time is spent on counts."""
 NEVER = float("-inf")
 LEAST = 0.05
-"""Seconds between two counts, at least."""
+"""Minimum seconds between two counts."""
 
 
 class Quota(NamedTuple):
-    """What may be open: so many sagas, and bytes of their inputs as JSON."""
+    """The maximum number of open sagas, and of bytes of their inputs as JSON."""
 
     sagas: int = 10_000
     bytes: int = 1 << 30
@@ -36,12 +36,12 @@ class Quota(NamedTuple):
 
 @dataclasses.dataclass(eq=False, slots=True)
 class PendingStart:
-    """A start that no count has.
+    """A start that is not in any count yet.
 
     Attributes:
         name: The name of the token.
-        size: Bytes of its input, as far as is known.
-        done_at: When it was in the store; None until then.
+        size: Bytes of its input, if known.
+        done_at: When it was stored, or None.
     """
 
     name: str
@@ -65,7 +65,7 @@ class Quotas:
         self._added: dict[str, Quota] = {}  # what these are in all, by the names of tokens
 
     def of(self, principal: Principal) -> Quota:
-        """The quota of a token."""
+        """Return the quota of a token."""
         sagas, size = principal.limits.open_sagas, principal.limits.open_bytes
         default = self._default
         return Quota(
@@ -75,12 +75,12 @@ class Quotas:
     async def take(
         self, principal: Principal, size: int, is_there: Callable[[], Awaitable[bool]]
     ) -> PendingStart | None:
-        """Admit a start; None where there is such a saga: it takes no place.
+        """Admit a start. Returns None if its saga exists already: then it needs no quota.
 
         Args:
-            who: The token.
-            size: Bytes of the input, as far as is known.
-            is_there: Whether the key has a saga.
+            principal: The owner of the token.
+            size: Bytes of the input, if known.
+            is_there: Returns whether the key has a saga.
 
         Raises:
             Problem: The quota is used up.
@@ -111,7 +111,7 @@ class Quotas:
         self._added[start.name] = Quota(sagas + sign, total + sign * start.size)
 
     def done(self, start: PendingStart, is_new: bool) -> None:
-        """A start was answered: it made a saga, or none."""
+        """Record that a start was answered, and whether it created a saga."""
         if is_new:
             start.done_at = time.monotonic()
         elif start in self._pending:
@@ -119,13 +119,15 @@ class Quotas:
             self._add(start, -1)
 
     def _left(self, name: str, quota: Quota, size: int) -> int:
-        """Below 0 where one more is too many."""
+        """Return the remaining quota after one more start. A negative value means that it is
+        exceeded.
+        """
         sagas, total = self._counted.get(name, (0, 0))
         added = self._added.get(name, (0, 0))
         return min(quota.sagas - sagas - added[0] - 1, quota.bytes - total - added[1] - size)
 
     async def _count(self) -> None:
-        """Wait for a count; those that begin before the time for one wait for that."""
+        """Wait for a count. A start that waits for the next count shares it with others."""
         if (pause := self._next - time.monotonic()) > 0 and self._counting is None:
             await asyncio.sleep(pause)
         await asyncio.shield(self._begin())
@@ -156,6 +158,6 @@ class Quotas:
             self._add(start, 1)
 
     async def rest(self) -> None:
-        """Wait until nothing is counted."""
+        """Wait until no count runs."""
         if self._counting is not None:
             await asyncio.wait([self._counting])

@@ -1,6 +1,6 @@
 """Templates, pages and static files.
 
-Whatever a template is told is escaped, but for pictures, which escape by themselves.
+All values of a template are escaped, except pictures, which escape their own texts.
 """
 
 from __future__ import annotations
@@ -55,7 +55,7 @@ def _environment() -> Environment:
 
 
 def cost_text(cost: int | str | None) -> str:
-    """A cost; one that comes from the input is not known here."""
+    """Return a cost as text. A cost that depends on the input has no number here."""
     if isinstance(cost, str):
         return f"by {cost}"
     return "never" if cost is None else f"{cost:,}"
@@ -71,21 +71,20 @@ def _static() -> dict[str, tuple[str, bytes, str]]:
 
 ENVIRONMENT = _environment()
 STATIC = _static()
-"""Kind, bytes and tag of each file, by name."""
+"""Media type, content and entity tag of each static file, by name."""
 
 
 def render(template: str, values: dict[str, Any]) -> str:
-    """A page."""
+    """Render a template."""
     return ENVIRONMENT.get_template(template).render(values)
 
 
 Within = Callable[[Callable[[], bytes]], Awaitable[bytes]]
-"""Does work elsewhere, and returns what comes of it."""
+"""Executes work in another thread and returns its result."""
 
 
 class Page(HTMLResponse):
-    """A page, which is made when it is sent: a large one takes long, so it is made `within` a
-    thread."""
+    """A page that is rendered when it is sent, `within` a thread because a large one takes long."""
 
     def __init__(self, within: Within, template: str, values: dict[str, Any], status: int) -> None:
         super().__init__(status_code=status)
@@ -99,15 +98,11 @@ class Page(HTMLResponse):
 
 
 def compile_all() -> None:
-    """Compile the templates, so that the first who asks for a page does not wait for that. In a
-    thread.
-    """
+    """Compile the templates in a thread, so that the first request does not wait for it."""
     for name in ENVIRONMENT.list_templates():
         ENVIRONMENT.get_template(name)
 
 
 def sent(text: str) -> bytes:
-    """A page or a picture as it is sent; JSON may hold halves of pairs of characters, which are
-    shown by their numbers.
-    """
+    """Return an encoded page or picture. Lone surrogates from JSON are shown as escapes."""
     return text.encode("utf-8", "backslashreplace")

@@ -1,4 +1,4 @@
-"""What the routes share."""
+"""The service: its store, limits, figures and peers, which the routes share."""
 
 from __future__ import annotations
 
@@ -56,20 +56,20 @@ T = TypeVar("T")
 logger, http = logging.getLogger("sagas.server"), logging.getLogger("sagas.http")
 MOST_WORKERS = MOST_THERE = 1000
 SHARED = 200
-"""Workers that one service tells another of."""
+"""Maximum number of workers that one service reports to another."""
 FAILED_COMMIT = 5.0
-"""Seconds for which a commit that failed says that none can be made, unless one is made: behind
-that requests have to come again to tell.
+"""Seconds for which a failed commit makes the service not ready, unless a later commit succeeds.
+After that, new requests have to show whether commits succeed.
 """
 PEER_ANSWER_KEPT = 1.0
-"""Seconds for which what another service said of a saga is told again."""
+"""Seconds for which another service's answer about a saga is reused."""
 MOST_DETAIL = 500
-"""Characters of an event's detail that other services are told."""
+"""Maximum characters of an event's detail that other services receive."""
 
 
 @dataclasses.dataclass(slots=True)
 class Seen:
-    """A worker: when it asked last, and for which steps."""
+    """A worker: when it last polled, and for which steps."""
 
     name: str
     at: float
@@ -77,7 +77,7 @@ class Seen:
 
 
 class Service:
-    """One store, served. `began` and `ended` are its life; all else is for between."""
+    """A served store. Use the other methods only between `begin` and `end`."""
 
     def __init__(self, settings: Settings) -> None:
         self.settings = settings
@@ -117,7 +117,7 @@ class Service:
     # -- life
 
     async def begin(self) -> None:
-        """Opens the store. Raises what `Store` raises."""
+        """Open the store. Raises the errors of `Store`."""
         self.stopping: asyncio.Future[None] = asyncio.get_running_loop().create_future()
         await self.store.__aenter__()
         await self._meet()
@@ -127,17 +127,17 @@ class Service:
 
     @property
     def is_stopping(self) -> bool:
-        """Whether it takes no further request."""
+        """Return whether it accepts no further requests."""
         return self.stopping.done()
 
     def stop(self) -> None:
-        """Ends what waits long: streams and takers."""
+        """End long waits: streams and claims."""
         if not self.stopping.done():
             self.stopping.set_result(None)
         self.hub.close()
 
     async def end(self) -> None:
-        """Closes the store."""
+        """Close the store."""
         self.stop()
         await self.webhooks.end()
         await self.figures.rest()
@@ -148,7 +148,7 @@ class Service:
         self.threads.close()
 
     async def _meet(self) -> None:
-        """Over PostgreSQL: what other services of the database tell, and what they are told."""
+        """Exchange events and workers with other services of the same PostgreSQL database."""
         peers = self.store.workers.peers()
         if peers:
             peers.hear, peers.missed = self._heard, self.hub.missed
@@ -186,7 +186,7 @@ class Service:
             hook(event)
 
     def ready(self) -> str | None:
-        """None where it takes requests; else why not."""
+        """Return None if it accepts requests, else the reason why not."""
         if self.stopping.done():
             return "it is about to stop"
         if self.unwritten is not None and time.monotonic() < self.unwritten + FAILED_COMMIT:
@@ -196,9 +196,9 @@ class Service:
         return None
 
     async def in_time(self, work: Awaitable[T]) -> T:
-        """What another node may have to answer. Raises `OwnerUnavailable` where it takes too long;
-        then
-        it may still be done.
+        """Await work that another node may have to answer.
+
+        Raises `OwnerUnavailable` if it takes too long. The work may still be done.
         """
         try:
             async with asyncio.timeout(self.settings.patience):
@@ -212,17 +212,19 @@ class Service:
     # -- looks
 
     async def look(self, question: Question[T]) -> T:
-        """Ask the store, in a thread."""
+        """Ask the store a question in a thread."""
         return await self.threads.reads.ask(question)
 
     async def kept(self, key: str, *, is_page: bool = False) -> SagaView | None:
-        """A saga with all that is kept of it; large values as they are stored. `is_page`: it is
-        for a page."""
+        """Return the stored view of a saga. Large values stay in their stored form.
+
+        `is_page`: it is for a page of the dashboard.
+        """
         pool = self.threads.pages if is_page else self.threads.reads
         return await pool.ask(one_saga.view(key, stored))
 
     async def saga(self, key: str, *, is_page: bool = False) -> SagaView | None:
-        """The same, and of what has begun what the node knows that drives it."""
+        """Return the view of a saga with the active attempts that its node reports."""
         view = await self.kept(key, is_page=is_page)
         if view is None or not any(step.state in activity.BEGUN for step in view.steps):
             return view
@@ -231,7 +233,7 @@ class Service:
         )
 
     async def _begun_there(self, view: SagaView) -> list[ActiveAttempt]:
-        """What has begun of a saga at the node that drives it; none where it does not say."""
+        """Return the active attempts that another node reports; none if it does not answer."""
         if self._peers is None:
             return []
         until, attempts = self._there.get(view.key, (0.0, list[ActiveAttempt]()))
@@ -250,7 +252,7 @@ class Service:
         return attempts
 
     async def queues(self, principal: Principal) -> list[Queue]:
-        """What waits for workers, at any node, as far as it is theirs to see."""
+        """Return the queues of all nodes that a principal may see."""
         all_queues = await self.store.workers.queues()
         return [
             queue
@@ -259,8 +261,10 @@ class Service:
         ]
 
     async def seen(self, principal: Principal) -> list[Seen]:
-        """The workers that asked lately, at any node, the latest first, with the steps that are
-        theirs to see."""
+        """Return the workers that polled recently, at any node, the latest first.
+
+        Each has only the steps that the principal may see.
+        """
         replies = await self._peers.ask_all("workers") if self._peers else []
         others = [Seen(*worker) for reply in replies for worker in reply]
         latest: dict[str, Seen] = {}
@@ -278,8 +282,10 @@ class Service:
     # -- what is whose to see
 
     async def check_sees(self, principal: Principal, key: str) -> None:
-        """Raises `NoSuchSaga` where the saga is of a definition, or has a key, that is not theirs
-        to see: in the words for a key that nobody has."""
+        """Raise `NoSuchSaga` if a principal may not see a saga.
+
+        The message is the same as for a key that no saga has.
+        """
         if not principal.scope.has_key(key):
             raise NoSuchSaga(f"no saga has the key {key!r}")
         if principal.definitions is not None:
@@ -288,8 +294,10 @@ class Service:
                 raise NoSuchSaga(f"no saga has the key {key!r}")
 
     async def is_approval(self, key: str, step: str) -> bool:
-        """Whether a saga's step is an approval. Raises `NoSuchSaga`, and `DefinitionError` where
-        this service does not have its definition."""
+        """Return whether a saga's step is an approval.
+
+        Raises `NoSuchSaga`, and `DefinitionError` if this service does not have its definition.
+        """
 
         def question() -> Question[bool]:
             row = yield from one_saga.there(key)
@@ -299,8 +307,10 @@ class Service:
         return await self.look(question())
 
     def approvals(self, name: str, definition: str) -> set[str]:
-        """The steps of a saga's definition that are approvals. Raises `DefinitionError` where this
-        service does not have it."""
+        """Return the approval steps of a saga's definition.
+
+        Raises `DefinitionError` if this service does not have it.
+        """
         for saga in self.settings.sagas:
             if (saga.name, saga.version) == (name, version_of(definition)):
                 return declared_steps.approvals(saga, definition)
@@ -320,9 +330,14 @@ class Service:
         deadline: float | None = None,
         traceparent: str | None = None,
     ) -> Run:
-        """Starts a saga, of which `size` bytes were sent. Raises what `Store.start` raises, and
-        `StoreUnavailable` where that takes too long; of a key's saga that is not theirs to see
-        nothing is told. Raises `Problem` where the token has too many open sagas."""
+        """Start a saga. `size` is the number of bytes that the client sent.
+
+        Raises:
+            StoreUnavailable: The store does not confirm the start in time.
+            KeyConflict: The key has another saga. Its details are hidden from principals that
+                may not see it.
+            Problem: The token has too many open sagas.
+        """
         token = None if self.tokens is None else principal.name
         pending = token and await self.quotas.take(principal, size, lambda: self._is_there(key))
         is_new = False
@@ -357,7 +372,7 @@ class Service:
     # -- names
 
     def is_page(self, address: str) -> bool:
-        """Whether an address is one of the dashboard's own pages, with its query."""
+        """Return whether an address is one of the dashboard's pages."""
         path = address.partition("#")[0].partition("?")[0]
         if not address.isascii() or not address.isprintable() or "\\" in address:
             return False
@@ -365,8 +380,10 @@ class Service:
         return name is not None and any(page.fullmatch(name) for page in self.pages)
 
     def saga_named(self, principal: Principal, name: str, version: int | None) -> Saga:
-        """The definition of a name; without a version its newest. Raises `DefinitionError`, which
-        names those that are theirs to see."""
+        """Return the definition with a name; without a version, the newest one.
+
+        Raises `DefinitionError`, which lists the definitions that the principal may see.
+        """
         matches = [
             saga
             for saga in self.settings.sagas
@@ -381,11 +398,11 @@ class Service:
         return max(matches, key=lambda saga: saga.version)
 
     def names(self, principal: Principal) -> list[str]:
-        """The definitions that are theirs to see."""
+        """Return the definitions that a principal may see."""
         return sorted({saga.name for saga in self.settings.sagas if principal.sees(saga.name)})
 
     def task_names(self) -> set[str]:
-        """The steps, and compensations, that workers may ask for, as they ask for them."""
+        """Return the names of all tasks that workers may claim."""
         return self._task_names
 
     @functools.cached_property
@@ -399,14 +416,14 @@ class Service:
         return result
 
     def saw(self, worker: str, steps: list[str]) -> None:
-        """A worker asked for tasks."""
+        """Record that a worker polled for tasks."""
         self.workers.pop(worker, None)
         self.workers[worker] = Seen(worker, time.time(), steps)
         if len(self.workers) > MOST_WORKERS:
             self.workers.popitem(last=False)
 
     def request(self, scope: Any, status: int, seconds: float) -> None:
-        """A request is over: it is counted and logged."""
+        """Count and log a finished request."""
         path = scope["path"].replace(SLASH, "%2F")
         waits = path.endswith(("/wait", "/claim", "/events"))
         self.metrics.request(scope["method"], status, seconds, waits)
@@ -425,7 +442,7 @@ class Service:
 
 
 def event_fields(event: Event) -> dict[str, Any]:
-    """An event for other services."""
+    """Return an event as it is sent to other services."""
     fields = {name: value for name, value in dataclasses.asdict(event).items() if value is not None}
     if event.detail is not None:
         fields["detail"] = event.detail[:MOST_DETAIL]

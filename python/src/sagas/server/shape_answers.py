@@ -1,4 +1,4 @@
-"""Shapes of what a task says about its saga, as the OpenAPI document has them."""
+"""Shapes of a task's description of its saga, as in the OpenAPI document."""
 
 from __future__ import annotations
 

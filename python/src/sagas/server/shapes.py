@@ -1,4 +1,4 @@
-"""Shapes of JSON: they read what requests have, and describe themselves as JSON Schema."""
+"""Shapes of JSON: they validate requests, and describe themselves as JSON Schema."""
 
 from __future__ import annotations
 
@@ -15,11 +15,11 @@ Schema = dict[str, Any]
 MOST_SHOWN = 80
 WHOLE = re.compile("-?[0-9]{1,20}")
 DECIMAL = re.compile(r"-?[0-9]{1,20}(\.[0-9]{1,20})?([eE][+-]?[0-9]{1,3})?")
-"""Numbers of a query as JSON has them: no underscores, and no digits beyond ASCII."""
+"""Numbers of a query, in JSON's syntax: without underscores, and with ASCII digits only."""
 
 
 class Invalid(ValueError):
-    """A value is not of its shape. `field` is its place: `next.steps.0`."""
+    """A value does not match its shape. `field` is its path, such as `next.steps.0`."""
 
     def __init__(self, field: str, text: str) -> None:
         super().__init__(text)
@@ -27,24 +27,24 @@ class Invalid(ValueError):
 
 
 class Shape(abc.ABC):
-    """What a value has to be."""
+    """The expected form of a value."""
 
     @abc.abstractmethod
     def read(self, value: Any, field: str) -> Any:
-        """The value. Raises `Invalid`."""
+        """Return the validated value. Raises `Invalid`."""
 
     @abc.abstractmethod
     def schema(self) -> Schema:
-        """The shape as JSON Schema."""
+        """Return the JSON Schema."""
 
     def of_text(self, text: str, field: str) -> Any:
-        """The value of a parameter of a query, or of a path. Raises `Invalid`."""
+        """Return the value of a query or path parameter. Raises `Invalid`."""
         return self.read(text, field)
 
 
 @dataclasses.dataclass(frozen=True)
 class Anything(Shape):
-    """Any JSON."""
+    """Any JSON value."""
 
     def read(self, value: Any, field: str) -> Any:
         return value
@@ -55,7 +55,9 @@ class Anything(Shape):
 
 @dataclasses.dataclass(frozen=True)
 class Text(Shape):
-    """A text of so many characters. `pattern` is of all of it; `strip`: without blanks around."""
+    """A string with limits on its length. `pattern` must match all of it. `strip` removes outer
+    blanks.
+    """
 
     most: int | None = None
     least: int = 0
@@ -90,7 +92,7 @@ class Text(Shape):
 
 @dataclasses.dataclass(frozen=True)
 class Choice(Shape):
-    """One of some texts."""
+    """One of several strings."""
 
     some: tuple[str, ...]
 
@@ -105,7 +107,7 @@ class Choice(Shape):
 
 @dataclasses.dataclass(frozen=True)
 class Number(Shape):
-    """A number within bounds; `whole`: an integer."""
+    """A number within bounds. `whole`: an integer."""
 
     least: float | None = None
     most: float | None = None
@@ -173,7 +175,7 @@ class Nullable(Shape):
 
 @dataclasses.dataclass(frozen=True)
 class Several(Shape):
-    """A list of so many values of one shape."""
+    """A list of values of one shape."""
 
     of: Shape
     least: int = 0
@@ -194,7 +196,7 @@ class Several(Shape):
 
 @dataclasses.dataclass(frozen=True)
 class Mapped(Shape):
-    """An object with any keys, whose values are of one shape."""
+    """An object with any keys, whose values have one shape."""
 
     of: Shape
 
@@ -208,12 +210,12 @@ class Mapped(Shape):
 
 
 REQUIRED: Any = object()
-"""The default of a field that has to be there."""
+"""The default of a required field."""
 
 
 @dataclasses.dataclass(frozen=True)
 class Field:
-    """A field of an object, or a parameter of a query; without a default it has to be there."""
+    """A field of an object, or a parameter of a query. Without a default, it is required."""
 
     shape: Shape
     description: str = ""
@@ -222,11 +224,11 @@ class Field:
 
     @property
     def is_required(self) -> bool:
-        """Whether it has to be there."""
+        """Return whether it is required."""
         return self.default is REQUIRED
 
     def schema(self) -> Schema:
-        """Its shape, with what is told of it."""
+        """Return the schema of its shape, with its description."""
         result = self.shape.schema()
         if self.description:
             result = {**result, "description": self.description}
@@ -237,7 +239,7 @@ class Field:
 
 @dataclasses.dataclass(frozen=True, eq=False)
 class Record(Shape):
-    """An object with these fields and no others. `name`: as the document has it."""
+    """An object with exactly these fields. `name`: its name in the OpenAPI document."""
 
     name: str
     fields: Mapping[str, Field]
@@ -253,7 +255,7 @@ class Record(Shape):
         return {"$ref": f"#/components/schemas/{self.name}"}
 
     def whole(self) -> Schema:
-        """The schema itself, which others refer to."""
+        """Return the full schema, which other schemas refer to."""
         required = [name for name, field in self.fields.items() if field.is_required]
         result: Schema = {
             "type": "object",
@@ -268,12 +270,12 @@ class Record(Shape):
 
     @property
     def is_optional(self) -> bool:
-        """Whether an empty object is one."""
+        """Return whether an empty object is valid."""
         return not any(field.is_required for field in self.fields.values())
 
 
 def read_fields(fields: Mapping[str, Field], value: dict[str, Any], path: str) -> dict[str, Any]:
-    """The values of all fields; those that are not there by their defaults. Raises `Invalid`."""
+    """Return the values of all fields, with defaults for missing ones. Raises `Invalid`."""
     for name in value:
         if name not in fields:
             shown = name[:MOST_SHOWN]
@@ -290,12 +292,12 @@ def read_fields(fields: Mapping[str, Field], value: dict[str, Any], path: str) -
 
 
 def within(path: str, name: str) -> str:
-    """The place of a field of an object."""
+    """Return the path of a field of an object."""
     return f"{path}.{name}" if path else name
 
 
 def records(shape: Shape) -> dict[str, Record]:
-    """The records that a shape is made of, by their names."""
+    """Return the records that a shape consists of, by name."""
     if isinstance(shape, Record):
         result = {shape.name: shape}
         for field in shape.fields.values():

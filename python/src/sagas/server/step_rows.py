@@ -18,20 +18,20 @@ from sagas.server.unfolding import Unfolding
 
 @dataclasses.dataclass(frozen=True, slots=True)
 class StepRow:
-    """A row: of a step, or of a group.
+    """A row of a step or of a group.
 
     Attributes:
-        title: The step's name; of a group its name and how many it has.
-        told: The state that is shown.
+        title: The step's name; for a group, its name and size.
+        display: The state that is shown.
         needs: The names of the steps and groups that it needs.
-        attempts: How often the action began.
-        step: The step; None of a group.
-        item: Of which item it is, in words.
-        href: Where a click on a group leads.
+        attempts: How often the action was started.
+        step: The step. None for a group.
+        item: A description of its item.
+        href: The target of a click on a group.
         is_open: Whether the group is unfolded.
-        note: What is said of a group: its first error.
-        decision: What the plan decided of a group.
-        depth: In how many unfolded groups it is.
+        note: The first error of a group.
+        decision: What the plan decided about a group.
+        depth: How many unfolded groups enclose it.
     """
 
     title: str
@@ -49,7 +49,7 @@ class StepRow:
 
 @dataclasses.dataclass(slots=True)
 class Node:
-    """An unfolded group with what is in it."""
+    """An unfolded group with its parts."""
 
     group: Group
     parts: list[Part] = dataclasses.field(default_factory=list)
@@ -62,7 +62,7 @@ class StepTable:
     """The rows of a saga's steps.
 
     Attributes:
-        blocks: What is shown as one.
+        blocks: The steps that are shown as one.
     """
 
     def __init__(
@@ -83,7 +83,7 @@ class StepTable:
         }
 
     def titles(self) -> dict[str, str]:
-        """By the names of the steps that are folded, the titles of their groups."""
+        """Return the titles of folded groups, by the names of their steps."""
         return {
             self._steps[step].name: block.group.title
             for block in self.blocks
@@ -92,7 +92,9 @@ class StepTable:
         }
 
     def rows(self) -> Rows:
-        """The rows. Of many the urgent ones come first, and the others are folded."""
+        """Return the rows. If there are many, the urgent ones come first and the others are
+        folded.
+        """
         top = self._tree()
         few = folded(top, lambda part: (self._urgency(part),))
         shown, more = list[StepRow](), list[StepRow]()
@@ -115,13 +117,13 @@ class StepTable:
         return top
 
     def _urgency(self, part: Part) -> int:
-        """Of a group it is that of its most urgent step; an unfolded one stays in sight."""
+        """Return the rank of a part. An unfolded group always stays visible."""
         if isinstance(part, Node):
             return 0
         return min(urgency(self._displays[step]) for step in part.steps)
 
     def _add(self, part: Part, depth: int, shown: list[StepRow], more: list[StepRow]) -> None:
-        """Add the rows of a part. The items after the first ones are among the others."""
+        """Add the rows of a part. Items after the first ones are folded."""
         if isinstance(part, Block):
             group = part.group
             shown.append(self._group(group, depth) if group else self._step(part.steps[0], depth))
@@ -166,7 +168,7 @@ class StepTable:
         )
 
     def _decisions(self, steps: list[StepView]) -> str:
-        """What the plan decided of a group's steps, and what that costs."""
+        """Describe what the plan decided about a group's steps, and the cost."""
         choices = [self._choices[step.name] for step in steps if step.name in self._choices]
         counts = Counter(wording.DECISIONS[choice.decision] for choice in choices)
         cost = sum(
@@ -177,7 +179,7 @@ class StepTable:
 
 
 def errors(steps: Sequence[StepView]) -> str:
-    """The first error of a group's steps, and how many more there are."""
+    """Return the first error of a group's steps, and how many more there are."""
     listed = [f"{step.name}: {step.raised or step.said}" for step in steps if _is_bad(step)]
     if not listed:
         return ""

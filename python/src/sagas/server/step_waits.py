@@ -1,4 +1,4 @@
-"""What a step waits for: by a name, which a form has of what its reader saw, and in words."""
+"""What a step waits for: as an identifier for forms, and in words."""
 
 from __future__ import annotations
 
@@ -14,10 +14,10 @@ REASONS = {
 
 
 def name_of(view: SagaView, step: str, undo: bool) -> str:
-    """The name of what an attempt of a step waits for; empty where none is under way.
+    """Return an identifier of what a step's attempt waits for, or "" if no attempt is active.
 
-    A later attempt has another name. So has the same one once somebody claims it, and once it waits
-    again."""
+    It changes with a later attempt, when a worker claims the attempt, and when it waits again.
+    """
     if view.phase != "open":
         return ""
     at = step, undo, None
@@ -36,7 +36,7 @@ def name_of(view: SagaView, step: str, undo: bool) -> str:
 
 
 def description_of(view: SagaView, step: str, undo: bool, now: float) -> str:
-    """What an attempt that is under way waits for, in words."""
+    """Describe what an active attempt waits for."""
     held = _held(view, step, undo)
     if held is None or (held.why in ("unknown", "retry") and held.until is not None):
         return "it is called again, or is about to be"

@@ -14,14 +14,14 @@ from sagas.server.middleware import FOLLOWED, Receive, Scope, Send
 
 
 class Streams:
-    """`most` in all, `each` of one maker, and `kept` of all for the dashboard alone."""
+    """Limits of streams: `most` in total, `each` per client, and `kept` for the dashboard alone."""
 
     def __init__(self, most: int, each: int, kept: int) -> None:
         self.most, self.each, self.kept = most, each, kept
         self._there: Counter[tuple[str, bool]] = Counter()
 
     def full(self, client_key: str, dashboard: bool) -> str | None:
-        """Why this maker gets no further one; None where there is room."""
+        """Return why a client gets no further stream, or None."""
         if self._there[client_key, dashboard] >= self.each:
             return f"you have {self.each} event streams: close some"
         most = self.most if dashboard else self.most - self.kept
@@ -32,7 +32,7 @@ class Streams:
         return None
 
     def take(self, client_key: str, dashboard: bool) -> Callable[[], None]:
-        """One more; gives what ends it."""
+        """Count one more stream. Returns a function that ends it."""
         key = client_key, dashboard
         self._there[key] += 1
 
@@ -45,7 +45,7 @@ class Streams:
 
 
 class Stream(StreamingResponse):
-    """An answer that leaves its place once it is over, however it ends."""
+    """A streaming response that frees its slot when it ends."""
 
     def __init__(self, content: Any, leave: Callable[[], None]) -> None:
         super().__init__(
@@ -54,7 +54,7 @@ class Stream(StreamingResponse):
         self._leave = leave
 
     async def __call__(self, scope: Scope, receive: Receive, send: Send) -> None:
-        """Sends it, until the client sends something behind its request."""
+        """Send the stream until the client sends something after its request."""
         sending = asyncio.ensure_future(super().__call__(scope, receive, send))
         try:
             await asyncio.wait({sending, scope[FOLLOWED]}, return_when=asyncio.FIRST_COMPLETED)

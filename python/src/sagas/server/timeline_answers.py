@@ -1,4 +1,4 @@
-"""Shapes of a saga's timeline, as the OpenAPI document has them."""
+"""Shapes of a saga's timeline, as in the OpenAPI document."""
 
 from __future__ import annotations
 

@@ -9,7 +9,7 @@ from typing import Any, Union
 import tomllib
 
 Path = tuple[Union[str, int], ...]
-"""Keys from the outside in; a table of an array by its number, from 0."""
+"""Keys from the outside in. A table of an array is given by its index, from 0."""
 BLANK = re.compile(r"(?:[ \t\r\n]|#[^\n]*)*")
 COMMENT = re.compile(r"#[^\n]*")
 HEADER = re.compile(r"(\[\[?)((?:\"[^\"\n]*\"|'[^'\n]*'|[^\]\"'])*)\]\]?")
@@ -20,7 +20,7 @@ STRING = re.compile(
 
 
 class Lines:
-    """The lines of a text that `tomllib` can read."""
+    """The line numbers of a TOML text."""
 
     def __init__(self, text: str) -> None:
         self._there: dict[Path, int] = {}
@@ -28,14 +28,14 @@ class Lines:
             self._there.setdefault(path, line)
 
     def of(self, *path: Union[str, int]) -> int:
-        """The line, from 1, of what has this path; or of the innermost around it that has one."""
+        """Return the line, from 1, of the part with this path, or of an enclosing part."""
         while path and path not in self._there:
             path = path[:-1]
         return self._there.get(path, 1)
 
 
 def _paths(text: str) -> Iterator[tuple[Path, int]]:
-    """The path and the line of each table and key."""
+    """Yield the path and the line of each table and key."""
     table: Path = ()
     at, before, line, counts = 0, 0, 1, dict[Path, int]()
     while (at := _end_of_match(BLANK, text, at)) < len(text):
@@ -61,7 +61,7 @@ def _end_of_match(form: re.Pattern[str], text: str, at: int) -> int:
 
 
 def _parts(text: str) -> Path:
-    """The parts of a dotted key."""
+    """Return the parts of a dotted key."""
     value: Any = tomllib.loads(f"{text.strip()} = 0")
     names: list[str] = []
     while isinstance(value, dict):
@@ -71,7 +71,7 @@ def _parts(text: str) -> Path:
 
 
 def _numbered(names: Path, counts: dict[Path, int]) -> Path:
-    """A table's path, with the number of the last of each array that it is in."""
+    """Return a table's path, with the current index of each array in it."""
     path: Path = ()
     for length, name in enumerate(names, 1):
         path += (name,)
@@ -81,8 +81,7 @@ def _numbered(names: Path, counts: dict[Path, int]) -> Path:
 
 
 def _end_of_value(text: str, at: int) -> int:
-    """Where a value ends that begins there: at the end of a line, outside of brackets and
-    strings."""
+    """Return where a value ends: at the end of a line, outside of brackets and strings."""
     depth = 0
     while at < len(text):
         char = text[at]

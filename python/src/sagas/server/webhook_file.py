@@ -1,4 +1,4 @@
-"""The file of webhooks: where what is posted, and by which secret it is signed."""
+"""The file of webhooks: what is posted where, and the secret that signs it."""
 
 from __future__ import annotations
 
@@ -20,7 +20,7 @@ KEYS = ("name", "url", "secret", "types", "definitions")
 PREFIX = "whsec_"
 LEAST_SECRET = 24  # bytes
 SENT = re.compile("[!-~]+")
-"""What a request may have in its host, path and query."""
+"""Valid characters of a request's host, path and query."""
 
 
 class WebhookFault(Exception):
@@ -29,7 +29,7 @@ class WebhookFault(Exception):
 
 @dataclasses.dataclass(frozen=True, slots=True)
 class Webhook:
-    """Where events of some types are posted. `definitions`: of these alone; None: of all."""
+    """Where events of some types are posted. `definitions`: only events of these. None: of all."""
 
     name: str
     url: str
@@ -38,13 +38,15 @@ class Webhook:
     definitions: frozenset[str] | None
 
     def wants(self, kind: str, saga: str) -> bool:
-        """Whether it is told of this."""
+        """Return whether an event is posted to it."""
         return kind in self.types and (self.definitions is None or saga in self.definitions)
 
 
 def is_local(host: str) -> bool:
-    """Whether an address, or `localhost`, is this machine or on its link. Other names are resolved
-    when something is posted."""
+    """Return whether an address, or `localhost`, is this machine or on its link.
+
+    Other names are resolved when something is posted.
+    """
     try:
         address = ipaddress.ip_address(host.partition("%")[0])
     except ValueError:
@@ -55,8 +57,10 @@ def is_local(host: str) -> bool:
 
 
 def read(path: pathlib.Path, allow_local: bool = False) -> list[Webhook]:
-    """The tables `[[webhook]]` of a file. `allow_local`: whether they may post to this machine.
-    Raises `WebhookFault`."""
+    """Read the tables `[[webhook]]` of a file. Raises `WebhookFault`.
+
+    `allow_local`: whether they may post to this machine.
+    """
     try:
         private_files.check(path)
         document = tomllib.loads(path.read_text(encoding="utf-8"))
@@ -80,7 +84,7 @@ def read(path: pathlib.Path, allow_local: bool = False) -> list[Webhook]:
 
 
 def _read_one(entry: Any, allow_local: bool) -> Webhook:
-    """One of them. Raises `ValueError`."""
+    """Return the webhook of a table. Raises `ValueError`."""
     unknown = sorted(set(entry) - set(KEYS)) if isinstance(entry, dict) else ["?"]
     if unknown:
         raise ValueError(f"unknown key {unknown[0]!r}; the keys are {', '.join(KEYS)}")
@@ -107,7 +111,7 @@ def _read_one(entry: Any, allow_local: bool) -> Webhook:
 
 
 def _url(value: Any) -> str:
-    """A URL that can be posted to. No part of it is in what is raised."""
+    """Return a valid URL. Error messages contain no part of it."""
     fault = ValueError(
         "url must be an http or https address with a valid host and port and a percent-encoded "
         "path, for example https://example.org/hook"
@@ -134,7 +138,7 @@ def _texts(value: Any, key: str) -> frozenset[str]:
 
 
 def _secret(value: Any) -> bytes:
-    """The bytes of a secret, as Standard Webhooks writes it."""
+    """Return the bytes of a secret in the format of Standard Webhooks."""
     hint = f"secret must be {PREFIX} followed by at least {LEAST_SECRET} random bytes in base64"
     if not isinstance(value, str) or not value.startswith(PREFIX):
         raise ValueError(hint)

@@ -18,26 +18,26 @@ from sagas.server.webhook_file import Webhook, is_local
 from sagas.storage.deliveries import Claimed
 
 MOST_ANSWER = 1 << 16
-"""Bytes that are read of an answer. Its body is not read."""
+"""Maximum bytes of an answer's head. The body is not read."""
 STATUS = re.compile(rb"HTTP/1\.[01] ([1-5][0-9]{2})(?: |\r?\n)")
 
 
 class InvalidAnswer(Exception):
-    """What the receiver sent is not the beginning of an answer of HTTP. Its bytes are not told."""
+    """The receiver's answer does not begin as HTTP. The message does not contain its bytes."""
 
 
 class LocalReceiver(Exception):
-    """The receiver's name leads to this machine, or to its link."""
+    """The receiver's name resolves to this machine or its link."""
 
 
 def signed(secret: bytes, id: str, at: int, body: bytes) -> str:
-    """The signature of a post: `v1,` and an HMAC in base64."""
+    """Return the signature of a post: `v1,` and an HMAC in base64."""
     code = hmac.new(secret, f"{id}.{at}.".encode() + body, hashlib.sha256).digest()
     return f"v1,{base64.b64encode(code).decode()}"
 
 
 def request_of(hook: Webhook, parts: SplitResult, delivery: Claimed) -> bytes:
-    """The bytes of a post."""
+    """Return the bytes of a post."""
     at, body = int(time.time()), delivery.body.encode()
     host = (parts.hostname or "").encode("idna").decode()
     host = f"[{host}]" if ":" in host else host
@@ -84,7 +84,7 @@ async def post(hook: Webhook, delivery: Claimed, seconds: float, allow_local: bo
 
 
 async def _status(reader: asyncio.StreamReader) -> int:
-    """The status of the answer, past those that only say that there will be one."""
+    """Return the status of the answer, after any informational (1xx) answers."""
     left, is_first = MOST_ANSWER, True
     while True:
         try:
@@ -104,7 +104,7 @@ async def _status(reader: asyncio.StreamReader) -> int:
 
 
 async def _address_of(host: str, port: int, allow_local: bool) -> str:
-    """The first address of a host that may be posted to."""
+    """Return the first address of a host that may be posted to."""
     addresses = await _resolved(host, port)
     for address in addresses:
         if allow_local or not is_local(address):
@@ -113,8 +113,11 @@ async def _address_of(host: str, port: int, allow_local: bool) -> str:
 
 
 async def _resolved(host: str, port: int) -> list[str]:
-    """The addresses of a host. The thread is a daemon: a name server that does not answer holds up
-    neither others nor a stop."""
+    """Return the addresses of a host.
+
+    The thread is a daemon, so a name server that does not answer delays neither others nor a
+    stop.
+    """
     try:
         return [str(ipaddress.ip_address(host))]
     except ValueError:

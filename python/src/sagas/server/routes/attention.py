@@ -21,7 +21,7 @@ KIND = "|".join(KINDS)
 
 
 def parse_cursor(cursor: str | None) -> tuple[str | None, EntryPosition]:
-    """The kind and the place in a cursor."""
+    """Return the kind and the position in a cursor."""
     if cursor is None:
         return None, None
     kind, _, rest = cursor.partition(".")
@@ -31,7 +31,7 @@ def parse_cursor(cursor: str | None) -> tuple[str | None, EntryPosition]:
 
 
 def cursor_of(entry: Entry) -> str:
-    """What `parse_cursor` reads."""
+    """Return the cursor of an entry, which `parse_cursor` reads."""
     return f"{entry.kind}.{filters.cursor_of((entry.started, entry.id))}.{entry.step_index}"
 
 
@@ -43,7 +43,7 @@ def pages(
     newest: bool,
     limit: int,
 ) -> Question[list[Entry]]:
-    """A page over several kinds, one behind the other."""
+    """Return a page of entries of several kinds, one kind after the other."""
     entries: list[Entry] = []
     for kind in kinds:
         left = limit - len(entries)

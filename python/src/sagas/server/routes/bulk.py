@@ -1,4 +1,4 @@
-"""Routes of actions on many sagas: a count first, then the action."""
+"""Routes of bulk actions: first a count, then the action."""
 
 from __future__ import annotations
 
@@ -26,11 +26,11 @@ from sagas.storage.filters import Filter
 
 routes = Routes("operators", "/v1/bulk")
 MOST_TARGETS = 1000
-"""How many one request changes at most."""
+"""The maximum number of changes by one request."""
 SHOWN = 20
 AT_ONCE = 50
 Target = tuple[str, str, bool]
-"""A saga, a step of it or nothing, and whether its compensation is meant."""
+"""A saga's key, a step or "", and whether its compensation is the target."""
 Action = Callable[[Target], Awaitable[Any]]
 SAGAS = Record("SagaFilter", {**filters.SAGAS, **filters.LABELS}, "What is left out selects all.")
 STEPS = Record(
@@ -65,12 +65,12 @@ MODE: Mapping[str, Field] = {
 
 
 def record(name: str, filter_record: Record, more: Mapping[str, Field]) -> Record:
-    """The body of a deed."""
+    """Return the body of a bulk action."""
     return Record(name, {"filter": Field(filter_record), **MODE, **more})
 
 
 def sagas_of(sagas: Filter) -> Question[tuple[int, list[Target]]]:
-    """The sagas of a filter that nobody has asked to abort: how many, and the first of them."""
+    """Count the sagas of a filter without an abort request, and return the first of them."""
     total, keys = yield from lists.to_abort(sagas, MOST_TARGETS)
     return total, [(key, "", False) for key in keys]
 
@@ -78,7 +78,7 @@ def sagas_of(sagas: Filter) -> Question[tuple[int, list[Target]]]:
 def entries_of(
     kind: str, sagas: Filter, step: str | None, undo: bool | None
 ) -> Question[tuple[int, list[Target]]]:
-    """The same of what needs a person; without a step each saga once."""
+    """Count the entries of a filter, and return the first. Without a step, each saga once."""
     by_saga = step is None
     total = yield from attention_pages.count(kind, sagas, step, undo, by_saga=by_saga)
     entries = yield from attention_pages.entries(kind, sagas, step, undo, most=MOST_TARGETS)
@@ -91,7 +91,7 @@ def entries_of(
 
 
 async def warnings_of(call: Call, sagas: Filter) -> list[str]:
-    """What may be misspelt in a filter that selects nothing."""
+    """Return what may be misspelled in a filter that selects nothing."""
     names = [name for saga in call.service.store.sagas for name, _ in saga.declared_steps]
     step = call.body["filter"].get("step")
     return await call.service.look(unmatched.of(sagas, step, names))
@@ -104,8 +104,10 @@ async def count_and_act(
     action: Action,
     undoing: int = 0,
 ) -> Response:
-    """Counts; then, where it is no dry run and the count is still the same, does it to each.
-    `undoing`: how many are left out, because they undo children."""
+    """Count the targets. If it is not a dry run and the count is unchanged, act on each.
+
+    `undoing`: how many are excluded because they undo children.
+    """
     body, (total, targets) = call.body, await call.service.look(question)
     warnings = [] if total else await warnings_of(call, sagas)
     done, refused = 0, list[Any]()
@@ -133,8 +135,10 @@ async def count_and_act(
 async def each(
     service: Service, targets: list[Target], action: Action
 ) -> tuple[int, list[dict[str, Any]]]:
-    """Does it to each, some at once, so that they share commits: how many were done, and which were
-    refused, and why."""
+    """Act on each target, several at once so that they share commits.
+
+    Returns how many were done, and which were refused and why.
+    """
     refused: list[dict[str, Any]] = []
 
     async def act_on(target: Target) -> None:
@@ -152,7 +156,7 @@ async def each(
 def action_of(
     service: Service, verb: str, options: dict[str, Any], result: Any, error: Any
 ) -> Action:
-    """What is done to each. `options`: who does it, and why."""
+    """Return the action on one target. `options`: the name of the principal, and the note."""
     store = service.store
 
     async def do(target: Target) -> None:
@@ -175,7 +179,7 @@ def action_of(
 
 
 def declare(name: str, body: Record, verb: str, description: str) -> Handler:
-    """The route of a deed."""
+    """Declare the route of a bulk action."""
 
     async def handler(call: Call) -> Response:
         selection, sent = call.body["filter"], call.body

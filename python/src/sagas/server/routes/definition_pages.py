@@ -1,4 +1,4 @@
-"""Pages of definitions: how their sagas go."""
+"""Pages of definitions: their steps, and the state of their sagas."""
 
 from __future__ import annotations
 
@@ -28,7 +28,7 @@ routes = Routes("pages", is_page=True)
 
 @routes.get("/ui/definitions")
 async def listed(call: Call) -> Response:
-    """All of them, with how many sagas there are."""
+    """Show all definitions with counts of their sagas."""
     if answer := login_redirect(call.request):
         return answer
     service, principal = call.service, viewer_of(call.request)
@@ -50,8 +50,10 @@ async def listed(call: Call) -> Response:
 
 @routes.get("/ui/definitions/{name}", query={"unfold": FIELD})
 async def saga(call: Call) -> Response:
-    """One of them: its steps with what is at each, durations, and the costs of recoveries. Of one
-    that only another service has, or none any more, its sagas alone."""
+    """Show a definition: its steps with their attempts, durations, and the costs of recoveries.
+
+    If only another service has it, or none any more, only its sagas are shown.
+    """
     request, name = call.request, call.path["name"]
     if answer := login_redirect(request):
         return answer
@@ -86,7 +88,7 @@ async def saga(call: Call) -> Response:
 
 
 async def steps_told(call: Call, saga: Saga, at: dict[str, AtStep]) -> dict[str, Any]:
-    """What the page has of the steps."""
+    """Return the template values of the steps."""
     declared = declared_steps.of(saga)
     groups = Groups([step.spot for step in declared])
     unfolding = Unfolding(groups, call.query["unfold"], f"/ui/definitions/{saga.name}")
@@ -108,9 +110,9 @@ class Row:
         title: The declared name, or the group's title.
         steps: The numbers of the steps.
         needs: The names of what it needs.
-        at: What is at it.
-        step: The step; None of a group.
-        href: Where a click on a group leads.
+        at: Counts of its attempts.
+        step: The step. None for a group.
+        href: The target of a click on a group.
         durations: Of the action, and of the compensation.
     """
 
@@ -130,7 +132,7 @@ def rows_of(
     at: dict[str, AtStep],
     unfolding: Unfolding,
 ) -> list[Row]:
-    """The rows of the table, which are the boxes of the picture."""
+    """Return the rows of the table, which are also the boxes of the picture."""
     blocks = unfolding.groups.blocks(len(declared), unfolding.names)
     name_of = {
         declared[step].name: block.group.name if block.group else declared[step].name
@@ -154,18 +156,18 @@ def rows_of(
 
 
 def total(tallies: list[AtStep]) -> AtStep:
-    """What is at several steps."""
+    """Add up the counts of several steps."""
     return AtStep(*map(sum, zip(*map(dataclasses.astuple, tallies))))
 
 
 def durations_of(call: Call, saga: Saga, step: str) -> tuple[Any, Any]:
-    """Of its action, and of its compensation."""
+    """Return the durations of a step's action and of its compensation."""
     durations = call.service.metrics.durations
     return durations.of((saga.name, step, False)), durations.of((saga.name, step, True))
 
 
 def drawn(saga: Saga, declared: list[DeclaredStep], rows: list[Row]) -> str:
-    """The steps with what is at each."""
+    """Draw the steps with the counts of their attempts."""
     boxes = []
     for row in rows:
         tally = row.at

@@ -19,13 +19,13 @@ KINDS = {"approval": "approval", "wait": "wait", "child": "child"}
 
 
 def definition_json(saga: Saga, counts: dict[str, int]) -> dict[str, Any]:
-    """A definition with its steps."""
+    """Return a definition with its steps."""
     steps = [step_of(step) for step in declared_steps.of(saga)]
     return {"name": saga.name, "version": saga.version, "steps": steps, "sagas": counts}
 
 
 def step_of(declared: DeclaredStep) -> dict[str, Any]:
-    """A step with its costs."""
+    """Return a step with its costs."""
     step, costs = declared.step, declared.costs
     kind = KINDS.get(step.kind) or ("worker" if step.run.external else "function")
     return {

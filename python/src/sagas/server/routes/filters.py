@@ -27,7 +27,7 @@ from sagas.storage.filters import Filter
 LIMIT = Field(Number(1, 1000, whole=True), "how many at most", default=100)
 POSITION = r"-?[0-9]+(\.[0-9]+)?-[0-9]+"
 CURSOR = Text(most=64, pattern=POSITION)
-"""A place in the list: when a saga started, and its id, as 1795934845.949-1048577."""
+"""A position in the list: when a saga started, and its id, such as 1795934845.949-1048577."""
 
 
 class Moment(Shape):
@@ -56,7 +56,7 @@ class Moment(Shape):
 
 LABEL = Text(most=400, pattern="[^=]+=.*")
 MORE = {"label": Field(Several(LABEL, most=16), "with this label, as `customer=7`", default=None)}
-"""Of a query; a body has `labels` as an object."""
+"""Parameters of a query. A body has `labels` as an object."""
 LABELS = {"labels": Field(Mapped(Text()), "with these labels", default=None)}
 SAGAS: dict[str, Field] = {
     "definition": Field(Text(most=64), "of this definition", default=None),
@@ -68,7 +68,7 @@ SAGAS: dict[str, Field] = {
 
 
 def of(principal: Principal, parameters: Mapping[str, Any], phase: str | None = None) -> Filter:
-    """The filter, of sagas that are theirs to see. Raises `Problem`."""
+    """Return the filter of sagas that the principal may see. Raises `Problem`."""
     check_definition(principal, parameters["definition"], starts=False)
     fields = {
         name: parameters[name] for name in ("search", "started_after", "started_before", "error")
@@ -80,22 +80,22 @@ def of(principal: Principal, parameters: Mapping[str, Any], phase: str | None = 
 
 
 def labels_of(texts: Iterable[str]) -> dict[str, str]:
-    """Labels as a query has them, each `name=value`."""
+    """Return labels from a query's texts, each `name=value`."""
     return dict(text.partition("=")[::2] for text in texts)
 
 
 def cursor_of(position: tuple[float, int]) -> str:
-    """The text of a place, which is read as exactly the same."""
+    """Return the text of a position. Parsing it returns exactly the same position."""
     at, id = position
     return f"{Decimal(repr(at)):f}-{id}"  # no exponent, which has signs
 
 
 def position_of(cursor: str | None) -> Position:
-    """The place in a cursor."""
+    """Return the position in a cursor."""
     return None if cursor is None else parse_position(cursor)
 
 
 def parse_position(cursor: str) -> tuple[float, int]:
-    """What `cursor_of` wrote; an id that is too large is behind all."""
+    """Parse the text of `cursor_of`. An id that is too large is after all others."""
     at, _, id = cursor.rpartition("-")
     return float(at), min(int(id), 2**62)

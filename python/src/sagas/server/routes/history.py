@@ -1,4 +1,4 @@
-"""Routes of what happened to a saga: its events, and what each attempt did."""
+"""Routes of a saga's history: its events, and what each attempt did."""
 
 from __future__ import annotations
 

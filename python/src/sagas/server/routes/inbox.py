@@ -34,7 +34,7 @@ routes = Routes("pages", is_page=True)
 SHOWN, MEMBERS, LISTED = 12, 5, 50
 """Groups on a page, sagas of each, and sagas on a page of one group."""
 MOST_GROUPED = 2000
-"""Entries that are put into groups."""
+"""Maximum number of entries that are grouped."""
 MOST_FIELDS = 1000
 KIND = Field(Choice(KINDS), default=None)
 QUERY = {
@@ -49,19 +49,19 @@ QUERY = {
 
 @dataclasses.dataclass(frozen=True, slots=True)
 class Wanted:
-    """What a page, or a form, is about."""
+    """What a page or a form is about."""
 
     kind: str
     of: Filter
     newest: bool
 
     def question(self) -> Question[list[Entry]]:
-        """Its entries, as far as they are put into groups."""
+        """Return the question for its entries."""
         return attention_pages.entries(self.kind, self.of, newest=self.newest, most=MOST_GROUPED)
 
 
 def filter_of(request: Request, fields: dict[str, Any]) -> Filter:
-    """The sagas that are asked for, of those that are theirs to see."""
+    """Return the filter of the requested sagas that the user may see."""
     return Filter(
         saga=fields.get("definition") or None,
         search=fields.get("search") or None,
@@ -70,12 +70,12 @@ def filter_of(request: Request, fields: dict[str, Any]) -> Filter:
 
 
 def wanted_of(request: Request, fields: dict[str, Any], kind: str) -> Wanted:
-    """What is asked for."""
+    """Return the requested kind, filter and order."""
     return Wanted(kind, filter_of(request, fields), fields.get("order") == "newest")
 
 
 def counts_of(sagas: Filter) -> Question[dict[str, int]]:
-    """How many entries of each kind a filter selects."""
+    """Count the entries of each kind that a filter selects."""
     counts = dict[str, int]()
     for kind in KINDS:
         counts[kind] = yield from attention_pages.count(kind, sagas)
@@ -83,7 +83,7 @@ def counts_of(sagas: Filter) -> Question[dict[str, int]]:
 
 
 def address(parameters: dict[str, Any], **change: Any) -> str:
-    """The inbox with these parameters; those that are as without them are left out."""
+    """Return the inbox's address with these parameters. Defaults are left out."""
     query = {
         name: value
         for name, value in {**parameters, **change}.items()
@@ -93,7 +93,7 @@ def address(parameters: dict[str, Any], **change: Any) -> str:
 
 
 def listed(entries: list[Entry], group: str | None, page: int) -> dict[str, Any]:
-    """What a page has of the entries: groups, or the entries of one group."""
+    """Return the template values for entries: groups, or the entries of one group."""
     groups = attention_pages.groups(entries)
     chosen = (
         next((candidate for candidate in groups if id_of(candidate) == group), None)
@@ -112,7 +112,7 @@ def listed(entries: list[Entry], group: str | None, page: int) -> dict[str, Any]
 
 @routes.get("/ui", query=QUERY)
 async def inbox(call: Call) -> Response:
-    """What needs a person: the kind that is asked for, or the first of which there is something."""
+    """Show what needs an operator: the requested kind, or the first kind that has entries."""
     request, query = call.request, dict(call.query)
     if answer := login_redirect(request):
         return answer
@@ -162,8 +162,9 @@ async def inbox(call: Call) -> Response:
 
 @routes.post("/ui/inbox")
 async def deed(call: Call) -> Response:
-    """Asks once more, with the number; then does it to each that was asked about, as far as it
-    still waits, and says what came of it."""
+    """Ask for confirmation with the count. Then act on each confirmed entry that still waits, and
+    show the results.
+    """
     request = call.request
     session, fields = await sent_fields(request, MOST_FIELDS)
     form = dict(fields)
@@ -215,7 +216,7 @@ async def deed(call: Call) -> Response:
 def asked_again(
     request: Request, form: dict[str, str], selection: Selection, fault: str | None = None
 ) -> Response:
-    """The question, with what was selected and said."""
+    """Return the confirmation page, with the selection and the form's values."""
     kind, verb = form["kind"], form["verb"]
     targets = selection.targets(verb)
     values: dict[str, Any] = {"form": form, "targets": targets, "verb": verb, "kind": kind}
@@ -225,7 +226,7 @@ def asked_again(
 
 
 def fault_of(form: dict[str, str]) -> str | None:
-    """What is wrong with what was said."""
+    """Return what is wrong with a form, or None."""
     if form["verb"] == "resolve" and not form.get("note", "").strip():
         return "Say what was done about it."
     if form["verb"] == "failed" and not form.get("failed", "").strip():

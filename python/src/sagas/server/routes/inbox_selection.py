@@ -1,4 +1,4 @@
-"""The entries that a form of the inbox is about."""
+"""The entries that a form of the inbox selects."""
 
 from __future__ import annotations
 
@@ -15,30 +15,30 @@ Fields = list[tuple[str, str]]
 
 
 def id_of(group: Group) -> str:
-    """The name of a group in forms and addresses."""
+    """Return the identifier of a group in forms and addresses."""
     return hashlib.sha256(f"{group.saga}\n{group.cause}".encode()).hexdigest()[:16]
 
 
 def id_of_entry(entry: Entry) -> str:
-    """The name of an entry in forms."""
+    """Return the identifier of an entry in forms."""
     return f"{entry.id}.{entry.step_index}.{'undo' if entry.undo else 'run'}"
 
 
 def wait_of(entry: Entry) -> str:
-    """The name of what an entry waits for. Once the same step waits again it is another one."""
+    """Return the identifier of what an entry waits for. It changes if the same step waits again."""
     wait = entry.id, entry.step_index, entry.undo, entry.since
     return hashlib.sha256(json.dumps(wait).encode()).hexdigest()[:16]
 
 
 @dataclasses.dataclass(frozen=True, slots=True)
 class Selection:
-    """Entries of one kind. `waits`: the names of what they wait for, as a form has them."""
+    """Entries of one kind. `waits`: the identifiers of what they wait for, as a form has them."""
 
     entries: list[Entry]
     waits: str
 
     def targets(self, verb: str) -> list[Target]:
-        """What a verb is done to: steps; or whole sagas, each once."""
+        """Return the targets of an action: steps, or each saga once."""
         is_whole = verb in WHOLE
         return list(
             dict.fromkeys(
@@ -49,7 +49,7 @@ class Selection:
 
 
 def selected(entries: list[Entry], fields: Fields) -> Selection:
-    """What was selected of the entries that are there: whole groups, and single ones."""
+    """Return the selected entries: whole groups, and single ones."""
     groups = {value for name, value in fields if name == "group"}
     ids = {value for name, value in fields if name == "one"}
     chosen = []
@@ -60,7 +60,6 @@ def selected(entries: list[Entry], fields: Fields) -> Selection:
 
 
 def seen(entries: list[Entry], waits: str) -> Selection:
-    """What a form's reader saw of the entries that are there: neither those that came later, nor
-    those that wait again."""
+    """Return the entries that the user saw, without later entries and those that wait again."""
     names = set(waits.split())
     return Selection([entry for entry in entries if wait_of(entry) in names], waits)

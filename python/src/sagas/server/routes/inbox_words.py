@@ -1,4 +1,4 @@
-"""The words of the inbox: kinds, actions on many entries, and their questions."""
+"""The texts of the inbox: kinds, bulk actions, and their confirmations."""
 
 from __future__ import annotations
 
@@ -39,22 +39,23 @@ VERBS: dict[str, dict[str, str]] = {
     "approval": {"done": "Approve…", "failed": "Refuse…", "abort": "Abort…"},
 }
 WHOLE = ("resolve", "abort")
-"""The verbs that are for whole sagas, and not for steps of them."""
+"""Actions on whole sagas, not on steps."""
 FAILS = "Each step fails permanently, and its saga follows a plan of least cost."
 
 
 @dataclasses.dataclass(frozen=True, slots=True)
 class Question:
-    """What is asked before many are changed.
+    """The confirmation of a bulk action.
 
-    `title` has a place for how many there are; `button`: of one, and of more."""
+    `title` has a placeholder for the count. `button`: for one target, and for several.
+    """
 
     title: str
     button: tuple[str, str]
     text: str
 
     def of(self, targets: list[Target], verb: str) -> dict[str, str]:
-        """Its words for these targets."""
+        """Return the texts for these targets."""
         is_one = len(targets) == 1
         are = "is" if is_one or is_undo(targets) else "are"
         title = self.title.format(many(targets, verb), are=are)
@@ -114,18 +115,18 @@ OF_COMPENSATIONS = {
 
 
 def question_of(kind: str, verb: str, targets: list[Target]) -> Question:
-    """What is asked before a verb is done to entries of a kind."""
+    """Return the confirmation for an action on entries of a kind."""
     special = OF_COMPENSATIONS if is_undo(targets) else OF_APPROVALS if kind == "approval" else {}
     return special.get(verb, QUESTIONS[verb])
 
 
 def is_undo(targets: list[Target]) -> bool:
-    """Whether they are compensations alone."""
+    """Return whether all targets are compensations."""
     return all(undo for _, _, undo in targets)
 
 
 def many(targets: list[Target], verb: str) -> str:
-    """How many there are: sagas, or steps of so many sagas, or their compensations."""
+    """Describe how many targets there are: sagas, steps or compensations."""
     sagas = counted(len({key for key, _, _ in targets}), "saga")
     if verb in WHOLE:
         return sagas
@@ -134,5 +135,5 @@ def many(targets: list[Target], verb: str) -> str:
 
 
 def counted(count: int, noun: str) -> str:
-    """A number with its noun."""
+    """Return a number with its noun."""
     return f"{count:,} {noun}{'' if count == 1 else 's'}"

@@ -78,21 +78,21 @@ REMOVE: dict[str, Any] = {
 def asked(
     request: Request, key: str, question: dict[str, Any], status: int = 200, **more: Any
 ) -> Response:
-    """Asks once more what is to be done to a saga."""
+    """Return the confirmation page for an action on a saga."""
     crumbs = [("/ui/sagas", "Sagas"), (address_of(key), key)]
     values = {"here": "sagas", "crumbs": crumbs, **question, **more}
     return show_page(request, "confirm.html", status, **values)
 
 
 async def seen(call: Call) -> SagaView | None:
-    """The saga with what is kept of it; None where there is none that is theirs to see."""
+    """Return the stored view of a saga, or None if the user may not see it."""
     with contextlib.suppress(NoSuchSaga):
         return await kept_of(call.service, viewer_of(call.request), call.key)
     return None
 
 
 async def is_approval(call: Call, view: SagaView, step: str, undo: bool) -> bool:
-    """Whether a step waits to be approved, or is to be once it begins."""
+    """Return whether a step waits for an approval, or will do so when it begins."""
     if any((entry.step, entry.undo, entry.why) == (step, undo, "approval") for entry in view.held):
         return True
     if undo or not any((entry.name, entry.state) == (step, "waiting") for entry in view.steps):
@@ -175,7 +175,7 @@ async def abort_page(call: Call) -> Response:
 
 
 async def effect_of(call: Call, **event: Any) -> str | None:
-    """What an abort, or the end of a step, would do now, in words."""
+    """Describe what an abort, or the end of a step, would do now."""
     with contextlib.suppress(NoSuchSaga):
         await call.service.check_sees(viewer_of(call.request), call.key)
         view = await call.service.saga(call.key)
@@ -245,7 +245,7 @@ async def compensate(call: Call) -> Response:
 
 
 def compensation_question(call: Call) -> dict[str, Any]:
-    """The question before a step is compensated."""
+    """Return the confirmation before a step is compensated."""
     return COMPENSATE | {"title": f"Compensate {call.path['step']}?"}
 
 
@@ -255,8 +255,11 @@ async def step_page(call: Call) -> Response:
 
 
 async def step_asked(call: Call, view: SagaView | None, status: int = 200, **more: Any) -> Response:
-    """The question for a step's end, with what whoever decides has to see: the saga's input, its
-    results, and what the answer would do. The form has the name of what it answers."""
+    """Return the confirmation of a step's end.
+
+    It shows the saga's input and results, and what the answer would do. The form identifies the
+    wait that it answers.
+    """
     name, outcome, undo = call.path["step"], call.path["outcome"], call.query["undo"]
     approval = view is not None and await is_approval(call, view, name, undo)
     question = step_question(name, outcome, undo, approval)
@@ -274,18 +277,18 @@ async def step_asked(call: Call, view: SagaView | None, status: int = 200, **mor
 
 
 def child_of(view: SagaView, step: str) -> str | None:
-    """The key of the last child that a step of a saga started."""
+    """Return the key of the last child that a step of a saga started."""
     keys = [child.key for child in view.children if children.is_of_step(child.key, view.key, step)]
     return None if children.undoes_child(view.key) else next(reversed(keys), None)
 
 
 def child_result(key: str) -> str:
-    """What a form proposes as the result of a step that starts a child."""
+    """Return the proposed result of a step that starts a child."""
     return json.dumps({"key": key, "phase": "completed", "results": {}}, ensure_ascii=False)
 
 
 def result_of(form: dict[str, str]) -> Any:
-    """The result that a form has, by its type. Raises `ValueError`."""
+    """Return the result that a form has, by its type. Raises `ValueError`."""
     text, kind = form.get("result", ""), form.get("type", "json")
     if kind == "text":
         return text
@@ -325,8 +328,10 @@ async def step_said(call: Call) -> Response:
 
 
 def moved_on(call: Call, view: SagaView, answered: str) -> str | None:
-    """Why a form is asked again that was for something else than what the step waits for now. Of
-    a step of which no attempt is under way the store tells."""
+    """Return why a form is shown again, if the step now waits for something else.
+
+    If no attempt is active, the store checks the report.
+    """
     step, undo = call.path["step"], call.query["undo"]
     if step_waits.name_of(view, step, undo) in ("", answered):
         return None
@@ -335,7 +340,7 @@ def moved_on(call: Call, view: SagaView, answered: str) -> str | None:
 
 
 async def report(call: Call, principal: Principal, form: dict[str, str], result: Any) -> None:
-    """Does to the step what a form says. Raises what the store raises."""
+    """Report the outcome that a form has. Raises the errors of the store."""
     service, step, outcome = call.service, call.path["step"], call.path["outcome"]
     await service.check_sees(principal, call.key)
     note = form.get("note") or None
@@ -351,7 +356,7 @@ async def report(call: Call, principal: Principal, form: dict[str, str], result:
 
 @routes.get("/ui/schedules")
 async def schedules_page(call: Call) -> Response:
-    """The schedules, by name."""
+    """Show the schedules, by name."""
     return login_redirect(call.request) or await shown_schedules(
         call.request, viewer_of(call.request)
     )
@@ -367,7 +372,7 @@ async def shown_schedules(
 
 @routes.get("/ui/schedules/{name}/{change}", parts={"change": Choice(("remove",))})
 async def remove_page(call: Call) -> Response:
-    """Asks before a schedule is removed: unlike a pause, that cannot be undone here."""
+    """Ask for confirmation before a schedule is removed, because this cannot be undone."""
     if answer := login_redirect(call.request):
         return answer
     name = call.path["name"]
@@ -392,6 +397,6 @@ async def schedule_changed(call: Call) -> Response:
 
 
 def back(request: Request, key: str) -> Response:
-    """To the saga, with the figures counted anew."""
+    """Redirect to the saga, and drop the cached figures."""
     service_of(request).figures.forget()
     return RedirectResponse(address_of(key), 303)

@@ -61,12 +61,12 @@ async def icon(call: Call) -> Response:
 
 @routes.get("/ui/static/{name}")
 async def static(call: Call) -> Response:
-    """The style sheet, the script and the icon."""
+    """Return a style sheet, a script or an icon."""
     return file(call.request, call.path["name"])
 
 
 def file(request: Request, name: str) -> Response:
-    """One of them."""
+    """Return a static file."""
     static_file = renderer.STATIC.get(name)
     if static_file is None:
         raise Problem("NotFound", "there is no such file")
@@ -90,7 +90,7 @@ async def login_page(call: Call) -> Response:
 
 @routes.post("/ui/login")
 async def login(call: Call) -> Response:
-    """Begins a session with an operator's token."""
+    """Start a session with an operator's token."""
     request = call.request
     service, form = service_of(request), await form_of(request)
     if service.tokens is None:
@@ -125,7 +125,7 @@ async def logout(call: Call) -> Response:
 
 
 def work_of(queues: list[Queue]) -> dict[str, Any]:
-    """What waits for workers, in all."""
+    """Return totals of the tasks that wait for workers."""
     now, ready = time.time(), [queue for queue in queues if queue.ready]
     oldest = max((now - queue.oldest for queue in ready if queue.oldest), default=0.0)
     claimed = sum(queue.claimed for queue in queues)
@@ -141,7 +141,7 @@ LIST = {name: TEXT for name in FILTERED} | {
 
 @routes.get("/ui/sagas", query=LIST)
 async def listed(call: Call) -> Response:
-    """A page of the list, newest first."""
+    """Show a page of the list, newest first."""
     request = call.request
     if answer := login_redirect(request):
         return answer
@@ -203,7 +203,7 @@ async def listed(call: Call) -> Response:
 
 
 def filter_of(parameters: dict[str, Any], principal: Principal) -> Filter:
-    """The filter of the list. Raises `ValueError`, `InvalidLabel`."""
+    """Return the filter of the list. Raises `ValueError`, `InvalidLabel`."""
     label = (parameters["label"] or "").partition("=")
     if parameters["label"] and not label[1]:
         raise ValueError("a label is NAME=VALUE, as customer=7")
@@ -231,7 +231,7 @@ def address_of(key: str) -> str:
 
 @routes.get("/ui/workers")
 async def workers(call: Call) -> Response:
-    """What waits for workers, and who they are."""
+    """Show the tasks that wait for workers, and the workers."""
     request = call.request
     if answer := login_redirect(request):
         return answer
@@ -272,9 +272,7 @@ async def workers(call: Call) -> Response:
     "/ui/events", streams=True, query={"key": TEXT, "since": Field(Text(most=40), default=None)}
 )
 async def events(call: Call) -> Response:
-    """The stream that keeps a page new, from the moment on at which the page was asked for
-    (`since`).
-    """
+    """Stream the events that update a page, from the moment `since` at which it was requested."""
     request, key, since = call.request, call.query["key"], call.query["since"]
     session = session_of(request)
     if session is None:

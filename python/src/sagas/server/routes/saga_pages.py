@@ -30,12 +30,12 @@ routes = Routes("pages", is_page=True)
 MOST_EVENTS = 500
 MOST_DRAWN = 1024  # steps
 MOST_EFFECTS = 5
-"""Questions to a person whose effects are computed: each takes a plan."""
+"""Maximum number of questions whose effects are computed. Each needs a plan."""
 
 
 @routes.get("/ui/sagas/{key}", query={"unfold": FIELD})
 async def saga(call: Call) -> Response:
-    """A saga with all that is kept of it."""
+    """Show a saga."""
     request, key = call.request, call.key
     if answer := login_redirect(request):
         return answer
@@ -58,7 +58,10 @@ async def saga(call: Call) -> Response:
 def template_values(
     view: SagaView, approvals_of: Callable[[str, str], set[str]], now: float, unfold: str | None
 ) -> dict[str, Any]:
-    """What the template of a saga asks for. `approvals_of`: of a saga's name and definition."""
+    """Return the template values of a saga.
+
+    `approvals_of` returns the approvals of a saga's name and definition.
+    """
     drawn, displays = len(view.steps) <= MOST_DRAWN, picture.displays_of(view)
     asks = [wait for wait in view.held if wait.asks]
     attempts = timeline.of(view, now)
@@ -115,15 +118,17 @@ def template_values(
 
 
 def unused_of(view: SagaView) -> list[str]:
-    """The steps of a saga that has ended whose success was reported, and not used."""
+    """Return the steps of an ended saga whose reported success was not used."""
     if view.phase not in ("recovered", "stuck"):
         return []
     return list(view.unused)
 
 
 def effect(view: SagaView, *, abort: bool = False, **step: str) -> str | None:
-    """What an abort, or the end of a step (`done=`, `failed=`), would come to, in words; None
-    where it would not be accepted."""
+    """Describe what an abort, or the end of a step (`done=`, `failed=`), would lead to.
+
+    Returns None if it would not be accepted.
+    """
     is_refused = abort and (view.aborted or children.undoes_child(view.key))
     if view.phase != "open" or is_refused:
         return None
@@ -141,7 +146,7 @@ def effect(view: SagaView, *, abort: bool = False, **step: str) -> str | None:
 
 
 def effects(view: SagaView, steps: list[tuple[str, bool]]) -> dict[tuple[str, bool], Any]:
-    """What would come of each answer to a question, by step and whether it is undone."""
+    """Describe the effect of each answer to a question, by step and whether it is undone."""
     return {
         (step, undo): {
             "done": effect(view, done=step),
@@ -153,7 +158,7 @@ def effects(view: SagaView, steps: list[tuple[str, bool]]) -> dict[tuple[str, bo
 
 
 def failures_of(view: SagaView) -> list[StepView]:
-    """The steps of the chain that have failed, and said why."""
+    """Return the blocking steps that failed with an error."""
     chain = view.plan.blocking_steps if view.plan else []
     return [
         step
@@ -164,7 +169,7 @@ def failures_of(view: SagaView) -> list[StepView]:
 
 @routes.get("/ui/sagas/{key}/certificate")
 async def certificate(call: Call) -> Response:
-    """The plan's certificate, as `sagas check` reads it."""
+    """Return the plan's certificate, in the format of `sagas check`."""
     if answer := login_redirect(call.request):
         return answer
     view = await kept_of(call.service, viewer_of(call.request), call.key)

@@ -1,7 +1,5 @@
-"""Routes of callers and approvers.
-
-For callers and approvers: start sagas, see how they stand, wait for them, abort them, and say how
-an approval ended.
+"""Routes for callers and approvers: start, inspect, wait for and abort sagas, and decide
+approvals.
 """
 
 from __future__ import annotations
@@ -58,7 +56,7 @@ from sagas.server.stream_limits import Stream
 routes = Routes("sagas", "/v1")
 LONGEST = 60.0  # seconds that a wait may take
 FEW = 16
-"""Steps of a saga whose answer is made at once, if none of its values is large."""
+"""Maximum number of steps of a saga whose answer is serialized at once, if no value is large."""
 KEY = Text(most=512, least=1)
 LABELS = Mapped(Text(most=256))
 VERSION = Nullable(Number(1, 1_000_000_000, whole=True))
@@ -111,28 +109,28 @@ DECIDED = {200: Answer("It is stored.", answers.DECIDED)}
 
 
 def trace_of(request: Request) -> str | None:
-    """The trace context of a request's header; as the standard has it, an invalid one is none."""
+    """Return the trace context of a request's header. An invalid one is ignored, as the standard
+    demands.
+    """
     headers = request.headers.getlist("traceparent")
     return tracing.read(headers[0]) if len(headers) == 1 else None
 
 
 async def view_of(call: Call, key: str | None = None) -> SagaView:
-    """A saga with all that is kept of it, and what is known of what has begun. Raises
-    `NoSuchSaga`.
-    """
+    """Return the view of a saga, with its active attempts. Raises `NoSuchSaga`."""
     await call.service.check_sees(call.principal, key or call.key)
     view = there(await call.service.saga(key or call.key), key or call.key)
     return families.seen_by(view, call.principal.scope)
 
 
 async def kept_of(service: Any, principal: Principal, key: str) -> SagaView:
-    """As `view_of`, with what is kept alone."""
+    """Return the stored view of a saga. Raises `NoSuchSaga`."""
     await service.check_sees(principal, key)
     return there(await service.kept(key), key)
 
 
 async def answered(call: Call) -> Response:
-    """The saga as it is now. Raises `NoSuchSaga`."""
+    """Return the saga's current state as the response. Raises `NoSuchSaga`."""
     view = await view_of(call)
 
     def answer() -> Response:
@@ -142,13 +140,13 @@ async def answered(call: Call) -> Response:
 
 
 def is_small(view: SagaView) -> bool:
-    """Whether its answer is made in less time than a thread takes to begin with it."""
+    """Return whether the answer takes less time than handing it to a thread."""
     values = (view.input, *view.results.values())
     return len(view.steps) <= FEW and not any(isinstance(value, StoredValue) for value in values)
 
 
 def there(view: SagaView | None, key: str) -> SagaView:
-    """Raises `NoSuchSaga` where there is none."""
+    """Return the view. Raises `NoSuchSaga` if it is None."""
     if view is None:
         raise NoSuchSaga(f"no saga has the key {key!r}")
     return view
@@ -366,7 +364,7 @@ async def certificate(call: Call) -> Response:
 
 
 async def check_reports(call: Call, key: str, step: str, undo: bool) -> None:
-    """Raises `Problem` where somebody may not say how this step ended."""
+    """Raise `Problem` if the principal may not report this step."""
     principal = call.principal
     await call.service.check_sees(principal, key)
     if principal.has_permission(Permission.OPERATE):
@@ -381,7 +379,7 @@ async def check_reports(call: Call, key: str, step: str, undo: bool) -> None:
 
 
 async def decided(call: Call, outcome: str, value: Any) -> Response:
-    """Says how a step ended."""
+    """Report how a step ended."""
     step, body, store = call.path["step"], call.body, call.service.store
     await check_reports(call, call.key, step, body["undo"])
     options = {name: body[name] for name in ("undo", "early", "note") if name in body}
@@ -488,10 +486,11 @@ def stream(
     still: Callable[[], bool],
     dashboard: bool = False,
 ) -> Response:
-    """The stream of the hub, behind the id `since` where the client names none, as long as it is
-    `still` to be.
+    """Return the hub's stream, after `since` if the client names no event, while `still()` is
+    true.
 
-    Raises `Problem` where there are too many."""
+    Raises `Problem` if there are too many streams.
+    """
     service, name = service_of(request), client_key(request, principal)
     if full := service.streams.full(name, dashboard):
         raise Problem("TooManyStreams", full)

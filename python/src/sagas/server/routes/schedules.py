@@ -27,7 +27,7 @@ DONE = {"pause": "paused", "resume": "resumed", "remove": "removed"}
 
 
 async def seen(service: Service, principal: Principal) -> list[Schedule]:
-    """The schedules whose sagas are theirs to see."""
+    """Return the schedules that the principal may see."""
     stored = await service.look(lists.schedules())
     return [
         dataclasses.replace(schedule, input=shown(schedule.input))
@@ -37,8 +37,10 @@ async def seen(service: Service, principal: Principal) -> list[Schedule]:
 
 
 async def change(service: Service, principal: Principal, name: str, verb: str) -> None:
-    """Pause, resume or remove one. Raises `NoSuchSchedule`, also of one that is not theirs to
-    see."""
+    """Pause, resume or remove a schedule.
+
+    Raises `NoSuchSchedule`, also for one that the principal may not see.
+    """
     if name not in {schedule.name for schedule in await seen(service, principal)}:
         raise NoSuchSchedule(f"no schedule has the name {name!r}")
     store = service.store
@@ -66,7 +68,7 @@ async def listed(call: Call) -> Response:
 
 
 def declare(verb: str, description: str) -> Handler:
-    """The route of a change."""
+    """Declare the route of a change."""
 
     async def handler(call: Call) -> Response:
         await change(call.service, call.principal, call.path["name"], verb)

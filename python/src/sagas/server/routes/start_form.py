@@ -20,7 +20,7 @@ routes = Routes("pages", is_page=True)
 def asked(
     request: Request, form: dict[str, str], fault: str | None = None, status: int = 200
 ) -> Response:
-    """The form, with what was said in it, and why it was not taken."""
+    """Return the form with its values, and why it was not accepted."""
     names = service_of(request).names(viewer_of(request))
     return show_page(
         request, "start.html", status, here="sagas", names=names, form=form, fault=fault
@@ -36,7 +36,7 @@ async def start_page(call: Call) -> Response:
 
 @routes.post("/ui/start")
 async def start(call: Call) -> Response:
-    """Starts it, and goes to it; so too where the key has this very saga already."""
+    """Start the saga, and redirect to it. It may exist already with the same input."""
     request = call.request
     session, form = await sent(request)
     service, key = service_of(request), form.get("key", "").strip()

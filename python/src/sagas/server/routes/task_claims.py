@@ -1,4 +1,4 @@
-"""Claims of workers: alone, and with a report."""
+"""Claims of workers: alone, and together with a report."""
 
 from __future__ import annotations
 
@@ -30,14 +30,15 @@ STEP_NAME = re.compile(rf"({NAME})/((?:{NAME}/)*?{NAME})(/undo)?\Z")
 HEARTBEATS = 3
 """How many heartbeats fit into a lease, so that two of them may be lost."""
 MOST_WRITTEN = 512
-"""Levels of a stored value that an answer can have: the ends of children, which have the results of
-children, may have more than what comes in."""
+"""Maximum levels of a stored value in an answer. Results of children, which contain results of
+their children, may have more levels than inputs.
+"""
 PATIENCE = 25.0
-"""Seconds that a claim may take, in addition to those that it waits for tasks."""
+"""Seconds that a claim may take in addition to its wait for tasks."""
 
 
 def parse_steps(steps: list[str], path: str = "steps") -> list[Word]:
-    """The steps that are asked for. Raises `Problem`."""
+    """Return the requested steps. Raises `Problem`."""
     steps_found: list[Word] = []
     for number, step in enumerate(steps):
         parsed = _parse_step(step)
@@ -64,7 +65,7 @@ def _parse_step(step: str) -> Word | None:
 
 @dataclasses.dataclass(frozen=True, slots=True)
 class Claimed:
-    """What is answered of a claim: its tasks, and what else is told with them."""
+    """The answer to a claim: its tasks, and further fields."""
 
     tasks: list[LeasedTask]
     more: dict[str, Any]
@@ -72,22 +73,22 @@ class Claimed:
 
     @property
     def is_large(self) -> bool:
-        """Whether its values take long to be read and written."""
+        """Return whether its values take long to serialize."""
         return sum(task.size for task in self.tasks) > LARGE
 
     def answer_fields(self) -> dict[str, Any]:
-        """The answer as JSON has it."""
+        """Return the answer as JSON."""
         return {"tasks": [json_views.task(task, self.now) for task in self.tasks], **self.more}
 
 
 def _texts(leased: LeasedTask) -> list[str]:
-    """The values of a task, as they are stored."""
+    """Return the stored values of a task."""
     texts = leased.task.texts
     return [leased.given, texts["input"], texts["result"] or "", *texts["results"].values()]
 
 
 async def claimed(call: Call, body: dict[str, Any]) -> Claimed:
-    """Claims, as long as the client is there; none where the service is about to stop."""
+    """Claim tasks while the client is connected. Returns none if the service is about to stop."""
     tasks = await _claimed(call, body, body["limit"], body["wait"])
     return _answer(call, body, await _handed(call, tasks))
 
@@ -95,8 +96,10 @@ async def claimed(call: Call, body: dict[str, Any]) -> Claimed:
 async def answered(
     call: Call, made: Callable[[Any], Any], claim: Claimed | None, *path: str
 ) -> Response:
-    """The answer, `made` of what is told of a claim, which is where the path leads. A task that
-    cannot be written is set aside, so that it keeps no other from its worker."""
+    """Return the response that `made` builds from a claim, which is at this path of it.
+
+    A task that cannot be serialized is set aside, so that it does not block others.
+    """
     if claim is None:
         return Json(made(None))
     if not any(map(_is_too_deep, claim.tasks)):
@@ -106,7 +109,7 @@ async def answered(
 
 
 def _is_too_deep(task: LeasedTask) -> bool:
-    """Whether an answer cannot have it, whatever is around it."""
+    """Return whether a task has too many levels for an answer."""
     return any(is_deeper(text, MOST_WRITTEN) for text in _texts(task))
 
 
@@ -120,7 +123,7 @@ async def _written(call: Call, made: Callable[[Any], Any], claim: Claimed, *path
 
 
 async def _writable(call: Call, claim: Claimed) -> Claimed:
-    """The claim without the tasks that no answer can have, which are set aside."""
+    """Return the claim without tasks that cannot be serialized, which are set aside."""
     tasks: list[LeasedTask] = []
     for task in claim.tasks:
         try:
@@ -135,15 +138,15 @@ async def _writable(call: Call, claim: Claimed) -> Claimed:
 
 
 class NextClaim:
-    """What is claimed with reports.
+    """A claim that is made together with reports.
 
-    The claim begins when the last report is stored. Meanwhile the reports become part of their
-    sagas. A second claim takes tasks that are offered because of them, up to the limit. Tasks that
-    the client does not receive are given back.
+    It begins when the last report is stored. In the meantime, the reports become part of their
+    sagas. A second claim takes tasks that are offered because of them, up to the limit. Tasks
+    that the client does not receive are released.
     """
 
     def __init__(self, call: Call, body: dict[str, Any] | None, reports: int = 1) -> None:
-        """`body`: what is to be claimed; None: nothing is."""
+        """`body`: the claim, or None. `reports`: how many reports come first."""
         self._call, self._body, self._missing = call, body, reports
         self._claiming: asyncio.Task[list[LeasedTask]] | None = None
         self._found: list[LeasedTask] = []
@@ -161,7 +164,7 @@ class NextClaim:
         await _give_back(self._call, self._found)
 
     def stored(self) -> None:
-        """A report is stored."""
+        """Record that a report is stored."""
         self._missing -= 1
         if self._body is None or self._missing:
             return
@@ -169,7 +172,7 @@ class NextClaim:
             self._claiming = _claim(self._call, self._body, self._body["limit"], 0.0)
 
     async def answer(self) -> Claimed | None:
-        """What is answered, once the reports are over."""
+        """Return the result of the claim, once the reports are stored."""
         if self._body is None:
             return None
         call, body = self._call, self._body
@@ -193,13 +196,13 @@ class NextClaim:
 
 
 def _is_gone(call: Call) -> bool:
-    """Whether the client is gone."""
+    """Return whether the client is gone."""
     is_gone: bool = call.request.scope[GONE].done()
     return is_gone
 
 
 async def _handed(call: Call, tasks: list[LeasedTask]) -> list[LeasedTask]:
-    """What the client gets. If it is gone, others may claim that at once."""
+    """Return the tasks for the client. If it is gone, release them for others."""
     if not _is_gone(call):
         return tasks
     await _give_back(call, tasks)
@@ -212,7 +215,7 @@ async def _give_back(call: Call, tasks: list[LeasedTask]) -> None:
 
 
 def worker_of(call: Call, body: dict[str, Any]) -> str:
-    """The name of a worker: that of its token, and its own."""
+    """Return the name of a worker: that of its token, and its own."""
     return f"{call.principal.name}/{body['worker']}" if body["worker"] else call.principal.name
 
 
@@ -235,8 +238,10 @@ def _claim(
 async def _is_over(
     call: Call, claiming: asyncio.Task[list[LeasedTask]], wait: float, *ends: asyncio.Future[None]
 ) -> bool:
-    """Whether it came to an end while the client was there, and before any of the `ends`; else it
-    is cancelled."""
+    """Return whether a claim finished while the client was connected and before any of the `ends`.
+
+    Otherwise, it is cancelled.
+    """
     return claiming.done() or await first(
         call.request, call.principal, claiming, wait + PATIENCE, *ends
     )

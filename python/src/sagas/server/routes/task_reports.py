@@ -18,7 +18,7 @@ from sagas.server.shapes import Anything, Choice, Field, Flag, Nullable, Record,
 
 routes = Routes("workers", "/v1/tasks")
 MOST_REPORTS = 100
-"""How many tasks one request reports at most."""
+"""The maximum number of reports in one request."""
 REPORT = Record(
     "TaskReport",
     {
@@ -45,7 +45,7 @@ REPORTS = Record(
 
 
 def outcome_of(report: dict[str, Any], index: int) -> dict[str, Any]:
-    """How a task ended, as the store takes it. Raises `Problem`."""
+    """Return how a task ended, as arguments for the store. Raises `Problem`."""
     outcome, error = report["outcome"], report["error"]
     if outcome == "complete":
         return {"result": report["result"]}
@@ -60,7 +60,7 @@ def outcome_of(report: dict[str, Any], index: int) -> dict[str, Any]:
 async def _kept(
     call: Call, claim: NextClaim, report: dict[str, Any], outcome: dict[str, Any]
 ) -> dict[str, Any]:
-    """Keeps one report; gives what is answered of it."""
+    """Store one report, and return the answer to it."""
     attempt_id = report["attempt_id"]
     fields: dict[str, Any] = {"attempt_id": attempt_id, "kept": True, "repeated": False}
     try:

@@ -156,14 +156,14 @@ async def heartbeat(call: Call) -> Response:
 
 
 def check_next(call: Call, more: dict[str, Any] | None) -> None:
-    """Refuse what may not be claimed next, before a report is kept."""
+    """Raise `Problem` if the next claim is not allowed, before a report is stored."""
     if more is not None:
         parse_steps(more["steps"], "next.steps")
         check_steps(call.principal, more["steps"])
 
 
 async def _report(call: Call, **outcome: Any) -> Response:
-    """Keeps the report, and claims what is wanted next once it is stored."""
+    """Store the report, and then make the next claim."""
     body, more = call.body, call.body["next"]
     check_next(call, more)
     async with NextClaim(call, more) as claim:

@@ -1,4 +1,4 @@
-"""The page of posts to webhooks."""
+"""The page of webhook deliveries."""
 
 from __future__ import annotations
 
@@ -23,18 +23,18 @@ FILTERED = {
     "webhook": Field(Text(most=64), default=None),
 }
 LOOKS = {"pending": "open", "delivered": "completed", "failed": "stuck"}
-"""The badge of a state: that of a phase that means as much."""
+"""The badge of a state: that of a phase with a similar meaning."""
 
 
 def url(**parameters: Any) -> str:
-    """The page with this filter."""
+    """Return the page with this filter."""
     query = {name: value for name, value in parameters.items() if value}
     return f"/ui/webhooks?{urlencode(query)}" if query else "/ui/webhooks"
 
 
 @routes.get("/ui/webhooks", query=FILTERED)
 async def listed(call: Call) -> Response:
-    """The latest deliveries, the newest first."""
+    """Show the latest deliveries, newest first."""
     if answer := login_redirect(call.request):
         return answer
     webhooks.check_all(viewer_of(call.request))
@@ -58,7 +58,7 @@ async def listed(call: Call) -> Response:
 
 @routes.post("/ui/webhooks/{id}/redeliver")
 async def redelivered(call: Call) -> Response:
-    """Have a delivery posted again, and go back to the list."""
+    """Post a delivery again, and redirect to the list."""
     session, form = await sent(call.request)
     await webhooks.again(service_of(call.request), session.principal, call.path["id"])
     state = form.get("state") if form.get("state") in STATES else None

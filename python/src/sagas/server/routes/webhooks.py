@@ -25,7 +25,7 @@ REDELIVER = Record("RedeliverRequest", {}, "Nothing is to be said.")
 
 
 def delivery_json(delivery: Delivery) -> dict[str, Any]:
-    """A delivery, without what it is signed by."""
+    """Return a delivery, without its signature."""
     return {
         "id": delivery.id,
         "webhook": delivery.webhook,
@@ -41,13 +41,13 @@ def delivery_json(delivery: Delivery) -> dict[str, Any]:
 
 
 def check_all(principal: Principal) -> None:
-    """Raises `Problem` where somebody is kept to some definitions."""
+    """Raise `Problem` if the principal is restricted to some definitions."""
     if principal.definitions is not None:
         raise Problem("Forbidden", f"{principal.name} is kept to some definitions")
 
 
 async def again(service: Service, principal: Principal, id: str) -> Delivery:
-    """Have a delivery posted again. Raises `Problem`."""
+    """Post a delivery again. Raises `Problem`."""
     check_all(principal)
     done = await service.store.deliveries.redeliver(id)
     delivery = await service.look(deliveries.one(id)) if done else None
