@@ -88,7 +88,7 @@ def of_pages(reader: StoreReader, of: Filter, newest: bool, most: int) -> list[S
     word, place = "before" if newest else "after", None
     while True:
         words: dict[str, Any] = {word: place}
-        page = reader.ask(pages.page(of=of, newest=newest, most=most, **words))
+        page = reader.ask(pages.page(of=of, newest=newest, limit=most, **words))
         found += page
         if len(page) < most:
             return found
@@ -111,11 +111,11 @@ def test_pages_of_any_filter(
     fill(place)
     is_database = place.startswith("postgresql:")
     reader = StoreReader(DatabaseReader(place, "db") if is_database else FileReader(place))
-    every = reader.ask(pages.page(most=None))
+    every = reader.ask(pages.page(limit=None))
     assert len(every) == COUNT and len({one.started for one in every}) <= 100
     assert every == sorted(every, key=lambda one: (one.started, one.id), reverse=True)
     for name, words in FILTERS.items():
-        whole = reader.ask(pages.page(of=Filter(**words), most=None))
+        whole = reader.ask(pages.page(of=Filter(**words), limit=None))
         ids = {one.id for one in whole}
         assert len(ids) == reader_count(place, Filter(**words)), name
         wanted = [one for one in every if one.id in ids]

@@ -33,7 +33,7 @@ def name_of(saga: Saga | str | None) -> str | None:
 
 def _page(of: Filter, after: Summary | int | None, limit: int) -> Question[builtins.list[Summary]]:
     place = yield from pages.position(after)
-    return (yield from pages.page(of=of, after=place, newest=False, most=limit))
+    return (yield from pages.page(of=of, after=place, newest=False, limit=limit))
 
 
 async def beside(name: str, work: Callable[[admin.Source], T]) -> T:

@@ -66,7 +66,7 @@ def ask(path: str, key: str, command: str, value: Any, timeout: float) -> tuple[
                 raise gone(key)
             if answer is not None or time.monotonic() >= until:
                 return answer and json.loads(answer), is_executed
-            time.sleep(0.02)  # SQLite tells another process of a commit only when it looks
+            time.sleep(0.02)  # SQLite has no notifications
 
 
 def gone(key: str) -> Trouble:
@@ -315,7 +315,7 @@ def show_answers(
             [entry | {"asked": command, "answer": text} for entry, text in zip(steps, outcomes)]
         )
     for entry, text in zip(waits, outcomes) if not options.json else ():
-        if isinstance(text, str):  # somebody else was faster
+        if isinstance(text, str):  # another request was faster
             complain(text)
         else:
             print(f"{entry.key}: {entry.step}{f' {done}' if text else f': {WAITS}'}")

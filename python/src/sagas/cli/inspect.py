@@ -60,7 +60,7 @@ def list_sagas(path: str, options: argparse.Namespace) -> int:
                 after=None if options.newest else last,
                 before=last if options.newest else None,
                 newest=options.newest,
-                most=options.limit or None,
+                limit=options.limit or None,
             )
         )
     if options.json:

@@ -280,7 +280,7 @@ def main(arguments: list[str] | None = None) -> int:
     options = parser().parse_args(arguments)
     try:
         status = status_of(options)
-        sys.stdout.flush()  # at exit, nobody would say that it failed
+        sys.stdout.flush()  # at exit, an error would not be reported
         return status
     except BrokenPipeError:  # as of `| head`, which has what it wants
         drop_output()

@@ -37,17 +37,17 @@ def with_active_attempts(view: SagaView, active: Iterable[ActiveAttempt], now: f
     for entry in active:
         at = entry.step, entry.undo
         stretch = begun.get(at)
-        if stretch is None or stretch.attempt != entry.attempt:  # it went on meanwhile
+        if stretch is None or stretch.attempt != entry.attempt:  # it has changed since
             continue
         if not entry.waits:
             running.add(at)
-            waiting.pop(at, None)  # for what it waited before
+            waiting.pop(at, None)  # its previous wait
         elif (
             at in waiting
             and waiting[at].why == "external"
             and entry.waits in ("external", "worker")
         ):
-            pass  # another node gave it out
+            pass  # another node offered it
         elif entry.waits != "external" and (at not in waiting or waiting[at].why != entry.waits):
             waiting[at] = _waits(view, entry, stretch.began, gone.pop(at, None))
     for at, lease in gone.items():

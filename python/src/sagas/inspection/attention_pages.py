@@ -97,7 +97,7 @@ class Entry:
         """Return the step and its error without numbers: equal for all entries of one cause."""
         of = " and ".join(self.blocking) or self.step or ""
         of = f"undoing {of}" if self.undo else of
-        if self.kind == AttentionReason.UNUSED_REPORT:  # each has another result
+        if self.kind == AttentionReason.UNUSED_REPORT:  # results differ
             return of
         detail = NUMBERS.sub("…", self.detail) if self.detail else ""
         return ": ".join(part for part in (of, detail) if part)
@@ -120,7 +120,7 @@ def entries(
     *,
     after: EntryPosition = None,
     newest: bool = False,
-    most: int = 100,
+    limit: int = 100,
 ) -> Question[list[Entry]]:
     """Return a page of entries of one of `KINDS`, ordered by the starts of the sagas.
 
@@ -141,11 +141,11 @@ def entries(
         parameters += [at, id, *after[1:]]
     down = " DESC" if newest else ""  # few are sorted: a + keeps from the index of all
     order = f"ORDER BY +s.at{down}, s.id{down}{'' if step_column == '-1' else ', ' + step_column}"
-    wanted = most if step is None else MOST_GROUPED
+    wanted = limit if step is None else MOST_GROUPED
     query = " AND ".join([text, *conditions]) + f" {order} LIMIT ?"
     rows = yield Query(query, (*parameters, wanted))
     names = yield from names_module.of_digests(row[5] for row in rows)
-    is_whole = kind == AttentionReason.DAMAGED  # a step has no part in it
+    is_whole = kind == AttentionReason.DAMAGED  # it has no step
     listed = [row for row in rows if is_whole or row[5] in names]
     if step is not None:
         listed = [row for row in listed if row[2] >= 0 and names.is_of(step, row[5], row[2])]
@@ -156,7 +156,7 @@ def entries(
         result = [dataclasses.replace(entry, by=reporter) for entry, reporter in reported]
     if step is None:
         return result
-    return [entry for entry in result if undo in (None, entry.undo)][:most]
+    return [entry for entry in result if undo in (None, entry.undo)][:limit]
 
 
 def _among(sagas: Filter) -> tuple[list[str], list[Any]]:
@@ -200,7 +200,7 @@ def count(
 ) -> Question[int]:
     """Count the entries of a kind. With `by_saga`, count each saga once."""
     if step is not None:
-        return len((yield from entries(kind, sagas, step, undo, most=MOST_GROUPED)))
+        return len((yield from entries(kind, sagas, step, undo, limit=MOST_GROUPED)))
     conditions, parameters = _among(sagas)
     text = " AND ".join([BY_KIND[kind][0], *conditions])
     counted = "DISTINCT c.id" if by_saga else "*"

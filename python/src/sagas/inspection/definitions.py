@@ -78,7 +78,7 @@ def at_steps(name: str, scope: Scope) -> Question[dict[str, AtStep]]:
     names = yield from names_module.of_digests(digest for digest, *_ in rows)
     tallies = dict[str, Counter[str]]()
     for digest, step, category, count in rows:
-        if digest in names:  # else it was let go meanwhile
+        if digest in names:  # else it was deleted concurrently
             named = names.declared(digest)[step]
             tallies.setdefault(named, Counter())[category] += count
     return {step: AtStep(**counts) for step, counts in tallies.items()}

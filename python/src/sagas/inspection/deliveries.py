@@ -39,7 +39,7 @@ class Delivery:
     due: float | None
 
 
-def listed(state: str | None, webhook: str | None, most: int) -> Question[list[Delivery]]:
+def listed(state: str | None, webhook: str | None, limit: int) -> Question[list[Delivery]]:
     """Return the latest deliveries, newest first."""
     conditions, parameters = ["1 = 1"], list[object]()
     for name, wanted in (("state", state), ("webhook", webhook)):
@@ -47,7 +47,7 @@ def listed(state: str | None, webhook: str | None, most: int) -> Question[list[D
             conditions.append(f"{name} = ?")
             parameters.append(wanted)
     text = f"SELECT {COLUMNS} FROM webhook_deliveries WHERE {' AND '.join(conditions)}"
-    rows = yield Query(f"{text} ORDER BY at DESC, id LIMIT ?", (*parameters, most))
+    rows = yield Query(f"{text} ORDER BY at DESC, id LIMIT ?", (*parameters, limit))
     return [_of(*row) for row in rows]
 
 

@@ -115,7 +115,7 @@ def counts(scope: Scope = EVERYTHING) -> Question[Counts]:
     for saga, phase, count in sorted(rows, key=lambda row: str(row[1]) != "completed"):
         phases = result.setdefault(saga, dict.fromkeys(COUNTED, 0))
         phases[phase] += count
-        if phase != "completed":  # so far these are all
+        if phase != "completed":  # includes all phases so far
             phases["completed"] -= count
     return dict(sorted(result.items()))
 
@@ -156,7 +156,7 @@ def definitions() -> Question[list[DefinitionCount]]:
     undoable = {row[:2]: row[2] for row in (yield Query(UNDOABLE, is_long=True))}
     result = dict[tuple[str, int], tuple[int, int, int]]()
     for digest, saga, total, open in rows:
-        if digest in heads:  # else it was let go meanwhile
+        if digest in heads:  # else it was deleted concurrently
             name = saga, version_of(heads[digest])
             before, held = result.get(name, (0, 0, 0)), undoable.get((digest, saga), 0)
             result[name] = open + before[0], total + before[1], held + before[2]
@@ -176,7 +176,7 @@ def count(filter: Filter) -> Question[int]:
     return int(rows[0][0])
 
 
-def to_abort(sagas: Filter, most: int) -> Question[tuple[int, list[str]]]:
+def to_abort(sagas: Filter, limit: int) -> Question[tuple[int, list[str]]]:
     """Count the sagas of a filter without an abort request, and return the keys of the oldest.
 
     Sagas that undo children are left out.
@@ -184,7 +184,9 @@ def to_abort(sagas: Filter, most: int) -> Question[tuple[int, list[str]]]:
     condition, parameters = sagas.where()
     source = f"FROM sagas s WHERE {condition} AND {UNASKED} AND NOT {UNDOES_CHILD}"
     rows = yield Query(f"SELECT count(*) {source}", (*parameters, UNDOING_KEYS))
-    keys = yield Query(f"SELECT s.key {source} {OLDEST} LIMIT ?", (*parameters, UNDOING_KEYS, most))
+    keys = yield Query(
+        f"SELECT s.key {source} {OLDEST} LIMIT ?", (*parameters, UNDOING_KEYS, limit)
+    )
     return int(rows[0][0]), [str(key) for key, in keys]
 
 
@@ -220,7 +222,7 @@ def attention_counts(scope: Scope = EVERYTHING) -> Question[dict[str, int]]:
 
 
 def waits(
-    most: int = MOST,
+    limit: int = MOST,
     *,
     person: bool = True,
     why: str | None = None,
@@ -269,13 +271,13 @@ def waits(
         FROM {held} h JOIN sagas s ON s.id = h.id {OF_SHARD}
         WHERE {' AND '.join(conditions)} ORDER BY h.since LIMIT ?
         """,
-        (*keys, *parameters, most if step is None else ALL),  # the rows have no names of steps
+        (*keys, *parameters, limit if step is None else ALL),  # the rows have no names of steps
     )
     names = yield from names_module.of_digests(row[2] for row in rows)
     known = (row for row in rows if row[2] in names)
     return [
         _waits(names, *row) for row in known if step is None or names.is_of(step, row[2], row[4])
-    ][:most]
+    ][:limit]
 
 
 def _waits(
@@ -299,7 +301,9 @@ def _waits(
     return Waits(id, key, saga, name, action == "undo", number, *rest)
 
 
-def stuck(most: int = MOST, scope: Scope = EVERYTHING) -> Question[list[tuple[Summary, list[str]]]]:
+def stuck(
+    limit: int = MOST, scope: Scope = EVERYTHING
+) -> Question[list[tuple[Summary, list[str]]]]:
     """Return the unresolved stuck sagas with their blocking steps, the oldest first."""
     condition, parameters = scope.where()
     rows = yield Query(
@@ -307,7 +311,7 @@ def stuck(most: int = MOST, scope: Scope = EVERYTHING) -> Question[list[tuple[Su
         SELECT {SUMMARY}, d.definition, s.outcome FROM sagas s {OF_SHARD}
         WHERE {PHASES["stuck"]} AND {condition} {OLDEST} LIMIT ?
         """,
-        (*parameters, most),
+        (*parameters, limit),
     )
     names = yield from names_module.of_digests(row[-2] for row in rows)
     return [
@@ -323,14 +327,14 @@ def chain_of(names: list[str], end: str | None) -> list[str]:
     return [names[step] for step in answer.get("chain", ())]
 
 
-def stuck_results(kind_of: Callable[[str], Kind], most: int) -> Question[list[SagaResult]]:
+def stuck_results(kind_of: Callable[[str], Kind], limit: int) -> Question[list[SagaResult]]:
     """Return the full results of the unresolved stuck sagas, the oldest first."""
     rows = yield Query(
         f"""
         SELECT {SAGA}, d.definition FROM sagas s {OF_SHARD}
         WHERE {PHASES["stuck"]} {OLDEST} LIMIT ?
         """,
-        (most,),
+        (limit,),
     )
     names = yield from names_module.of_digests(row[-1] for row in rows)
     results = []
@@ -342,7 +346,7 @@ def stuck_results(kind_of: Callable[[str], Kind], most: int) -> Question[list[Sa
     return results
 
 
-def unknown(most: int) -> Question[list[UnknownAttempt]]:
+def unknown(limit: int) -> Question[list[UnknownAttempt]]:
     """Return attempts with an unknown outcome, those that an operator must report first."""
     rows = yield Query(
         f"""
@@ -351,7 +355,7 @@ def unknown(most: int) -> Question[list[UnknownAttempt]]:
         JOIN shards l ON l.shard = d.shard WHERE h.reason = 'unknown'
         ORDER BY h.until IS NOT NULL, h.since LIMIT ?
         """,
-        (most,),
+        (limit,),
     )
     names = yield from names_module.of_digests(row[2] for row in rows)
     result = []
@@ -372,7 +376,7 @@ SELECT s.key, s.saga, coalesce(d.definition, ''), 'damaged', NULL, '', l.audit, 
 
 
 def attention(
-    most: int = MOST, decode: Callable[[str], str] = unescaped
+    limit: int = MOST, decode: Callable[[str], str] = unescaped
 ) -> Question[list[Attention]]:
     """Return what needs an operator, the oldest first. `decode` reads a stored result."""
     stuck_sagas = f"""
@@ -392,18 +396,18 @@ def attention(
           SELECT s.id FROM sagas s WHERE {PHASES["stuck"]} ORDER BY s.ended, s.id LIMIT ?)
         ORDER BY r.at, r.number
         """
-    rows = yield Query(stuck_sagas, (most,))
+    rows = yield Query(stuck_sagas, (limit,))
     errors = {
         (key, step): (event.startswith("undo"), value.get("error", ""))
-        for key, step, event, text in (yield Query(raised, (most,)))
+        for key, step, event, text in (yield Query(raised, (limit,)))
         if was_called(event, value := json.loads(text or "null") or {})
     }
-    rows = rows + (yield undone_query(most))
-    rows = rows + (yield Query(attempts, (most,)))
-    rows = rows + (yield Query(IN_DAMAGED, (most,)))
-    unused = yield Query(unused_reports.ROWS, (most,))
+    rows = rows + (yield undone_query(limit))
+    rows = rows + (yield Query(attempts, (limit,)))
+    rows = rows + (yield Query(IN_DAMAGED, (limit,)))
+    unused = yield Query(unused_reports.ROWS, (limit,))
     reporters = yield from unused_reports.reporters(row[0] for row in unused)
-    entries = yield from _entries(rows + unused, most, errors)
+    entries = yield from _entries(rows + unused, limit, errors)
     return [_reported(entry, reporters, decode) for entry in entries]
 
 
@@ -420,13 +424,13 @@ def _reported(
     return dataclasses.replace(entry, detail=detail, by=reporters.get((entry.key, entry.step)))
 
 
-def undone(most: int = MOST, scope: Scope = EVERYTHING) -> Question[list[Attention]]:
+def undone(limit: int = MOST, scope: Scope = EVERYTHING) -> Question[list[Attention]]:
     """Return permanently failed compensations of unresolved sagas that have ended, oldest first."""
-    rows = yield undone_query(most, scope)
-    return (yield from _entries(rows, most))
+    rows = yield undone_query(limit, scope)
+    return (yield from _entries(rows, limit))
 
 
-def undone_query(most: int, scope: Scope = EVERYTHING) -> Query:
+def undone_query(limit: int, scope: Scope = EVERYTHING) -> Query:
     """Return the query for permanently failed compensations."""
     condition, parameters = scope.where()
     return Query(
@@ -437,12 +441,12 @@ def undone_query(most: int, scope: Scope = EVERYTHING) -> Query:
         WHERE r.id = s.id AND r.event = 'undo_fail' AND {PHASES["undo_failed"]}
           AND {condition} ORDER BY r.at, s.id, r.step LIMIT ?
         """,
-        (*parameters, most),
+        (*parameters, limit),
     )
 
 
 def _entries(
-    rows: list[Row], most: int, errors: Mapping[tuple[str, int], tuple[bool, str]] = {}
+    rows: list[Row], limit: int, errors: Mapping[tuple[str, int], tuple[bool, str]] = {}
 ) -> Question[list[Attention]]:
     """Return entries from rows.
 
@@ -466,4 +470,4 @@ def _entries(
         elif why is AttentionReason.UNDO_FAILED and text is not None:
             detail = str(json.loads(text).get("error", ""))
         entries.append(Attention(key, saga, why, name, undo, detail, since))
-    return sorted(entries, key=lambda entry: entry.since)[:most]
+    return sorted(entries, key=lambda entry: entry.since)[:limit]

@@ -80,7 +80,7 @@ def page(
     before: Position = None,
     after: Position = None,
     newest: bool | None = None,
-    most: int | None = 50,
+    limit: int | None = 50,
     of: Filter | None = None,
 ) -> Question[list[Summary]]:
     """Return a page of the list of sagas: those `before` or `after` a position.
@@ -104,18 +104,18 @@ def page(
     is_newest = after is None if newest is None else newest
     bounds = _bounds(of, after, before)
     if of.has_times_alone:
-        return (yield from _rows(of, bounds, is_newest, most, "s.at"))
+        return (yield from _rows(of, bounds, is_newest, limit, "s.at"))
     are_many = yield from _are_many(of)
-    if most is not None and are_many:
-        near, is_all = yield from _near(bounds, is_newest, min(NEAR * most, MOST_NEAR))
-        result = yield from _rows(of, near, is_newest, most, "s.at")
-        if len(result) == most or is_all:
+    if limit is not None and are_many:
+        near, is_all = yield from _near(bounds, is_newest, min(NEAR * limit, MOST_NEAR))
+        result = yield from _rows(of, near, is_newest, limit, "s.at")
+        if len(result) == limit or is_all:
             return result
     is_indexed = not are_many or bool(of.search) or bool(of.labels) or of.phase in FEW_PHASES
     of_few = bool(of.labels) and not are_many
     form = {"of_few": of_few, "each_label": are_many and bool(of.search)}
     at = "+s.at" if is_indexed else SORTED_AT
-    return (yield from _rows(of, bounds, is_newest, most, at, **form))
+    return (yield from _rows(of, bounds, is_newest, limit, at, **form))
 
 
 def _bounds(of: Filter, after: Position, before: Position) -> Bounds:
@@ -142,13 +142,13 @@ def _are_many(of: Filter) -> Question[bool]:
     return True
 
 
-def _near(bounds: Bounds, newest: bool, most: int) -> Question[tuple[Bounds, bool]]:
-    """Return bounds that contain the next `most` sagas of any filter, and whether these are all."""
+def _near(bounds: Bounds, newest: bool, limit: int) -> Question[tuple[Bounds, bool]]:
+    """Return bounds that contain the next `limit` sagas of any filter, and whether these are all."""
     conditions, parameters = _within(bounds, "s.at")
     rows = yield Query(
         f"SELECT s.at, s.id FROM sagas s WHERE {' AND '.join(conditions)} "
         f"ORDER BY {_order('s.at', newest)} LIMIT 1 OFFSET ?",
-        (*parameters, most),
+        (*parameters, limit),
     )
     if not rows:
         return bounds, True
@@ -171,7 +171,7 @@ def _order(at: str, newest: bool) -> str:
 
 
 def _rows(
-    of: Filter, bounds: Bounds, newest: bool, most: int | None, at: str, **form: bool
+    of: Filter, bounds: Bounds, newest: bool, limit: int | None, at: str, **form: bool
 ) -> Question[list[Summary]]:
     """Return the sagas of a filter within bounds.
 
@@ -181,13 +181,13 @@ def _rows(
     rest = dataclasses.replace(of, started_after=None, started_before=None)
     condition_of_filter, more = rest.where(in_order=at == "s.at", **form)
     condition, parameters = " AND ".join([*conditions, condition_of_filter]), [*parameters, *more]
-    if most is None:
+    if limit is None:
         query = f"SELECT {SUMMARY} FROM sagas s WHERE {condition}"
-    else:  # of others no labels are put together
+    else:  # labels are only joined for these
         page_of_ids = (
             f"SELECT s.id FROM sagas s WHERE {condition} ORDER BY {_order(at, newest)} LIMIT ?"
         )
         query = f"SELECT {SUMMARY} FROM ({page_of_ids}) lot CROSS JOIN sagas s WHERE s.id = lot.id"
-        parameters.append(most)
+        parameters.append(limit)
     summaries = map(summary_of, (yield Query(query, (*parameters,))))
     return sorted(summaries, key=position_of, reverse=newest)

@@ -135,12 +135,12 @@ def notes(key: str, read: Read = json.loads) -> Question[list[Note]]:
     """Return the operator commands for a saga, in the order of time. `read` is as in `view`."""
     rows = yield Query(NOTES, (key,))
     return [
-        Note(key, command, at, _told(value, read), answer and json.loads(answer))
+        Note(key, command, at, _command_details(value, read), answer and json.loads(answer))
         for key, command, at, value, answer in rows
     ]
 
 
-def _told(value: str | None, read: Read) -> dict[str, Any]:
+def _command_details(value: str | None, read: Read) -> dict[str, Any]:
     """Return the details of a command, with the reported result decoded."""
     details: dict[str, Any] = json.loads(value or "null") or {}
     if "result" in details:
@@ -158,9 +158,11 @@ def view(key: str, read: Read = json.loads) -> Question[SagaView | None]:
             result = yield from _view(
                 row, bool(recovered), bool(undo_failed), labels, deadline, read
             )
-        except NoSuchSaga:  # it was let go: another may have the key
+        except NoSuchSaga:  # it was deleted: another saga may have the key
             continue
-        if (yield Query("SELECT 1 FROM sagas WHERE id = ?", (row.id,))):  # so all is of it
+        if (
+            yield Query("SELECT 1 FROM sagas WHERE id = ?", (row.id,))
+        ):  # so all parts belong to it
             return result
     return None
 

@@ -156,7 +156,7 @@ def is_unchanged(request: Request, principal: Principal) -> bool:
 def check_unchanged(request: Request, principal: Principal) -> None:
     """Raise `Problem` if the token has expired or changed since the request was authorized."""
     if not is_unchanged(request, principal):
-        authenticate(request)  # raises where it has ended
+        authenticate(request)  # raises if the token is not valid any more
         raise rights_changed()
 
 

@@ -10,7 +10,7 @@ from sagas.server import openapi, problems
 from sagas.server.connections import Connections
 from sagas.server.dashboard_session import refused
 from sagas.server.middleware import DASHBOARD, LOGIN, App, Guard, Receive, Scope, Send
-from sagas.server.operations import Operation, not_found, resources
+from sagas.server.operations import Operation, path_not_found, resources
 from sagas.server.problems import Problem
 from sagas.server.routes import (
     attention,
@@ -89,7 +89,7 @@ class Paths:
 
 async def no_such_path(scope: Scope, receive: Receive, send: Send) -> None:
     """Answer that the path does not exist."""
-    await problems.response(not_found())(scope, receive, send)
+    await problems.response(path_not_found())(scope, receive, send)
 
 
 def application(settings: Settings, connections: Connections | None = None) -> tuple[App, Service]:

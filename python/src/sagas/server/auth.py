@@ -158,7 +158,7 @@ def read(path: pathlib.Path) -> dict[str, Principal]:
 
     Raises `TokenFault`.
     """
-    return _found(path, _text_of(path))
+    return _tokens_in(path, _text_of(path))
 
 
 def _text_of(path: pathlib.Path) -> str:
@@ -170,7 +170,7 @@ def _text_of(path: pathlib.Path) -> str:
         raise TokenFault(f"{path}: cannot be read: {error}") from error
 
 
-def _found(path: pathlib.Path, text: str) -> dict[str, Principal]:
+def _tokens_in(path: pathlib.Path, text: str) -> dict[str, Principal]:
     """Return the tokens in the file's text, by digest. Raises `TokenFault`."""
     try:
         document = tomllib.loads(text)
@@ -305,7 +305,7 @@ def make(path: pathlib.Path, name: str, roles: list[str], limits: Limits = Limit
         lines += [f"{key} = {count}"] if count is not None else []
     separator = "\n" if text and not text.endswith("\n") else ""  # editors may leave it out
     added = separator + "\n".join(lines) + "\n\n"
-    _found(path, text + added)
+    _tokens_in(path, text + added)
     fd = os.open(path, os.O_WRONLY | os.O_CREAT | os.O_APPEND | os.O_NOFOLLOW, 0o600)
     with os.fdopen(fd, "w", encoding="utf-8") as file:
         file.write(added)
@@ -326,7 +326,7 @@ class Tokens:
     def __init__(self, path: pathlib.Path, complain: Callable[[str], None]) -> None:
         self.path, self._complain, self._fault = path, complain, ""
         self._looked, self._stamp = 0.0, self._stamp_now()
-        self._there = read(path)
+        self._principals = read(path)
 
     def _stamp_now(self) -> tuple[int, int, int]:
         try:
@@ -361,11 +361,11 @@ class Tokens:
                 self._fault = ""
             else:
                 self._again(stamp)
-        return self._there.get(digest)
+        return self._principals.get(digest)
 
     def _again(self, stamp: tuple[int, int, int]) -> None:
         try:
-            self._there, self._stamp, self._fault = read(self.path), stamp, ""
+            self._principals, self._stamp, self._fault = read(self.path), stamp, ""
         except TokenFault as fault:
             if str(fault) != self._fault:
                 self._complain(f"{fault}; the previous tokens stay valid until it is fixed")
@@ -380,7 +380,7 @@ class Session:
     csrf: str
     until: float
 
-    def sent(self, csrf: str) -> bool:
+    def owns_form(self, csrf: str) -> bool:
         """Return whether a form belongs to this session."""
         return hmac.compare_digest(self.csrf.encode(), csrf.encode(errors="replace"))
 
@@ -392,28 +392,28 @@ class Sessions:
 
     def __init__(self, seconds: float) -> None:
         self.seconds = seconds
-        self._there: OrderedDict[str, Session] = OrderedDict()
+        self._sessions: OrderedDict[str, Session] = OrderedDict()
 
     def begin(self, principal: Principal) -> tuple[str, Session]:
         """Start a session. Returns the cookie's value and the session."""
         name = secrets.token_urlsafe(32)
-        session = self._there[digest_of(name)] = Session(
+        session = self._sessions[digest_of(name)] = Session(
             principal, secrets.token_urlsafe(32), time.monotonic() + self.seconds
         )
-        while len(self._there) > MOST_SESSIONS:
-            self._there.popitem(last=False)
+        while len(self._sessions) > MOST_SESSIONS:
+            self._sessions.popitem(last=False)
         return name, session
 
     def find(self, name: str) -> Session | None:
         """Return the session of a cookie, or None."""
-        session = self._there.get(digest_of(name))
+        session = self._sessions.get(digest_of(name))
         if session and session.until < time.monotonic():
             self.end(name)
             return None
         return session
 
     def end(self, name: str) -> None:
-        self._there.pop(digest_of(name), None)
+        self._sessions.pop(digest_of(name), None)
 
 
 class Rates:
@@ -421,14 +421,14 @@ class Rates:
 
     def __init__(self, rate: float, most: int = 10_000) -> None:
         self.rate, self.most, self._size = rate, most, max(1.0, 2 * rate)
-        self._there: OrderedDict[str, tuple[float, float]] = OrderedDict()
+        self._buckets: OrderedDict[str, tuple[float, float]] = OrderedDict()
 
     def take(self, name: str) -> bool:
         """Return whether one more request is within the rate."""
         now = time.monotonic()
-        available, at = self._there.pop(name, (self._size, now))
+        available, at = self._buckets.pop(name, (self._size, now))
         available = min(self._size, available + (now - at) * self.rate)
-        self._there[name] = (available - 1 if available >= 1 else available), now
-        if len(self._there) > self.most:
-            self._there.popitem(last=False)
+        self._buckets[name] = (available - 1 if available >= 1 else available), now
+        if len(self._buckets) > self.most:
+            self._buckets.popitem(last=False)
         return available >= 1

@@ -175,13 +175,13 @@ async def fields_of(request: Request, most: int) -> list[tuple[str, str]]:
         raise Problem("MalformedRequest", "the form cannot be read") from None
 
 
-async def sent(request: Request) -> tuple[Session, dict[str, str]]:
-    """Return the session of a form, and its fields. Raises the same as `sent_fields`."""
-    session, fields = await sent_fields(request, 20)
+async def session_and_form(request: Request) -> tuple[Session, dict[str, str]]:
+    """Return the session of a form, and its fields. Raises the same as `session_and_fields`."""
+    session, fields = await session_and_fields(request, 20)
     return session, dict(fields)
 
 
-async def sent_fields(request: Request, most: int) -> tuple[Session, list[tuple[str, str]]]:
+async def session_and_fields(request: Request, most: int) -> tuple[Session, list[tuple[str, str]]]:
     """Return the session of a form, and its fields in order.
 
     Raises `Problem` if the form does not belong to the session. Without a session, the form is
@@ -189,7 +189,7 @@ async def sent_fields(request: Request, most: int) -> tuple[Session, list[tuple[
     """
     session = session_of(request)
     fields = await fields_of(request, most) if session else []
-    if session is None or not session.sent(dict(fields).get("csrf", "")):
+    if session is None or not session.owns_form(dict(fields).get("csrf", "")):
         raise expired_form()
     return session, fields
 

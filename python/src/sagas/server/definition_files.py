@@ -56,12 +56,12 @@ KEYS = {
 class Fault(Exception):
     """An error in a definition, at this path of its text.
 
-    `beside`: the error is in the service file.
+    `is_in_service_file`: the error is in the service file.
     """
 
-    def __init__(self, text: str, *path: str | int, beside: bool = False) -> None:
+    def __init__(self, text: str, *path: str | int, is_in_service_file: bool = False) -> None:
         super().__init__(text)
-        self.path, self.beside = path, beside
+        self.path, self.is_in_service_file = path, is_in_service_file
 
 
 class File:
@@ -125,27 +125,29 @@ def read_one(path: pathlib.Path) -> Saga:
     try:
         return _built(file, service_file)
     except Fault as fault:
-        faulty = service_file if fault.beside and service_file else file
+        faulty = service_file if fault.is_in_service_file and service_file else file
         raise DefinitionError(f"{faulty.at(*fault.path)}: {fault}") from None
 
 
-def _manners(service_file: File) -> dict[str, Json]:
+def _step_options(service_file: File) -> dict[str, Json]:
     """Return the options in the service file, by step. Raises `Fault`."""
     document = service_file.document
     steps = document.get("step", {})
     unknown = set(document) - {"step"}
     if unknown or not isinstance(steps, dict):
         raise Fault(
-            "only [step.NAME] tables are allowed", *sorted(unknown or {"step"})[:1], beside=True
+            "only [step.NAME] tables are allowed",
+            *sorted(unknown or {"step"})[:1],
+            is_in_service_file=True,
         )
     for name, options in steps.items():
-        _check_manner(name, options)
+        _check_step_options(name, options)
     return steps
 
 
-def _check_manner(name: str, options: Any) -> None:
+def _check_step_options(name: str, options: Any) -> None:
     def fault(text: str, *key: str) -> Fault:
-        return Fault(f"step {name!r}: {text}", "step", name, *key, beside=True)
+        return Fault(f"step {name!r}: {text}", "step", name, *key, is_in_service_file=True)
 
     kind = options.get("kind", "work") if isinstance(options, dict) else None
     if not isinstance(kind, str) or kind not in KEYS:
@@ -179,18 +181,18 @@ def is_number(value: Any) -> bool:
 
 def _built(file: File, service_file: File | None) -> Saga:
     """Build the saga of these files. Raises `Fault`, `DefinitionError`."""
-    document, options_of_steps = file.document, _manners(service_file) if service_file else {}
+    document, options_of_steps = file.document, _step_options(service_file) if service_file else {}
     _check_keys(document)
     try:
         saga = Saga(document["name"], version=version_of(file.text))
     except DefinitionError as error:
-        raise DefinitionError(f"{file.at('name')}: {_said(error)}") from None
+        raise DefinitionError(f"{file.at('name')}: {_message_of(error)}") from None
     saga.where = file.at("name")
     for index, step in enumerate(document.get("step", [])):
         _add(saga, file, service_file, index, step, options_of_steps.get(step["name"], {}))
     for name in options_of_steps:
         if all(step.name != name for step in saga.steps):
-            raise Fault(f"no step is named {name!r}", "step", name, beside=True)
+            raise Fault(f"no step is named {name!r}", "step", name, is_in_service_file=True)
     saga.check()
     if _plain(document) != _plain(tomllib.loads(saga.toml())):
         raise Fault("this service does not support the definition", "name")
@@ -246,7 +248,7 @@ def _add(
     try:
         build[kind](saga, step, options)
     except DefinitionError as error:
-        text = _said(error)
+        text = _message_of(error)
         named = re.search(r": (\w+)[=(]", text)
         key = named[1].lower() if named else "name"
         if key in options and service_file:
@@ -255,7 +257,7 @@ def _add(
     saga.steps[-1].where = file.at("step", index)
 
 
-def _said(error: DefinitionError) -> str:
+def _message_of(error: DefinitionError) -> str:
     """Return the message of an error without the line of this module."""
     return "saga " + str(error).partition(": saga ")[2]
 

@@ -14,17 +14,17 @@ class Durations:
     """The latest durations of each step."""
 
     def __init__(self) -> None:
-        self._there: OrderedDict[Step, deque[float]] = OrderedDict()
+        self._durations: OrderedDict[Step, deque[float]] = OrderedDict()
 
     def add(self, step: Step, seconds: float) -> None:
         """Record the duration of an attempt."""
-        if step not in self._there and len(self._there) >= MOST_STEPS:
-            self._there.popitem(last=False)
-        self._there.setdefault(step, deque(maxlen=KEPT)).append(seconds)
+        if step not in self._durations and len(self._durations) >= MOST_STEPS:
+            self._durations.popitem(last=False)
+        self._durations.setdefault(step, deque(maxlen=KEPT)).append(seconds)
 
     def of(self, step: Step) -> tuple[int, float, float] | None:
         """Return the number of durations, their median and their 95th percentile, or None."""
-        durations = sorted(self._there.get(step, ()))
+        durations = sorted(self._durations.get(step, ()))
         if not durations:
             return None
         return (

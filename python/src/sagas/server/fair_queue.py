@@ -24,7 +24,7 @@ MOST_KNOWN = 1000
 
 
 @dataclasses.dataclass(slots=True)
-class _Maker(Generic[J]):
+class _Client(Generic[J]):
     """A client that has or had work.
 
     Attributes:
@@ -48,20 +48,20 @@ class FairQueue(Generic[J]):
 
     def __init__(self, threads: int, computing: set[str]) -> None:
         self._threads, self._computing = threads, computing
-        self._known: OrderedDict[str, _Maker[J]] = OrderedDict()
-        self._ready: dict[str, _Maker[J]] = {}  # those with work that waits
+        self._known: OrderedDict[str, _Client[J]] = OrderedDict()
+        self._ready: dict[str, _Client[J]] = {}  # those with work that waits
         self._running, self._floor = 0, 0.0
 
     def put(self, name: str, job: J) -> None:
         """Add a piece of work of a client."""
-        client_key = self._known.get(name)
-        if client_key is None:
-            client_key = self._known[name] = _Maker()
+        client = self._known.get(name)
+        if client is None:
+            client = self._known[name] = _Client()
         self._known.move_to_end(name)
-        if not client_key.jobs and not client_key.running:  # nobody saves up time
-            client_key.used = max(client_key.used, self._floor)
-        client_key.jobs.append(job)
-        self._ready[name] = client_key
+        if not client.jobs and not client.running:  # an idle client does not accumulate time
+            client.used = max(client.used, self._floor)
+        client.jobs.append(job)
+        self._ready[name] = client
         self._forget()
 
     def take(self) -> tuple[str, J] | None:
@@ -71,39 +71,37 @@ class FairQueue(Generic[J]):
         candidates = [item for item in self._ready.items() if self._may_run(*item)]
         if not candidates:
             return None
-        name, client_key = min(candidates, key=lambda item: item[1].used)
-        job = client_key.jobs.popleft()
-        if not client_key.jobs:
+        name, client = min(candidates, key=lambda item: item[1].used)
+        job = client.jobs.popleft()
+        if not client.jobs:
             del self._ready[name]
-        client_key.running += 1
+        client.running += 1
         self._running += 1
-        if client_key.computed >= LONG:
+        if client.computed >= LONG:
             self._computing.add(name)
-        self._floor = max(self._floor, client_key.used)
+        self._floor = max(self._floor, client.used)
         return name, job
 
     def done(self, name: str, seconds: float, computed: float) -> None:
         """Record that a piece of work took this time, and computed for a part of it."""
         self._running -= 1
         self._computing.discard(name)
-        client_key = self._known[name]
-        client_key.running -= 1
-        client_key.used += seconds
-        client_key.mean += WEIGHT * (seconds - client_key.mean)
-        client_key.computed += WEIGHT * (computed - client_key.computed)
+        client = self._known[name]
+        client.running -= 1
+        client.used += seconds
+        client.mean += WEIGHT * (seconds - client.mean)
+        client.computed += WEIGHT * (computed - client.computed)
 
-    def _may_run(self, name: str, client_key: _Maker[J]) -> bool:
+    def _may_run(self, name: str, client: _Client[J]) -> bool:
         """Return whether a client may use one more thread."""
-        if client_key.computed >= LONG and name in self._computing:
+        if client.computed >= LONG and name in self._computing:
             return False
-        return client_key.running < (
-            self._threads if client_key.mean < LONG else max(1, self._threads - 1)
-        )
+        return client.running < (self._threads if client.mean < LONG else max(1, self._threads - 1))
 
     def _forget(self) -> None:
         """If too many clients are known, forget the one that had no work for the longest time."""
         if len(self._known) > MOST_KNOWN:
-            name, client_key = next(iter(self._known.items()))
+            name, client = next(iter(self._known.items()))
             self._known.move_to_end(name)
-            if not client_key.jobs and not client_key.running:
+            if not client.jobs and not client.running:
                 del self._known[name]

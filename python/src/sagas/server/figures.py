@@ -31,7 +31,7 @@ class Counted:
     them.
     """
 
-    found: Counts
+    counts: Counts
     until: float
     seen: int
 
@@ -51,7 +51,7 @@ class Figures:
         counted = self._kept.get(scope)
         if counted is None or time.monotonic() > self._until(counted):
             counted = await asyncio.shield(self._begin(scope))
-        return counted.found
+        return counted.counts
 
     def _until(self, counted: Counted) -> float:
         """Return until when figures are valid: longer if this service received no event since."""

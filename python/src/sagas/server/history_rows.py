@@ -66,7 +66,7 @@ SHORT = {"failed": "failed", "retried": "retried", "not_called": "not called"}
 """How some attempts ended, after their number."""
 
 
-def _told(attempt: AttemptTimes) -> str:
+def _outcome_text(attempt: AttemptTimes) -> str:
     last = attempt.spans[-1] if attempt.spans else None
     if attempt.outcome:
         return wording.OUTCOMES[attempt.outcome]
@@ -74,11 +74,13 @@ def _told(attempt: AttemptTimes) -> str:
 
 
 def _short(attempt: AttemptTimes) -> str:
-    return SHORT.get(attempt.outcome or "") or _told(attempt)
+    return SHORT.get(attempt.outcome or "") or _outcome_text(attempt)
 
 
 def _single(attempt: AttemptTimes, now: float) -> AttemptRow:
-    outcome = _told(attempt) + (f", {attempt.unknowns} × unknown" if attempt.unknowns else "")
+    outcome = _outcome_text(attempt) + (
+        f", {attempt.unknowns} × unknown" if attempt.unknowns else ""
+    )
     workers = [span for span in attempt.spans if span.worker]
     return AttemptRow(
         attempt.step,
@@ -142,7 +144,7 @@ def event_rows(events: Sequence[HistoryEvent], titles: Titles) -> list[EventRow]
             result.append(EventRow(event.event, event.at, event.at, event.step, event.value))
         elif (title, event.event) not in joined:
             joined[title, event.event] = len(result)
-            result.append(EventRow(event.event, event.at, event.at, title, _said(event)))
+            result.append(EventRow(event.event, event.at, event.at, title, _first_error(event)))
         else:
             at = joined[title, event.event]
             row = result[at]
@@ -151,7 +153,7 @@ def event_rows(events: Sequence[HistoryEvent], titles: Titles) -> list[EventRow]
     return result
 
 
-def _said(event: HistoryEvent) -> Any:
+def _first_error(event: HistoryEvent) -> Any:
     """Return the value of several events: the first error, with its step."""
     is_error = isinstance(event.value, dict) and "error" in event.value
     return f"{event.step}: {wording.short(event.value)}" if is_error else ""

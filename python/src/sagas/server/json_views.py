@@ -33,9 +33,9 @@ def summary(saga_summary: Summary) -> dict[str, Any]:
     }
 
 
-def plan(found_plan: Plan | None) -> dict[str, Any] | None:
+def plan(shown_plan: Plan | None) -> dict[str, Any] | None:
     """Return what a plan does with each step, and the costs to keep and drop it."""
-    if found_plan is None:
+    if shown_plan is None:
         return None
     steps = [
         {
@@ -43,11 +43,11 @@ def plan(found_plan: Plan | None) -> dict[str, Any] | None:
             "found": choice.state,
             "cost_to_keep": choice.cost_to_keep,
             "cost_to_drop": choice.cost_to_drop,
-            "decision": choice.decision if found_plan.cost is not None else "stuck",
+            "decision": choice.decision if shown_plan.cost is not None else "stuck",
         }
-        for choice in found_plan.choices
+        for choice in shown_plan.choices
     ]
-    return {"cost": found_plan.cost, "blocking_steps": found_plan.blocking_steps, "steps": steps}
+    return {"cost": shown_plan.cost, "blocking_steps": shown_plan.blocking_steps, "steps": steps}
 
 
 def held(wait: Waits) -> dict[str, Any]:

@@ -162,7 +162,7 @@ def answer_of(scope: Scope, problem: Problem) -> Response:
     values = {"title": problem.kind.title, "text": f"{problem}.", "back": DASHBOARD}
     page = renderer.render("fault.html", {**values, "session": None, "here": ""})
     headers = problems.HEADERS.get(problem.kind.status, {}) | problem.headers
-    return HTMLResponse(renderer.sent(page), problem.kind.status, headers)
+    return HTMLResponse(renderer.encoded(page), problem.kind.status, headers)
 
 
 class Guard:

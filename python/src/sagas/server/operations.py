@@ -116,7 +116,7 @@ class Operation:
             for name, shape in self.parts.items():
                 path[name] = shape.of_text(path[name], name)
         except Invalid:
-            raise not_found() from None
+            raise path_not_found() from None
         query = read_query(self.query, request, is_open)
         body = None if self.body is None else await read_body(self.body, request)
         return Call(request, principal, path, query, body)
@@ -125,7 +125,7 @@ class Operation:
 KEY = Text(most=512, least=1)
 
 
-def not_found() -> Problem:
+def path_not_found() -> Problem:
     """Return the problem for a path that does not exist."""
     return Problem("NotFound", "there is no such path: /openapi.json lists all")
 

@@ -89,10 +89,10 @@ class Page(HTMLResponse):
     def __init__(self, within: Within, template: str, values: dict[str, Any], status: int) -> None:
         super().__init__(status_code=status)
         del self.headers["content-length"]
-        self._within, self._template, self._told = within, template, values
+        self._within, self._template, self._values = within, template, values
 
     async def __call__(self, *arguments: Any) -> None:
-        self.body = await self._within(lambda: sent(render(self._template, self._told)))
+        self.body = await self._within(lambda: encoded(render(self._template, self._values)))
         self.headers["content-length"] = str(len(self.body))
         await super().__call__(*arguments)
 
@@ -103,6 +103,6 @@ def compile_all() -> None:
         ENVIRONMENT.get_template(name)
 
 
-def sent(text: str) -> bytes:
+def encoded(text: str) -> bytes:
     """Return an encoded page or picture. Lone surrogates from JSON are shown as escapes."""
     return text.encode("utf-8", "backslashreplace")

@@ -105,9 +105,9 @@ class Service:
         hooks = webhook_file.read(file, allow) if file else []
         self.webhooks = Webhooks(hooks, self.store.deliveries, allow)
         self._peers: Peers | None = None
-        self._there: dict[
+        self._peer_attempts: dict[
             str, tuple[float, list[ActiveAttempt]]
-        ] = {}  # what other nodes said of sagas, and until when that is told again
+        ] = {}  # attempts that other nodes reported, and until when these are valid
         self.pages: list[re.Pattern[str]] = []
         self.workers: OrderedDict[str, Seen] = OrderedDict()
         self.claims = WaitingClaims()
@@ -236,7 +236,7 @@ class Service:
         """Return the active attempts that another node reports; none if it does not answer."""
         if self._peers is None:
             return []
-        until, attempts = self._there.get(view.key, (0.0, list[ActiveAttempt]()))
+        until, attempts = self._peer_attempts.get(view.key, (0.0, list[ActiveAttempt]()))
         if until > time.monotonic():  # callers ask again and again
             return attempts
         try:
@@ -246,9 +246,9 @@ class Service:
             attempts = [ActiveAttempt(*row) for row in rows]
         except (SagasError, TypeError):  # it does not answer, or is of another release
             attempts = []
-        if len(self._there) >= MOST_THERE:
-            self._there.clear()
-        self._there[view.key] = time.monotonic() + PEER_ANSWER_KEPT, attempts
+        if len(self._peer_attempts) >= MOST_THERE:
+            self._peer_attempts.clear()
+        self._peer_attempts[view.key] = time.monotonic() + PEER_ANSWER_KEPT, attempts
         return attempts
 
     async def queues(self, principal: Principal) -> list[Queue]:

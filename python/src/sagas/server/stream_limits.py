@@ -18,15 +18,15 @@ class Streams:
 
     def __init__(self, most: int, each: int, kept: int) -> None:
         self.most, self.each, self.kept = most, each, kept
-        self._there: Counter[tuple[str, bool]] = Counter()
+        self._open: Counter[tuple[str, bool]] = Counter()
 
     def full(self, client_key: str, dashboard: bool) -> str | None:
         """Return why a client gets no further stream, or None."""
-        if self._there[client_key, dashboard] >= self.each:
+        if self._open[client_key, dashboard] >= self.each:
             return f"you have {self.each} event streams: close some"
         most = self.most if dashboard else self.most - self.kept
-        others = sum(count for (_, shown), count in self._there.items() if not shown)
-        total = self._there.total()
+        others = sum(count for (_, shown), count in self._open.items() if not shown)
+        total = self._open.total()
         if total >= self.most or (not dashboard and others >= most):
             return f"there are {most} event streams: ask again in a while"
         return None
@@ -34,12 +34,12 @@ class Streams:
     def take(self, client_key: str, dashboard: bool) -> Callable[[], None]:
         """Count one more stream. Returns a function that ends it."""
         key = client_key, dashboard
-        self._there[key] += 1
+        self._open[key] += 1
 
         def leave() -> None:
-            self._there[key] -= 1
-            if self._there[key] <= 0:
-                del self._there[key]
+            self._open[key] -= 1
+            if self._open[key] <= 0:
+                del self._open[key]
 
         return leave
 

@@ -84,7 +84,7 @@ class Pool:
         """Start the work that may run now."""
         while item := self._queue.take():
             name, (work, answer) = item
-            if answer.done():  # nobody waits for it any more
+            if answer.done():  # no caller waits any more
                 self._queue.done(name, 0.0, 0.0)
                 continue
             task = Timed(work)
@@ -98,7 +98,7 @@ class Pool:
         if doing.cancelled():
             answer.cancel()
         elif answer.done():
-            doing.exception()  # nobody waits for it any more
+            doing.exception()  # no caller waits any more
         elif error := doing.exception():
             answer.set_exception(error)
         else:

@@ -23,15 +23,15 @@ class Lines:
     """The line numbers of a TOML text."""
 
     def __init__(self, text: str) -> None:
-        self._there: dict[Path, int] = {}
+        self._lines: dict[Path, int] = {}
         for path, line in _paths(text):
-            self._there.setdefault(path, line)
+            self._lines.setdefault(path, line)
 
     def of(self, *path: Union[str, int]) -> int:
         """Return the line, from 1, of the part with this path, or of an enclosing part."""
-        while path and path not in self._there:
+        while path and path not in self._lines:
             path = path[:-1]
-        return self._there.get(path, 1)
+        return self._lines.get(path, 1)
 
 
 def _paths(text: str) -> Iterator[tuple[Path, int]]:

@@ -141,7 +141,7 @@ async def _resolved(host: str, port: int) -> list[str]:
             result = error
         try:
             loop.call_soon_threadsafe(settle, result)
-        except RuntimeError:  # the loop is closed: nobody waits
+        except RuntimeError:  # the loop is closed: no caller waits
             pass
 
     threading.Thread(target=ask, name="sagas-resolve", daemon=True).start()

@@ -62,9 +62,9 @@ class Webhooks:
         self._lanes: list[asyncio.Task[None]] = []
         self._awake: list[asyncio.Event] = []
         if hooks:
-            deliveries.announce(self._told)
+            deliveries.announce(self._subscribers)
 
-    def _told(self, saga: str) -> Hooks:
+    def _subscribers(self, saga: str) -> Hooks:
         """Return the webhooks that receive events of a definition, by type."""
         names_by_type = {
             kind: tuple(hook.name for hook in self._hooks if hook.wants(kind, saga))

@@ -48,7 +48,7 @@ def pages(
     for kind in kinds:
         left = limit - len(entries)
         more = yield from attention_pages.entries(
-            kind, sagas, step, after=after, newest=newest, most=left
+            kind, sagas, step, after=after, newest=newest, limit=left
         )
         entries, after = entries + more, None
         if len(entries) >= limit:

@@ -81,7 +81,7 @@ def entries_of(
     """Count the entries of a filter, and return the first. Without a step, each saga once."""
     by_saga = step is None
     total = yield from attention_pages.count(kind, sagas, step, undo, by_saga=by_saga)
-    entries = yield from attention_pages.entries(kind, sagas, step, undo, most=MOST_TARGETS)
+    entries = yield from attention_pages.entries(kind, sagas, step, undo, limit=MOST_TARGETS)
     targets: dict[Target, None] = {}
     for entry in entries:
         targets[

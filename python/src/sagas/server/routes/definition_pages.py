@@ -81,13 +81,13 @@ async def saga(call: Call) -> Response:
     more |= {"share": (over - phases["completed"]) / over if over else None}
     more |= {"most": max((cost for _, _, cost in costs), default=0)}
     if versions:
-        more |= await steps_told(call, max(versions, key=lambda saga: saga.version), at)
+        more |= await step_values(call, max(versions, key=lambda saga: saga.version), at)
     return show_page(
         request, "definition.html", here="definitions", live="/ui/events", since=since, **more
     )
 
 
-async def steps_told(call: Call, saga: Saga, at: dict[str, AtStep]) -> dict[str, Any]:
+async def step_values(call: Call, saga: Saga, at: dict[str, AtStep]) -> dict[str, Any]:
     """Return the template values of the steps."""
     declared = declared_steps.of(saga)
     groups = Groups([step.spot for step in declared])

@@ -15,7 +15,7 @@ from sagas.inspection.attention_pages import KINDS, Entry
 from sagas.inspection.question import Question
 from sagas.server import json_texts
 from sagas.server.access import service_of
-from sagas.server.dashboard_session import login_redirect, viewer_of, sent_fields, show_page
+from sagas.server.dashboard_session import login_redirect, viewer_of, session_and_fields, show_page
 from sagas.server.operations import Call, Routes
 from sagas.server.routes import bulk
 from sagas.server.routes.inbox_selection import (
@@ -57,7 +57,7 @@ class Wanted:
 
     def question(self) -> Question[list[Entry]]:
         """Return the question for its entries."""
-        return attention_pages.entries(self.kind, self.of, newest=self.newest, most=MOST_GROUPED)
+        return attention_pages.entries(self.kind, self.of, newest=self.newest, limit=MOST_GROUPED)
 
 
 def filter_of(request: Request, fields: dict[str, Any]) -> Filter:
@@ -161,12 +161,12 @@ async def inbox(call: Call) -> Response:
 
 
 @routes.post("/ui/inbox")
-async def deed(call: Call) -> Response:
+async def act(call: Call) -> Response:
     """Ask for confirmation with the count. Then act on each confirmed entry that still waits, and
     show the results.
     """
     request = call.request
-    session, fields = await sent_fields(request, MOST_FIELDS)
+    session, fields = await session_and_fields(request, MOST_FIELDS)
     form = dict(fields)
     kind, verb = form.get("kind", ""), form.get("verb", "")
     if verb not in VERBS.get(kind, {}):
@@ -194,9 +194,9 @@ async def deed(call: Call) -> Response:
             text="Nothing was selected, or all of it has changed since. Select groups or sagas.",
         )
     if waits is None:
-        return asked_again(request, form, selection)
+        return confirmation_page(request, form, selection)
     if fault := fault_of(form):
-        return asked_again(request, form, selection, fault)
+        return confirmation_page(request, form, selection, fault)
     options = {"by": session.principal.name, "note": form.get("note", "").strip()[:2000] or None}
     result = json_texts.read(form.get("result") or "null")
     error = form.get("failed", "").strip()[:2000]
@@ -213,7 +213,7 @@ async def deed(call: Call) -> Response:
     return show_page(request, "inbox_done.html", here="inbox", kind=kind, **values)
 
 
-def asked_again(
+def confirmation_page(
     request: Request, form: dict[str, str], selection: Selection, fault: str | None = None
 ) -> Response:
     """Return the confirmation page, with the selection and the form's values."""

@@ -17,7 +17,7 @@ from sagas.inspection.views import SagaView
 from sagas.server import json_texts, problems, step_waits
 from sagas.server.access import service_of
 from sagas.server.auth import Principal
-from sagas.server.dashboard_session import login_redirect, viewer_of, sent, show_page
+from sagas.server.dashboard_session import login_redirect, viewer_of, session_and_form, show_page
 from sagas.server.operations import Call, Routes
 from sagas.server.routes import saga_pages, schedules
 from sagas.server.routes.pages import address_of
@@ -75,7 +75,7 @@ REMOVE: dict[str, Any] = {
 }
 
 
-def asked(
+def confirmation_page(
     request: Request, key: str, question: dict[str, Any], status: int = 200, **more: Any
 ) -> Response:
     """Return the confirmation page for an action on a saga."""
@@ -171,7 +171,7 @@ async def abort_page(call: Call) -> Response:
     if answer := login_redirect(call.request):
         return answer
     effect = await effect_of(call, abort=True)
-    return asked(call.request, call.key, ABORT, effect=effect)
+    return confirmation_page(call.request, call.key, ABORT, effect=effect)
 
 
 async def effect_of(call: Call, **event: Any) -> str | None:
@@ -188,7 +188,7 @@ async def effect_of(call: Call, **event: Any) -> str | None:
 @routes.post("/ui/sagas/{key}/abort")
 async def abort(call: Call) -> Response:
     request, key = call.request, call.key
-    session, form = await sent(request)
+    session, form = await session_and_form(request)
     try:
         service = service_of(request)
         await service.check_sees(session.principal, key)
@@ -196,33 +196,37 @@ async def abort(call: Call) -> Response:
             service.store.abort(key, by=session.principal.name, note=form.get("note") or None)
         )
     except SagasError as error:
-        return asked(request, key, ABORT, 409, fault=str(problems.of(error)), note=form.get("note"))
+        return confirmation_page(
+            request, key, ABORT, 409, fault=str(problems.of(error)), note=form.get("note")
+        )
     return back(request, key)
 
 
 @routes.get("/ui/sagas/{key}/resolve")
 async def resolve_page(call: Call) -> Response:
-    return login_redirect(call.request) or asked(call.request, call.key, RESOLVE)
+    return login_redirect(call.request) or confirmation_page(call.request, call.key, RESOLVE)
 
 
 @routes.post("/ui/sagas/{key}/resolve")
 async def resolve(call: Call) -> Response:
     request, key = call.request, call.key
-    session, form = await sent(request)
+    session, form = await session_and_form(request)
     note = form.get("note", "").strip()[:2000]
     if not note:
-        return asked(request, key, RESOLVE, 422, fault="Say what was done about it.")
+        return confirmation_page(request, key, RESOLVE, 422, fault="Say what was done about it.")
     try:
         await service_of(request).check_sees(session.principal, key)
         await service_of(request).store.resolve(key, note, by=session.principal.name)
     except SagasError as error:
-        return asked(request, key, RESOLVE, 409, fault=str(problems.of(error)), note=note)
+        return confirmation_page(
+            request, key, RESOLVE, 409, fault=str(problems.of(error)), note=note
+        )
     return back(request, key)
 
 
 @routes.get("/ui/sagas/{key}/steps/{step}/compensate")
 async def compensate_page(call: Call) -> Response:
-    return login_redirect(call.request) or asked(
+    return login_redirect(call.request) or confirmation_page(
         call.request, call.key, compensation_question(call)
     )
 
@@ -230,7 +234,7 @@ async def compensate_page(call: Call) -> Response:
 @routes.post("/ui/sagas/{key}/steps/{step}/compensate")
 async def compensate(call: Call) -> Response:
     request, key, question = call.request, call.key, compensation_question(call)
-    session, form = await sent(request)
+    session, form = await session_and_form(request)
     note = form.get("note", "").strip()[:2000] or None
     try:
         service = service_of(request)
@@ -240,7 +244,9 @@ async def compensate(call: Call) -> Response:
             service.store.compensate(key, step, by=session.principal.name, note=note)
         )
     except SagasError as error:
-        return asked(request, key, question, 409, fault=str(problems.of(error)), note=note)
+        return confirmation_page(
+            request, key, question, 409, fault=str(problems.of(error)), note=note
+        )
     return back(request, key)
 
 
@@ -251,10 +257,12 @@ def compensation_question(call: Call) -> dict[str, Any]:
 
 @routes.get("/ui/sagas/{key}/steps/{step}/{outcome}", parts={"outcome": OUTCOME}, query=UNDO)
 async def step_page(call: Call) -> Response:
-    return login_redirect(call.request) or await step_asked(call, await seen(call))
+    return login_redirect(call.request) or await step_confirmation(call, await seen(call))
 
 
-async def step_asked(call: Call, view: SagaView | None, status: int = 200, **more: Any) -> Response:
+async def step_confirmation(
+    call: Call, view: SagaView | None, status: int = 200, **more: Any
+) -> Response:
     """Return the confirmation of a step's end.
 
     It shows the saga's input and results, and what the answer would do. The form identifies the
@@ -273,7 +281,7 @@ async def step_asked(call: Call, view: SagaView | None, status: int = 200, **mor
             )
     if outcome != "retry":
         question["effect"] = await effect_of(call, **{outcome: name})
-    return asked(call.request, call.key, question, status, **more)
+    return confirmation_page(call.request, call.key, question, status, **more)
 
 
 def child_of(view: SagaView, step: str) -> str | None:
@@ -303,16 +311,16 @@ def result_of(form: dict[str, str]) -> Any:
 
 
 @routes.post("/ui/sagas/{key}/steps/{step}/{outcome}", parts={"outcome": OUTCOME}, query=UNDO)
-async def step_said(call: Call) -> Response:
-    session, form = await sent(call.request)
+async def report_step(call: Call) -> Response:
+    session, form = await session_and_form(call.request)
     view = await seen(call)
     ask_again = functools.partial(
-        step_asked,
+        step_confirmation,
         call,
         view,
         **{name: form.get(name) for name in ("type", "note", "result", "failed")},
     )
-    if view is not None and (fault := moved_on(call, view, form.get("waits", ""))):
+    if view is not None and (fault := why_outdated(call, view, form.get("waits", ""))):
         return await ask_again(409, fault=fault)
     if call.path["outcome"] == "failed" and not form.get("failed", "").strip():
         return await ask_again(422, fault="Say why.")
@@ -327,7 +335,7 @@ async def step_said(call: Call) -> Response:
     return back(call.request, call.key)
 
 
-def moved_on(call: Call, view: SagaView, answered: str) -> str | None:
+def why_outdated(call: Call, view: SagaView, answered: str) -> str | None:
     """Return why a form is shown again, if the step now waits for something else.
 
     If no attempt is active, the store checks the report.
@@ -387,7 +395,7 @@ async def remove_page(call: Call) -> Response:
 
 @routes.post("/ui/schedules/{name}/{change}", parts={"change": Choice((*schedules.DONE,))})
 async def schedule_changed(call: Call) -> Response:
-    session, _ = await sent(call.request)
+    session, _ = await session_and_form(call.request)
     name, change = call.path["name"], call.path["change"]
     try:
         await schedules.change(service_of(call.request), session.principal, name, change)

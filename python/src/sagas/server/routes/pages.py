@@ -28,7 +28,7 @@ from sagas.server.dashboard_session import (
     form_of,
     viewer_of,
     page,
-    sent,
+    session_and_form,
     session_of,
     show_page,
     current_session,
@@ -113,7 +113,7 @@ async def login(call: Call) -> Response:
 @routes.post("/ui/logout")
 async def logout(call: Call) -> Response:
     request = call.request
-    await sent(request)
+    await session_and_form(request)
     cookie = cookie_of(request)
     service_of(request).sessions.end(request.cookies.get(cookie, ""))
     response = RedirectResponse("/ui/login", 303)
@@ -151,7 +151,7 @@ async def listed(call: Call) -> Response:
     parameters["phase"] = parameters["phase"] if parameters["phase"] in wording.PHASES else None
     phase, fault = parameters["phase"], None
     counts, needing = await service.figures.of(principal.scope)
-    bounds: dict[str, Any] = {"most": LISTED + 1}
+    bounds: dict[str, Any] = {"limit": LISTED + 1}
     bounds |= {"before": filters.position_of(before), "after": filters.position_of(after)}
     try:
         selected = filter_of(parameters, principal)

@@ -216,7 +216,7 @@ async def listed(call: Call) -> Response:
     query = call.query
     limit, before = query["limit"], filters.position_of(query["after"])
     page = pages.page(
-        before=before, most=limit, of=filters.of(call.principal, query, query["phase"])
+        before=before, limit=limit, of=filters.of(call.principal, query, query["phase"])
     )
     summaries = await call.service.look(page)
     last = pages.position_of(summaries[-1]) if len(summaries) == limit else None
@@ -257,9 +257,9 @@ async def wait(call: Call) -> Response:
     with waiting(call.request, call.principal, Kind.WAIT):
         ending = asyncio.ensure_future(call.service.store.over(call.key))
         if await first(call.request, call.principal, ending, call.query["seconds"]):
-            ending.result()  # raises, where there is no such saga
+            ending.result()  # raises if the saga does not exist
     if call.request.scope[GONE].done():
-        return Response()  # nobody hears it
+        return Response()  # the client is gone
     return await answered(call)
 
 
@@ -330,7 +330,7 @@ async def picture(call: Call) -> Response:
     view, unfold = await view_of(call), unfolding.names_in(call.query["unfold"])
     return Response(
         await call.service.threads.answers.do(
-            lambda: renderer.sent(picture_module.document(view, unfold))
+            lambda: renderer.encoded(picture_module.document(view, unfold))
         ),
         media_type="image/svg+xml",
         headers={"Content-Security-Policy": "default-src 'none'; style-src 'unsafe-inline'"},

@@ -9,7 +9,7 @@ from starlette.responses import RedirectResponse, Response
 from sagas.base.errors import SagasError
 from sagas.server import json_texts, problems
 from sagas.server.access import check_definition, service_of
-from sagas.server.dashboard_session import login_redirect, viewer_of, sent, show_page
+from sagas.server.dashboard_session import login_redirect, viewer_of, session_and_form, show_page
 from sagas.server.operations import Call, Routes
 from sagas.server.routes.pages import address_of
 from sagas.server.shapes import Field, Text
@@ -17,7 +17,7 @@ from sagas.server.shapes import Field, Text
 routes = Routes("pages", is_page=True)
 
 
-def asked(
+def form_page(
     request: Request, form: dict[str, str], fault: str | None = None, status: int = 200
 ) -> Response:
     """Return the form with its values, and why it was not accepted."""
@@ -29,7 +29,7 @@ def asked(
 
 @routes.get("/ui/start", query={"definition": Field(Text(most=64), default="")})
 async def start_page(call: Call) -> Response:
-    return login_redirect(call.request) or asked(
+    return login_redirect(call.request) or form_page(
         call.request, {"definition": call.query["definition"]}
     )
 
@@ -38,10 +38,10 @@ async def start_page(call: Call) -> Response:
 async def start(call: Call) -> Response:
     """Start the saga, and redirect to it. It may exist already with the same input."""
     request = call.request
-    session, form = await sent(request)
+    session, form = await session_and_form(request)
     service, key = service_of(request), form.get("key", "").strip()
     if not 0 < len(key) <= 512 or key in (".", ".."):
-        return asked(
+        return form_page(
             request,
             form,
             "Give it a key of at most 512 characters: its name as long as it is kept, an order's "
@@ -52,7 +52,7 @@ async def start(call: Call) -> Response:
         size = len(form.get("input", ""))
         input = json_texts.read(form.get("input") or "null")
     except ValueError as error:
-        return asked(
+        return form_page(
             request,
             form,
             f"The input is not valid JSON: {error}. Write a text in quotation marks.",
@@ -64,6 +64,6 @@ async def start(call: Call) -> Response:
         saga = service.saga_named(session.principal, definition, None)
         await service.start(session.principal, size, saga, key, input)
     except SagasError as error:
-        return asked(request, form, str(problems.of(error)), 409)
+        return form_page(request, form, str(problems.of(error)), 409)
     service.figures.forget()
     return RedirectResponse(address_of(key), 303)

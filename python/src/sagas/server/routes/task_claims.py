@@ -39,7 +39,7 @@ PATIENCE = 25.0
 
 def parse_steps(steps: list[str], path: str = "steps") -> list[Word]:
     """Return the requested steps. Raises `Problem`."""
-    steps_found: list[Word] = []
+    words: list[Word] = []
     for number, step in enumerate(steps):
         parsed = _parse_step(step)
         if parsed is None:
@@ -49,8 +49,8 @@ def parse_steps(steps: list[str], path: str = "steps") -> list[Word]:
                 f"{location}: {step[:80]!r}: a step is saga/step, or saga/step/undo",
                 location,
             )
-        steps_found.append(parsed)
-    return steps_found
+        words.append(parsed)
+    return words
 
 
 @functools.lru_cache(1000)  # workers ask for the same again
@@ -149,7 +149,7 @@ class NextClaim:
         """`body`: the claim, or None. `reports`: how many reports come first."""
         self._call, self._body, self._missing = call, body, reports
         self._claiming: asyncio.Task[list[LeasedTask]] | None = None
-        self._found: list[LeasedTask] = []
+        self._tasks: list[LeasedTask] = []
 
     async def __aenter__(self) -> NextClaim:
         return self
@@ -160,8 +160,8 @@ class NextClaim:
         if self._claiming is not None:
             self._claiming.cancel()
             with contextlib.suppress(asyncio.CancelledError, Exception):
-                self._found = await self._claiming
-        await _give_back(self._call, self._found)
+                self._tasks = await self._claiming
+        await _give_back(self._call, self._tasks)
 
     def stored(self) -> None:
         """Record that a report is stored."""
@@ -180,19 +180,19 @@ class NextClaim:
             if not await _is_over(call, self._claiming, 0.0):
                 return _answer(call, body, [])
             claiming, self._claiming = self._claiming, None
-            self._found = claiming.result()
-        if not self._found:
+            self._tasks = claiming.result()
+        if not self._tasks:
             with contextlib.ExitStack() as stack:
                 wait = body["wait"]
                 try:
                     stack.enter_context(waiting(call.request, call.principal, Kind.CLAIM))
                 except Problem:  # the report is stored: it is answered now
                     wait = 0.0
-                self._found = await _claimed(call, body, body["limit"], wait)
-        elif len(self._found) < body["limit"]:
+                self._tasks = await _claimed(call, body, body["limit"], wait)
+        elif len(self._tasks) < body["limit"]:
             with contextlib.suppress(SagasError):  # the client gets those that it has
-                self._found += await _claimed(call, body, body["limit"] - len(self._found), 0.0)
-        return _answer(call, body, await _handed(call, self._found))
+                self._tasks += await _claimed(call, body, body["limit"] - len(self._tasks), 0.0)
+        return _answer(call, body, await _handed(call, self._tasks))
 
 
 def _is_gone(call: Call) -> bool:

@@ -9,7 +9,7 @@ from starlette.responses import RedirectResponse, Response
 
 from sagas.inspection import deliveries
 from sagas.server.access import service_of
-from sagas.server.dashboard_session import login_redirect, viewer_of, sent, show_page
+from sagas.server.dashboard_session import login_redirect, viewer_of, session_and_form, show_page
 from sagas.server.operations import Call, Routes
 from sagas.server.routes import webhooks
 from sagas.server.shapes import Choice, Field, Text
@@ -59,7 +59,7 @@ async def listed(call: Call) -> Response:
 @routes.post("/ui/webhooks/{id}/redeliver")
 async def redelivered(call: Call) -> Response:
     """Post a delivery again, and redirect to the list."""
-    session, form = await sent(call.request)
+    session, form = await session_and_form(call.request)
     await webhooks.again(service_of(call.request), session.principal, call.path["id"])
     state = form.get("state") if form.get("state") in STATES else None
     return RedirectResponse(url(state=state, webhook=form.get("webhook", "")[:64]), 303)
