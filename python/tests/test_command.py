@@ -265,7 +265,7 @@ def test_counts_stuck_and_waiting(shell: Shell) -> None:
         ("letter-1", "sign", "approval"),
         ("letter-2", "sign", "approval"),
     }
-    assert "a person: unknown outcome (2 times)" in shell("pending")
+    assert "an operator: unknown outcome (2 times)" in shell("pending")
     assert [one["count"] for one in shell.json("pending") if one["key"] == "odd"] == [2]
 
 
@@ -759,7 +759,7 @@ def test_finish_says_what_is_wrong(place: str, capsys: pytest.CaptureFixture[str
     )  # also while no program runs
     assert "not JSON" in finish("letter-1", "sign", "--result", "yes", status=2)
     store_command.main([path, "complete", "letter-1", "sign", "--result", "yes"])
-    assert """Write a text as '"yes"'""" in capsys.readouterr().err
+    assert """Quote a string: '"yes"'""" in capsys.readouterr().err
     for command, told in ("complete", "waits for an approval"), (
         "retry",
         "\n  1    no saga or step has the name, or",
@@ -879,7 +879,7 @@ FORGED = {
     "INSERT INTO attempts SELECT id, 1, 'undo', 1, 'undone', NULL, 0 FROM sagas WHERE key = 'good'": [
         "good: charge, undo 1: the row says undone, the events nothing"
     ],
-    "DELETE FROM sagas WHERE key = 'letter-1'": ["saga 3: events, and no row"],
+    "DELETE FROM sagas WHERE key = 'letter-1'": ["saga 3: has events but no row"],
     "INSERT INTO attempts SELECT id, 1, 'undo', 1, 'ok', NULL, 0 FROM sagas WHERE key = 'good'": [
         "good: charge, undo 1: the row says ok, the events nothing"
     ],

@@ -233,17 +233,17 @@ def waits(client: httpx.Client, key: str, why: str) -> None:
 
 
 BOTH = [
-    ("complete", {}, "result: it is missing"),
-    ("complete", {"note": "NO"}, "result: it is missing"),
-    ("complete", {"undo": False}, "result: it is missing"),
-    ("complete", {"result": 1, "error": "x"}, "error: there is no such field"),
-    ("complete", {"approved": True, "result": 1}, "approved: there is no such field"),
+    ("complete", {}, "result: is required"),
+    ("complete", {"note": "NO"}, "result: is required"),
+    ("complete", {"undo": False}, "result: is required"),
+    ("complete", {"result": 1, "error": "x"}, "error: unknown field"),
+    ("complete", {"approved": True, "result": 1}, "approved: unknown field"),
     ("complete", {"result": 1, "note": 5}, "note: must be a string"),
     ("complete", {"result": 1, "undo": "no"}, "undo: must be true or false"),
     ("complete", [], "the body: must be an object"),
     ("complete", [["result", 1]], "the body: must be an object"),
-    ("fail", {}, "error: it is missing"),
-    ("fail", {"error": "x", "result": 1}, "result: there is no such field"),
+    ("fail", {}, "error: is required"),
+    ("fail", {"error": "x", "result": 1}, "result: unknown field"),
     ("fail", {"error": None}, "error: must be a string"),
     ("fail", {"error": 5}, "error: must be a string"),
     ("fail", [["error", "x"]], "the body: must be an object"),
@@ -427,7 +427,7 @@ FOREIGN = (
     ({"Origin": "null"}, "has the Origin 'null' and the Host 'HOST'"),
     (
         {"Origin": "http://own.example:8443", "Host": "own.example"},
-        "A proxy has to pass on the Host that the browser sends, with its port",
+        "A proxy must forward the browser's Host header, with its port",
     ),
     ({"Sec-Fetch-Site": "cross-site"}, "has the Sec-Fetch-Site 'cross-site'"),
     ({"Sec-Fetch-Site": "same-site"}, "has the Sec-Fetch-Site 'same-site'"),

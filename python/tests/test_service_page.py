@@ -708,7 +708,7 @@ document.dispatchEvent(new Event("visibilitychange"));
 
 def test_a_page_that_is_not_answered_is_taken_later(browser: Browser) -> None:
     """It says that it is not live, and is renewed without another event. What takes long is
-    asked for less often. Of a saga that is not kept any more it says that."""
+    asked for less often. Of a saga that is no longer stored it says that."""
     browser.go("/ui/sagas?search=page")
     browser.driver.execute_script(ANSWERED, 503)
     with browser.service.client() as client:
@@ -724,7 +724,7 @@ def test_a_page_that_is_not_answered_is_taken_later(browser: Browser) -> None:
     assert pause > 5 * took - 5  # milliseconds
     browser.is_quiet()
     browser.driver.execute_script(GONE)
-    browser.has("There is no such saga")
+    browser.has("Unknown saga")
     assert not browser.driver.find_element(By.ID, "lapsed").is_displayed()
     browser.driver.get("about:blank")
     browser.driver.get_log("browser")  # it shows each answer that is no 200

@@ -126,7 +126,7 @@ def test_a_caller_starts_its_definitions(world: World) -> None:
     assert (status, name, text) == (
         409,
         "KeyConflict",
-        "the key 'a-order' is another saga's: take another key",
+        "the key 'a-order' belongs to another saga: use another key",
     )
     assert error_of(start(client, "few", "t-1")) == "KeyConflict"
     assert start(client, "trip", "a-trip", {"secret": "of trip"}).json() == {
@@ -472,7 +472,7 @@ def test_a_token_that_expires(tmp_path: pathlib.Path) -> None:
             assert told(client.get("/v1/sagas")) == (
                 401,
                 "Unauthorized",
-                "this token has expired: `sagas token` makes another, "
+                "the token has expired. Create another one with `sagas token`, "
                 "sent as Authorization: Bearer TOKEN",
             )
             assert page.post("/ui/login", data={"token": old}).status_code == 403

@@ -269,7 +269,7 @@ def test_approvals_of_items_and_of_included_sagas(tmp_path: pathlib.Path) -> Non
                 answer = client.post(f"/v1/sagas/k/steps/{step}/complete", json={"result": 1})
                 assert answer.status_code == status, (step, answer.text)
             assert answer.json()["detail"].startswith(
-                "approver is an approver, and 'sign' is no approval"
+                "approver is an approver: 'sign' is no approval"
             )
         with service.client() as page:
             page.post("/ui/login", data={"token": operator})

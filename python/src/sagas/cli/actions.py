@@ -71,7 +71,7 @@ def ask(path: str, key: str, command: str, value: Any, timeout: float) -> tuple[
 
 def gone(key: str) -> Trouble:
     """Return the error for a saga that is deleted while a request to it is stored."""
-    return Trouble(f"saga {key} was deleted meanwhile")
+    return Trouble(f"saga {key} was deleted concurrently")
 
 
 def target_of(link: admin.Source, key: str, command: str, value: Any) -> int | None:
@@ -190,9 +190,10 @@ def request(
 
 
 def abort(path: str, options: argparse.Namespace) -> int:
-    """Abort a saga, or with --all each of a filter: undo by a least-cost plan.
+    """Abort sagas, and undo them by least-cost plans.
 
-    No step starts any more. A client's start that no node has accepted is withdrawn.
+    No further step starts. With --all, abort each open saga of a filter. A client's start that
+    no node has accepted is withdrawn.
     """
     check_keys(options, bool(options.key))
     if options.all:
@@ -204,17 +205,17 @@ def abort(path: str, options: argparse.Namespace) -> int:
 
 
 def complete(path: str, options: argparse.Namespace) -> int:
-    """Report that a step succeeded: one that waits for an approval or a report.
+    """Report that a step succeeded, for example to approve it.
 
-    With --all, report it of each step whose attempts are used up. The program that executes the
-    saga takes the report, now or when it opens the store.
+    The program that executes the saga handles the report, now or when it opens the store. With
+    --all, report each step whose attempts are used up.
     """
     if is_deeper(options.result):
         raise Trouble(f"--result: {TOO_DEEP}", 2)
     try:
         result = json.loads(options.result)
     except ValueError as error:
-        message = f"--result is not JSON ({error}). Write a text as '\"yes\"'"
+        message = f"--result is not JSON ({error}). Quote a string: '\"yes\"'"
         raise Trouble(message, 2) from error
     check_steps(options, "complete")
     payloads = payloads_of(options)
@@ -229,24 +230,24 @@ def complete(path: str, options: argparse.Namespace) -> int:
 def fail(path: str, options: argparse.Namespace) -> int:
     """Report that a step failed permanently, for example to reject an approval.
 
-    With --all, report it of each step whose attempts are used up. The program that executes the
-    saga takes the report, now or when it opens the store.
+    The program that executes the saga handles the report, now or when it opens the store. With
+    --all, report each step whose attempts are used up.
     """
     check_steps(options, "fail")
     if (options.why is None) == options.all or (options.error is None) != options.all:
-        raise Trouble("fail takes KEY, STEP and ERROR, or --all and --error TEXT", 2)
+        raise Trouble("fail requires KEY, STEP and ERROR, or --all and --error TEXT", 2)
     report = {"error": options.why if options.all else options.error}
     return answer(path, options, "fail", report, "failed", "not reported")
 
 
 def retry(path: str, options: argparse.Namespace) -> int:
-    """Attempt a step again whose attempts are used up, or whose outcome is unknown."""
+    """Retry a step whose attempts are used up, or whose outcome is unknown."""
     check_steps(options, "retry")
     return answer(path, options, "retry", {}, "is attempted again", "not retried")
 
 
 def compensate(path: str, options: argparse.Namespace) -> int:
-    """Have a step compensated that was reported before it began, and not used.
+    """Compensate a step whose early report was not used.
 
     `attention` lists such reports. A program that has the saga's definition starts a saga that
     calls the compensation, now or when it opens the store.
@@ -261,11 +262,11 @@ def check_steps(options: argparse.Namespace, command: str) -> None:
     """Raise `Trouble` unless the options select steps in exactly one way."""
     check_keys(options, bool(options.key))
     if options.key and not options.step:
-        raise Trouble(f"{command} takes KEY and STEP", 2)
+        raise Trouble(f"{command} requires KEY and STEP", 2)
     if options.all and options.undo:
-        raise Trouble("--undo needs KEY and STEP: --all means compensations, too", 2)
+        raise Trouble("--undo requires KEY and STEP; --all includes compensations", 2)
     if options.key and (options.only or options.yes):
-        raise Trouble("--step and --yes need --all", 2)
+        raise Trouble("--step and --yes require --all", 2)
 
 
 def answer(

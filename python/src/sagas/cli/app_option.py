@@ -34,7 +34,7 @@ def read_by(options: argparse.Namespace) -> Read:
         try:
             return payloads.read(text)
         except CannotDecode as error:
-            advice = "" if payloads.codec else ". Name the codec of the store by --app MODULE:NAME"
+            advice = "" if payloads.codec else ". Pass the codec of the store: --app MODULE:NAME"
             why = str(error) if payloads.codec else "the values of this store are encoded"
             raise Trouble(f"{why}{advice}", CANNOT) from error
 

@@ -138,7 +138,7 @@ def audit_shard(store: Snapshot, log: int) -> ShardAudit:
     keys: dict[int, str] = {id: key for id, key, *_ in rows}
     result.differences += compare_sagas(rows, events)
     result.differences += [
-        f"saga {id}: events, and no row" for id in events.places if id not in keys
+        f"saga {id}: has events but no row" for id in events.places if id not in keys
     ]
     result.differences += compare_attempts(store, log, events, keys, texts)
     return result
@@ -149,7 +149,7 @@ def compare_sagas(rows: Sequence[Row], events: Events) -> list[str]:
     differences = []
     for id, key, index, phase, outcome, recovered, undo_failed in rows:
         if id not in events.places:
-            differences.append(f"{key}: a row, and no events")
+            differences.append(f"{key}: has a row but no events")
             continue
         if index != events.places[id]:
             differences.append(
@@ -262,4 +262,4 @@ def show(reports: list[dict[str, Any]]) -> None:
         for line in report["differences"][:MOST_SHOWN]:
             print(escaped(f"shard {report['shard']}: {line}"))
         if (more := len(report["differences"]) - MOST_SHOWN) > 0:
-            print(f"shard {report['shard']}: {number(more, 'more difference')}; --json has all")
+            print(f"shard {report['shard']}: {number(more, 'more difference')}; --json lists all")

@@ -75,10 +75,10 @@ def waits_for(entry: Json) -> str:
     if why == "unknown":
         times = f" ({number(entry['count'], 'time')})"
         if until is None:
-            return f"a person: unknown outcome{times}"
+            return f"an operator: unknown outcome{times}"
         return f"its next attempt: unknown outcome{times}"
     if why == AttentionReason.EXHAUSTED:
-        return "a person: its attempts are used up"
+        return "an operator: its attempts are used up"
     if why == "retry":
         return f"its next attempt: it failed ({number(entry['count'], 'time')})"
     if why == AttentionReason.CANNOT_DECODE:
@@ -118,7 +118,7 @@ def stats(path: str, options: argparse.Namespace) -> int:
         notes.append(f"{unused} with a report that was not used: {command} attention")
     if persons:
         wait = "waits" if persons == 1 else "wait"
-        notes.append(f"{persons} {wait} for a person: {command} pending")
+        notes.append(f"{persons} {wait} for an operator: {command} pending")
     if damaged := needed["damaged"]:
         notes.append(f"{damaged} in damaged shards: {command} attention")
     if notes:
@@ -129,7 +129,7 @@ def stats(path: str, options: argparse.Namespace) -> int:
 def definitions(path: str, options: argparse.Namespace) -> int:
     """Count the sagas of each version of each definition.
 
-    UNDOABLE are those that have completed as children, and that an open saga may undo.
+    UNDOABLE sagas have completed as children, and an open saga may undo them.
     """
     with Snapshot(path) as store:
         counts = store.ask(lists.definitions())
@@ -144,7 +144,7 @@ def definitions(path: str, options: argparse.Namespace) -> int:
 
 
 def stuck(path: str, options: argparse.Namespace) -> int:
-    """List the stuck sagas that nobody has resolved."""
+    """List the unresolved stuck sagas."""
     with Snapshot(path) as store:
         name, listed = store.link.name, store.ask(lists.stuck(lists.ALL))
         undo_failed = store.ask(lists.count(Filter("undo_failed")))
@@ -167,10 +167,11 @@ def stuck(path: str, options: argparse.Namespace) -> int:
 
 
 def attention(path: str, options: argparse.Namespace) -> int:
-    """List what needs a person.
+    """List what needs an operator.
 
-    That is: stuck sagas, failed compensations, reports that were not used, attempts that are used
-    up, unknown outcomes that are not repeated, and stored values that no program could read.
+    These are stuck sagas, failed compensations, unused reports, steps whose attempts are used
+    up, unknown outcomes that are not retried, stored values that no program could read, and
+    sagas of damaged shards.
     """
     with Snapshot(path) as store:
         entries = store.ask(lists.attention(options.limit or lists.ALL))
@@ -205,10 +206,10 @@ def _meant(entry: Attention) -> str:
 
 
 def pending(path: str, options: argparse.Namespace) -> int:
-    """List what waits: for a person, a worker, a time, a child saga or a node.
+    """List what waits for an operator, a worker, a time, a child saga or a node.
 
-    Failed attempts that repeat are not listed. Tasks for workers are if one has claimed them, or
-    none has for a minute.
+    Failed attempts that will be retried are not listed. A task for workers is listed if a
+    worker has claimed it, or none has for a minute.
     """
     with Snapshot(path) as store:
         waits = lists.waits(lists.ALL, person=False, offered_before=time.time() - UNCLAIMED)

@@ -19,7 +19,7 @@ from sagas.storage.batches import Batch, resolve_one
 from sagas.storage.filters import Filter
 
 WAITS = "requested; it takes effect when its program handles it"
-LEFT_OUT = "left out, because it undoes a child"
+LEFT_OUT = "skipped, because it undoes a child"
 
 
 def add_filter_options(part: argparse.ArgumentParser, prefix: str) -> None:
@@ -53,7 +53,7 @@ def filter_of(options: argparse.Namespace) -> Filter:
         if not equals:
             raise Trouble(f"--label {label}: must be NAME=VALUE", 2)
         if labels.setdefault(name, value) != value:
-            raise Trouble(f"--label {label}: a label has one value, and this is a second one", 2)
+            raise Trouble(f"--label {label}: a label can have only one value", 2)
     try:
         return Filter(saga=options.saga or None, labels=labels_module.checked(labels))
     except InvalidLabel as error:
@@ -63,11 +63,9 @@ def filter_of(options: argparse.Namespace) -> Filter:
 def check_keys(options: argparse.Namespace, has_keys: bool) -> None:
     """Raise `Trouble` unless either keys or --all select the sagas."""
     if has_keys == options.all:
-        raise Trouble(
-            "give the keys of the sagas, or --all for every saga of --saga and --label", 2
-        )
+        raise Trouble("pass the keys of sagas, or --all for every saga of --saga and --label", 2)
     if has_keys and (options.label or options.saga):
-        raise Trouble("--saga and --label need --all", 2)
+        raise Trouble("--saga and --label require --all", 2)
 
 
 def abort_all(path: str, options: argparse.Namespace) -> int:
@@ -117,17 +115,17 @@ def show_count(
         print(f"{number(count, noun)}" + (f": {remedy} {pronoun}" if count else ""))
         if left_out:
             undoes = "it undoes a child" if left_out == 1 else "they undo children"
-            print(f"{number(left_out, 'saga')} left out, because {undoes}")
+            print(f"{number(left_out, 'saga')} skipped, because {undoes}")
     return GOOD
 
 
 def resolve(path: str, options: argparse.Namespace) -> int:
-    """Mark sagas as resolved that are stuck, or have a failed compensation or unused report."""
+    """Mark stuck sagas, failed compensations and unused reports as resolved."""
     check_keys(options, bool(options.key))
     if options.key and options.count:
-        raise Trouble("--count needs --all", 2)
+        raise Trouble("--count requires --all", 2)
     if not options.note.strip():
-        raise Trouble("--note must not be empty. Say what was done about it", 2)
+        raise Trouble("--note must not be empty. Describe what was done", 2)
     with admin.writing(path) as link:
         if options.all:
             batch = Batch(link, sagas := filter_of(options))
@@ -162,5 +160,5 @@ def check_same(path: str, keys: list[str], note: str) -> None:
 def why_not(view: SagaView) -> str:
     """Return why a saga cannot be resolved."""
     if view.note is not None:
-        return f"{view.key} is resolved already, and its first note stays"
+        return f"{view.key} is already resolved; its first note is kept"
     return f"{view.key} does not need to be resolved: it is {view.phase}"

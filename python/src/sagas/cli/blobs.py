@@ -18,16 +18,17 @@ SECRET = "SELECT value FROM secrets WHERE name = 'leases'"
 
 def add_blobs_option(part: argparse.ArgumentParser) -> argparse.ArgumentParser:
     """Add the option; return the parser."""
-    help_text = "the values: a directory, or a blob store of a module"
+    help_text = "where the values are: a directory, or a blob store of a module"
     part.add_argument("--blobs", metavar="DIR|MODULE:NAME", required=True, help=help_text)
     return part
 
 
 def own_blobs(path: str, options: argparse.Namespace) -> int:
-    """Make the values in a blob store those of this store.
+    """Make this store the owner of the values in a blob store.
 
-    For a store that was restored or copied, and replaces the other one: stop that one first, or
-    give it a blob store of its own. From then on this store deletes values to which it has no row.
+    Use this for a store that was restored or copied and replaces the original one. First stop
+    the original, or give it another blob store. From then on, this store deletes values that
+    none of its rows refers to.
     """
     try:
         store = blobs_of(options.blobs)
@@ -43,5 +44,5 @@ def own_blobs(path: str, options: argparse.Namespace) -> int:
     if options.json:
         show_json({"store": name, "blobs": options.blobs})
     else:
-        print(f"the values in {options.blobs} are those of {name}")
+        print(f"{name} owns the values in {options.blobs}")
     return GOOD

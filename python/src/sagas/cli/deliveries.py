@@ -28,12 +28,12 @@ def add_deliveries_options(part: argparse.ArgumentParser) -> None:
 
 
 def deliveries(path: str, options: argparse.Namespace) -> int:
-    """List the deliveries of webhooks, or have one posted again.
+    """List the deliveries of webhooks, or post one again.
 
-    A service that has the webhook posts it within seconds, with all its attempts.
+    A service with this webhook posts it within seconds, with all its attempts.
     """
     if (options.change is None) != (options.id is None):
-        raise Trouble("deliveries redeliver: give the id of the delivery", 2)
+        raise Trouble("deliveries redeliver: pass the id of the delivery", 2)
     if options.change:
         with contextlib.closing(admin.connect(path, "rw")) as link:
             if not link.ask(REDELIVER.replace(":id", "?"), options.id):

@@ -49,7 +49,7 @@ def summary_json(summary: Summary) -> Json:
 
 
 def list_sagas(path: str, options: argparse.Namespace) -> int:
-    """List sagas by phase and name, ordered by their starts, the oldest first."""
+    """List sagas by phase and name, the oldest first."""
     with Snapshot(path) as store:
         last = pages.position_of(store.saga(options.after).summary) if options.after else None
         listed = store.ask(
@@ -95,7 +95,7 @@ def list_sagas(path: str, options: argparse.Namespace) -> int:
 def show(path: str, options: argparse.Namespace) -> int:
     """Show the state of a saga, its steps, its last plan and what it waits for.
 
-    A step in state `begun` runs, or waits for its turn: only the program that executes it knows.
+    A step in state `begun` runs or waits. Only the program that executes the saga knows which.
     """
     with Snapshot(path, read_by(options)) as store:
         view = store.saga(options.key)
@@ -185,7 +185,7 @@ def show_steps(view: SagaView) -> None:
 
 
 def log(path: str, options: argparse.Namespace) -> int:
-    """Print the events of a saga, and as `note` what operators did to it."""
+    """Print the events of a saga. Commands of operators are `note` events."""
     with Snapshot(path, read_by(options)) as store:
         events = store.saga(options.key).history
     if options.json:
@@ -218,8 +218,8 @@ def detail_of(event: HistoryEvent) -> str:
 def plan(path: str, options: argparse.Namespace) -> int:
     """Print the last plan of a saga, with the costs of both choices for each step.
 
-    With --json, print its definition, case and answer; with --text, print them as `sagas` reads
-    them to check the plan.
+    With --json, print its definition, case and answer. With --text, print them in the format
+    that `sagas check` reads.
     """
     with Snapshot(path) as store:
         last = store.saga(options.key).plan
@@ -229,9 +229,7 @@ def plan(path: str, options: argparse.Namespace) -> int:
     elif last:
         print(certificate_text(last).rstrip("\n") if options.text else last)
     else:
-        raise Trouble(
-            f"{options.key} has no plan, because nothing has failed and nobody has aborted it"
-        )
+        raise Trouble(f"{options.key} has no plan: no step has failed, and it was not aborted")
     return GOOD
 
 

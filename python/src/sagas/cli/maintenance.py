@@ -12,7 +12,7 @@ from sagas.storage.sqlite import storage
 
 
 def nodes(path: str, options: argparse.Namespace) -> int:
-    """List the nodes of a PostgreSQL store, and what none of them executes."""
+    """List the nodes of a PostgreSQL store, and what no node executes."""
     report = nodes_module.read(path)
     if options.json:
         show_json(report)
@@ -78,7 +78,7 @@ def init(path: str, options: argparse.Namespace) -> int:
 
 
 def migrate(path: str, options: argparse.Namespace) -> int:
-    """Change the tables to the version of this release, as opening the store does."""
+    """Migrate the tables to the version of this release, as opening the store does."""
     print(
         nodes_module.init(path, None)
         if path.startswith(factory.SCHEMES)

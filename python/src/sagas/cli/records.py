@@ -68,13 +68,13 @@ def read(paths: list[str]) -> Records:
         try:
             text = pathlib.Path(path).read_text(encoding="utf-8", errors="replace")
         except OSError as error:
-            raise Trouble(f"{path}: {error.strerror}. Name the file of a record", CANNOT) from error
+            raise Trouble(f"{path}: {error.strerror}. Pass the file of a record", CANNOT) from error
         for number_of_line, line in enumerate(text[: text.rfind("\n") + 1].splitlines(), 1):
             try:
                 records.add(line)
             except BadLine as error:
                 raise Trouble(
-                    f"{path}, line {number_of_line}: {error}. Name a file that a program wrote by "
+                    f"{path}, line {number_of_line}: {error}. Pass a file that a program wrote for "
                     "SAGAS_RECORD",
                     CANNOT,
                 ) from error
@@ -87,7 +87,9 @@ def save(path: pathlib.Path, text: str) -> None:
         path.parent.mkdir(parents=True, exist_ok=True)
         path.write_text(text)
     except OSError as error:
-        raise Trouble(f"{path}: {error.strerror}. Name a folder by --save", CANNOT) from error
+        raise Trouble(
+            f"{path}: {error.strerror}. Pass a writable folder to --save", CANNOT
+        ) from error
 
 
 class RecordChecker:
@@ -161,7 +163,7 @@ def gaps_of(chunks: Sequence[Chunk]) -> list[str]:
     gaps, events = [], 0
     for chunk in chunks:
         if chunk.first != events:
-            before = f"the one before ends at {events}"
+            before = f"the previous one ends at {events}"
             gaps.append(f"a commit follows event {chunk.first}, and {before}")
         events = chunk.end
     return gaps
@@ -180,9 +182,9 @@ def audit_record(text: str) -> tuple[bool, str]:
 
 
 def record(path: str, options: argparse.Namespace) -> int:
-    """Check what nodes and clients recorded, with the commits and takeovers of the database.
+    """Verify records of nodes and clients against commits and takeovers in the database.
 
-    Without files, only commits and takeovers are checked.
+    Without files, only commits and takeovers are verified.
     """
     is_database(path)
     records = read(options.files)  # before the store is read, which has all of it by then
@@ -220,8 +222,8 @@ def lost(shard: ShardCheck) -> list[str]:
         last = max(telling.chunks for telling in loss.told)
         edges = ", ".join(sorted({telling.edge for telling in loss.told}))
         lines.append(
-            f"shard {shard.shard}: lost: a server took over with {loss.had} commits, and what was "
-            f"acknowledged ({edges}) rests on {last}"
+            f"shard {shard.shard}: lost: a server took over with {loss.had} commits, but what was "
+            f"acknowledged ({edges}) depends on {last}"
         )
     if shard.ends_lost:
         ids = ", ".join(map(str, shard.ends_lost[:8]))

@@ -37,7 +37,7 @@ def add_prune_options(part: argparse.ArgumentParser) -> None:
 def prune(path: str, options: argparse.Namespace) -> int:
     """Delete sagas that ended before a cutoff, by whole closed shards.
 
-    Their keys are free again. One run deletes at most 100,000 sagas.
+    Their keys can be used again. One run deletes at most 100,000 sagas.
     """
     try:
         if options.damaged_shard is not None:

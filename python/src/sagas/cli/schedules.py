@@ -35,7 +35,7 @@ def add_schedules_options(part: argparse.ArgumentParser) -> None:
 def schedules(path: str, options: argparse.Namespace) -> int:
     """List the schedules, or pause, resume or remove one."""
     if (options.change is None) != (options.name is None):
-        raise Trouble(f"schedules {options.change}: give the name of the schedule", 2)
+        raise Trouble(f"schedules {options.change}: pass the name of the schedule", 2)
     if options.change:
         done, change = CHANGES[options.change]
         with contextlib.closing(admin.connect(path, "rw")) as link:

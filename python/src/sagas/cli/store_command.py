@@ -90,8 +90,8 @@ def ending(name: str) -> str:
 def parser() -> argparse.ArgumentParser:
     """Return the parser of the command."""
     description = (
-        "Look at the sagas of a store, and change them, also while a program has it "
-        "open. Times are in UTC."
+        "Inspect and change the sagas of a store, even while a program has it open. "
+        "Times are in UTC."
     )
     top = argparse.ArgumentParser(prog="sagas store", description=description)
     top.add_argument("path", metavar="STORE", help="the store's file, or the URL of its database")
@@ -107,7 +107,7 @@ def parser() -> argparse.ArgumentParser:
             formatter_class=argparse.RawDescriptionHelpFormatter,
         )
         part.set_defaults(do=command)
-        part.add_argument("--json", action="store_true", help="print JSON, for programs")
+        part.add_argument("--json", action="store_true", help="print JSON")
         if key:
             part.add_argument("key", metavar="KEY", help="the saga's key")
         return part
@@ -145,7 +145,7 @@ def add_looks(add: Add) -> None:
     add_app_option(add("show", show, key=True))
     add_app_option(add("log", log, key=True))
     add("plan", plan, key=True).add_argument(
-        "--text", action="store_true", help="print it in the form that `sagas` reads to check it"
+        "--text", action="store_true", help="print it in the format that `sagas check` reads"
     )
     part = add("draw", draw, key=True)
     part.add_argument(
@@ -204,12 +204,10 @@ def add_asks(add: Add) -> None:
     add_timeout(part)
     part = add("resolve", resolve)
     part.add_argument("key", metavar="KEY", nargs="*", help="the sagas' keys")
-    part.add_argument(
-        "--all", action="store_true", help="every saga that nobody has resolved, instead of KEYs"
-    )
+    part.add_argument("--all", action="store_true", help="every unresolved saga, instead of KEYs")
     add_filter_options(part, "with --all: ")
     part.add_argument("--count", action="store_true", help="with --all: only count them")
-    part.add_argument("--note", required=True, metavar="TEXT", help="what was done about it")
+    part.add_argument("--note", required=True, metavar="TEXT", help="what was done")
 
 
 def add_steps(part: argparse.ArgumentParser, verb: str) -> None:
@@ -224,7 +222,7 @@ def add_steps(part: argparse.ArgumentParser, verb: str) -> None:
     part.add_argument(
         "--yes", action="store_true", help=f"with --all: {verb} them (default: only count them)"
     )
-    part.add_argument("--undo", action="store_true", help="mean the step's compensation")
+    part.add_argument("--undo", action="store_true", help="apply to the step's compensation")
     add_note(part)
     add_timeout(part)
 
@@ -232,12 +230,15 @@ def add_steps(part: argparse.ArgumentParser, verb: str) -> None:
 def add_files(part: argparse.ArgumentParser) -> None:
     """Add the files of records, and the options of `record`."""
     part.add_argument(
-        "files", nargs="*", metavar="FILE", help="what a node or a client wrote by SAGAS_RECORD"
+        "files",
+        nargs="*",
+        metavar="FILE",
+        help="a file that a node or client wrote for SAGAS_RECORD",
     )
     part.add_argument(
         "--sync",
         action="store_true",
-        help="claim that each server that may take over has each answered commit",
+        help="assume that each standby that may take over has every acknowledged commit",
     )
     part.add_argument(
         "--save", metavar="DIR", help="write the record of each shard into this folder"
@@ -256,7 +257,7 @@ def add_early(part: argparse.ArgumentParser) -> None:
 
 def add_note(part: argparse.ArgumentParser) -> None:
     """Add the option for a note."""
-    part.add_argument("--note", metavar="TEXT", help="why; stored with the time")
+    part.add_argument("--note", metavar="TEXT", help="the reason, stored with the time")
 
 
 def add_timeout(part: argparse.ArgumentParser) -> None:
@@ -304,5 +305,5 @@ def status_of(options: argparse.Namespace) -> int:
         complain(str(error))
         return CANNOT
     except KeyboardInterrupt:
-        complain("interrupted; what was done before is kept")
+        complain("interrupted; changes made before are kept")
         return INTERRUPTED

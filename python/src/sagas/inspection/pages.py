@@ -42,7 +42,7 @@ def check(phase: str | None, after: object, limit: int) -> None:
         raise ValueError(f"phase={phase!r}: must be one of {', '.join(PHASES)}")
     if not (after is None or isinstance(after, Summary) or validation.is_count(after)):
         raise TypeError(
-            f"after={after!r}: must be the last saga of the page before: list(after=page[-1])"
+            f"after={after!r}: must be the last saga of the previous page: list(after=page[-1])"
         )
     arguments.count("limit", limit)
 
@@ -60,8 +60,8 @@ def position(after: Summary | int | None) -> Question[Position]:
     rows = yield Query("SELECT at FROM sagas WHERE id = ?", (id,))
     if not rows:
         raise ValueError(
-            f"after={after!r}: no saga has this id, maybe because it was deleted. Give the last "
-            "saga of the page before instead of its id: list(after=page[-1])"
+            f"after={after!r}: no saga has this id, maybe because it was deleted. Pass the last "
+            "saga of the previous page instead of its id: list(after=page[-1])"
         )
     return rows[0][0], id
 
@@ -143,7 +143,7 @@ def _are_many(of: Filter) -> Question[bool]:
 
 
 def _near(bounds: Bounds, newest: bool, limit: int) -> Question[tuple[Bounds, bool]]:
-    """Return bounds that contain the next `limit` sagas of any filter, and whether these are all."""
+    """Return bounds of the next `limit` sagas of any filter, and whether these are all."""
     conditions, parameters = _within(bounds, "s.at")
     rows = yield Query(
         f"SELECT s.at, s.id FROM sagas s WHERE {' AND '.join(conditions)} "

@@ -79,14 +79,14 @@ def definition(id: int) -> Question[str]:
     """
     rows = yield Query(queries.DEFINITION, (id,))
     if not rows:
-        raise NoSuchSaga(f"the saga {id} is not kept any more")
+        raise NoSuchSaga(f"saga {id} is no longer stored")
     return str(rows[0][0])
 
 
 def _token(id: int) -> Question[str]:
     rows = yield Query("SELECT name FROM shards WHERE shard = ?", (id // SHARD_CAPACITY,))
     if not rows:
-        raise NoSuchSaga(f"the saga {id} is not kept any more")
+        raise NoSuchSaga(f"saga {id} is no longer stored")
     return tokens.saga_token(rows[0][0], id % SHARD_CAPACITY)
 
 

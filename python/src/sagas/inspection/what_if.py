@@ -46,7 +46,7 @@ def of(
     states = {step.name: step.state for step in view.steps}
     if failed is not None and states.get(failed) not in ("waiting", *ENDS):
         state = states.get(failed)
-        raise ValueError(f"it is {state}" if state else "there is no such step")
+        raise ValueError(f"the step is {state}" if state else "the saga has no such step")
     aborted = abort or view.aborted
     assumed = _assumed(view, aborted)
     if failed is not None:
@@ -110,7 +110,7 @@ def describe(forecast: WhatIf) -> str:
         by.setdefault(choice.decision, []).append(choice.step)
     verbs = {"is undone": "undo", "stands": "keep", "is run": "run"}
     parts = [f"{verb} {listed(by[decision])}" for decision, verb in verbs.items() if decision in by]
-    text = ", ".join(parts) or "nothing is to be undone"
+    text = ", ".join(parts) or "nothing has to be undone"
     assumed = [step for step, state in forecast.assumed.items() if state == "committed"]
     more = f" (if {listed(assumed)} succeeds)" if assumed else ""
     return f"{text[0].upper()}{text[1:]}: costs {forecast.plan.cost:,}{more}"

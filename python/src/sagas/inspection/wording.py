@@ -62,11 +62,11 @@ OUTCOMES = {
 WAITS = {
     "approval": "waits for a decision",
     "worker": "waits for a worker",
-    "exhausted": "exhausted: a person decides",
-    "person": "unknown: a person reports it",
-    "unknown": "unknown: called again soon",
+    "exhausted": "exhausted: an operator decides",
+    "person": "unknown: an operator reports it",
+    "unknown": "unknown: will be called again",
     "cannot_decode": "unreadable",
-    "wait": "waits for its time",
+    "wait": "waits for its timer",
 }
 """What an attempt waits for, by `Span.why`."""
 DECISIONS = {"stands": "keep", "is run": "run", "is undone": "undo", "is left out": "skip"}
@@ -78,7 +78,7 @@ ACTS = {
     "complete": "reported that a step succeeded",
     "fail": "reported that a step failed",
     "retry": "retried a step",
-    "compensate": "had a step compensated",
+    "compensate": "compensated a step",
     "resolve": "marked it as resolved",
 }
 

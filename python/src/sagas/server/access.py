@@ -55,26 +55,26 @@ def authenticate(request: Request) -> Principal:
     if principal is None:
         if not service.refusals.take(address(request)):
             raise Problem(
-                "TooManyRequests", "too many requests without a right token from this address"
+                "TooManyRequests", "too many requests without a valid token from this address"
             )
         raise Problem(
-            "Unauthorized", f"{_why_not(service, bearer)}, sent as Authorization: Bearer TOKEN"
+            "Unauthorized", f"{_why_not(service, bearer)}. Send it as Authorization: Bearer TOKEN"
         )
     return principal
 
 
 def _why_not(service: Service, token: str) -> str:
     if not token:
-        return "this needs a token"
+        return "this request requires a token"
     if service.tokens is not None and service.tokens.has_expired(token):
-        return "this token has expired: `sagas token` makes another"
-    return "this token is not in the token file: `sagas token` makes one"
+        return "the token has expired. Create another one with `sagas token`"
+    return "the token is not in the token file. Create one with `sagas token`"
 
 
 def count_request(request: Request, principal: Principal) -> None:
     """Count the request. Raises `Problem` if its client exceeds the rate."""
     if not service_of(request).rates.take(client_key(request, principal)):
-        raise Problem("TooManyRequests", "too many requests; wait a second")
+        raise Problem("TooManyRequests", "too many requests: retry in a second")
 
 
 def client_key(request: Request, principal: Principal) -> str:
@@ -105,9 +105,7 @@ def check_capacity(request: Request, is_operator: bool) -> None:
     """Raise `Problem` if the remaining connections are reserved for health checks and operators."""
     why = request.scope[CROWDING]
     if why and not is_operator and not request.scope["path"].startswith(ANY_TIME):
-        raise Problem(
-            "TooManyConnections", f"{why}: ask again in a while", headers={"Connection": "close"}
-        )
+        raise Problem("TooManyConnections", f"{why}: retry later", headers={"Connection": "close"})
 
 
 def authorize(request: Request, permission: Permission) -> Principal:
@@ -119,10 +117,9 @@ def authorize(request: Request, permission: Permission) -> Principal:
     request.scope[PRINCIPAL_NAME] = principal.name
     if not principal.has_permission(permission):
         roles = " or ".join(role for role, may in ROLES.items() if permission in may)
-        reason = (
-            f"{principal.name} ({', '.join(sorted(principal.roles))}) may not {permission.value}"
-        )
-        raise Problem("Forbidden", f"{reason}: take a token of the role {roles}")
+        owner = f"{principal.name} ({', '.join(sorted(principal.roles))})"
+        reason = f"{owner} is not permitted to {permission.value}"
+        raise Problem("Forbidden", f"{reason}: use a token with the role {roles}")
     has_tokens = service_of(request).tokens is not None
     check_capacity(request, is_operator=has_tokens and principal.has_permission(Permission.OPERATE))
     count_request(request, principal)
@@ -187,7 +184,7 @@ def check_steps(principal: Principal, steps: list[str]) -> None:
     """Raise `Problem` if the token may not claim tasks of some of these steps."""
     forbidden = sorted({step for step in steps if not principal.does(step)})
     if forbidden:
-        listed = ", ".join(forbidden[:10]) + (" .." if forbidden[10:] else "")
+        listed = ", ".join(forbidden[:10]) + (" ..." if forbidden[10:] else "")
         raise Problem("Forbidden", f"{principal.name} has no right to the steps {listed}")
 
 

@@ -47,12 +47,12 @@ KEY = re.compile(r"(?!.*/:)[^*]{0,511}(?:[^*]|\*)")
 class Permission(enum.Enum):
     """What a token can permit. Each route requires one of these."""
 
-    LOOK = "look at sagas"
+    LOOK = "read sagas"
     START = "start and abort sagas"
-    APPROVE = "say how a step ended"
-    WORK = "do tasks"
-    MEASURE = "read the figures"
-    OPERATE = "resolve sagas, and say how any step ended"
+    APPROVE = "report how a step ended"
+    WORK = "execute tasks"
+    MEASURE = "read metrics"
+    OPERATE = "resolve sagas and report any step"
 
 
 ROLES = {

@@ -76,8 +76,8 @@ Exit status:
   0    stopped by SIGTERM or Ctrl-C
   1    a definition is invalid
   2    invalid arguments, the address is in use, or sagas[server] is not installed
-  4    the store, the token file or the file of webhooks cannot be used
-  5    the stop took too long, and was cut short
+  4    the store, the token file or the webhook file cannot be used
+  5    the stop took too long
   130  interrupted while it starts"""
 TOKEN_ENDING = """\
 Example:
@@ -118,7 +118,7 @@ def parser() -> argparse.ArgumentParser:
     result.add_argument(
         "--record",
         metavar="FILE",
-        help="PostgreSQL only: file for what the service hears of its commits and acknowledges, "
+        help="PostgreSQL only: file for a record of commits and acknowledgements, "
         "for `sagas store URL record` (default: $SAGAS_RECORD, or none)",
     )
     result.add_argument(
@@ -287,8 +287,8 @@ def add_limits(result: argparse.ArgumentParser) -> None:
         type=integer_from(0),
         default=Quota().sagas,
         metavar="N",
-        help="maximum number of open sagas that each token started, unless the token file says "
-        "another one (default: 10000)",
+        help="maximum number of open sagas that each token started, unless the token file "
+        "has another value (default: 10000)",
     )
     result.add_argument(
         "--open-bytes",
@@ -398,7 +398,7 @@ def settings_of(parsed: argparse.Namespace) -> Settings:
         raise Trouble(str(error)) from error
     if not factory.is_url(parsed.path):
         if parsed.record:
-            raise Trouble("--record needs a postgresql:// URL: a file has one program, and no node")
+            raise Trouble("--record requires a postgresql:// URL")
         file = pathlib.Path(parsed.path)
         if file.is_dir():
             raise Trouble(f"{file} is a directory; pass the path of a file")
@@ -478,7 +478,7 @@ def serve(options: argparse.Namespace) -> int:
 def overdue() -> None:
     """End the process because its stop takes too long."""
     logging.getLogger("sagas.server").critical(
-        "the stop has taken too long: the process ends without it. What was acknowledged is stored"
+        "the stop has taken too long: the process ends now. Everything acknowledged is stored"
     )
     logging.shutdown()
     os._exit(OVERDUE)
@@ -530,14 +530,14 @@ def token_parser() -> argparse.ArgumentParser:
         "--key",
         action="append",
         metavar="PATTERN",
-        help="of a caller or approver: allow only sagas with this key, or with * at the end with "
-        "keys that begin so, for example 'team-a-*'; repeat it for several (default: all)",
+        help="for callers and approvers: allow only sagas with this key; a * at the end matches "
+        "any rest, for example 'team-a-*'; repeat it for several (default: all)",
     )
     result.add_argument(
         "--step",
         action="append",
         metavar="DEFINITION/STEP",
-        help="of a worker: allow only this step, or its compensation DEFINITION/STEP/undo; repeat "
+        help="for workers: allow only this step, or its compensation DEFINITION/STEP/undo; repeat "
         "it for several (default: all)",
     )
     result.add_argument(

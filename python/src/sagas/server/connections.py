@@ -336,7 +336,7 @@ class Connections:
             return connection.crowding
         limit = self.most - self._kept
         if len(self._at_work) > limit:
-            return f"the service is at work on {limit} requests"
+            return f"the service is processing {limit} requests"
         return None
 
     def occupy(self, address: str) -> Callable[[], None]:
@@ -345,7 +345,7 @@ class Connections:
         Returns a function that ends it. Raises `Problem` if the address has too many.
         """
         if self._addresses[address] >= self._most_each:
-            why = f"your address has {self._most_each} connections: ask again in a while"
+            why = f"your address has {self._most_each} connections: retry later"
             raise Problem("TooManyConnections", why)
         self._addresses[address] += 1
         return functools.partial(self._forget, address)
@@ -379,7 +379,7 @@ class Connections:
             if len(self.all) > self.most + SPARE:
                 other = next(iter(self._owing), None)
                 if other is None:
-                    why = f"{connection.crowding}: ask again later"
+                    why = f"{connection.crowding}: retry later"
                     problem = Problem("TooManyConnections", why)
                     connection.finish(answer("503 Service Unavailable", problem))
         if other is not None:

@@ -83,8 +83,7 @@ def expired_form() -> Problem:
     """Return the problem for a form that does not belong to the session."""
     return Problem(
         "ExpiredForm",
-        "this form is not of your session any more: go back, load the page again, and send it "
-        "once more",
+        "this form does not belong to your session: go back, reload the page, and send it again",
     )
 
 
@@ -167,7 +166,9 @@ async def fields_of(request: Request, most: int) -> list[tuple[str, str]]:
     """
     kind = request.headers.get("content-type", "").partition(";")[0].strip()
     if kind != "application/x-www-form-urlencoded":
-        raise Problem("UnsupportedMediaType", "a form is application/x-www-form-urlencoded")
+        raise Problem(
+            "UnsupportedMediaType", "a form must be sent as application/x-www-form-urlencoded"
+        )
     try:
         text = (await body_of(request)).decode("utf-8")
         return parse_qsl(text, keep_blank_values=True, max_num_fields=most)

@@ -192,7 +192,9 @@ def _built(file: File, service_file: File | None) -> Saga:
         _add(saga, file, service_file, index, step, options_of_steps.get(step["name"], {}))
     for name in options_of_steps:
         if all(step.name != name for step in saga.steps):
-            raise Fault(f"no step is named {name!r}", "step", name, is_in_service_file=True)
+            raise Fault(
+                f"the definition has no step {name!r}", "step", name, is_in_service_file=True
+            )
     saga.check()
     if _plain(document) != _plain(tomllib.loads(saga.toml())):
         raise Fault("this service does not support the definition", "name")

@@ -240,14 +240,14 @@ CALLS = {
 }
 """The calls that apply to an entry that needs an operator."""
 WAITS_FOR = {
-    "stuck": "somebody who sets right by hand what no plan could, and resolves it",
-    "undo_failed": "somebody who undoes the step by hand, and resolves the saga",
-    "unused_report": "somebody who has the step compensated, or resolves the saga",
-    "unknown": "somebody who finds out whether the step had its effect, and reports it",
-    "exhausted": "somebody who has it attempted again, or reports it",
-    "cannot_decode": "a program that can read what is stored, or somebody's report",
-    "damaged": "somebody who repairs or deletes the damaged shard of the saga",
-    "approval": "somebody's decision",
+    "stuck": "an operator who repairs it by hand and resolves it",
+    "undo_failed": "an operator who undoes the step by hand and resolves the saga",
+    "unused_report": "an operator who compensates the step or resolves the saga",
+    "unknown": "an operator who finds out whether the step had its effect and reports it",
+    "exhausted": "an operator who retries it or reports it",
+    "cannot_decode": "a program that can read the stored value, or an operator's report",
+    "damaged": "an operator who repairs or deletes the damaged shard of the saga",
+    "approval": "an approver's decision",
 }
 
 

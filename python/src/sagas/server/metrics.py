@@ -60,12 +60,12 @@ class Metrics:
         self.durations = Durations()
         self._began: OrderedDict[Begun, float] = OrderedDict()
         self.started = self._counter("sagas_started", "Sagas that were started", "saga")
-        self.ended = self._counter("sagas_ended", "Sagas that ended, by how", "saga", "phase")
+        self.ended = self._counter("sagas_ended", "Sagas that ended, by phase", "saga", "phase")
         self.aborted = self._counter("sagas_aborted", "Sagas that were aborted", "saga")
         self.plans = self._counter("sagas_plans", "Plans that were adopted", "saga")
         self.steps = self._counter(
             "sagas_steps",
-            "Outcomes of attempts; after retrying another attempt follows",
+            "Outcomes of attempts; another attempt follows `retrying`",
             "saga",
             "step",
             "action",
@@ -73,7 +73,7 @@ class Metrics:
         )
         seconds = Histogram(
             "sagas_step_seconds",
-            "From a task's begin to its report",
+            "Seconds from the start of an attempt to its report",
             ["saga", "step", "action"],
             buckets=SECONDS,
             registry=self.registry,
@@ -81,7 +81,7 @@ class Metrics:
         self.step_seconds = functools.cache(seconds.labels)
         self.internal_errors = self._counter(
             "sagas_internal_errors",
-            f"What went wrong inside: {', '.join(INTERNAL_ERRORS)}",
+            f"Internal errors: {', '.join(INTERNAL_ERRORS)}",
             "kind",
         )
         self.shards_taken_over = Counter(
@@ -90,11 +90,11 @@ class Metrics:
             registry=self.registry,
         )
         self.requests = self._counter(
-            "sagas_http_requests", "Requests, by what they came to", "method", "status"
+            "sagas_http_requests", "Requests, by method and status", "method", "status"
         )
         request_times = Histogram(
             "sagas_http_request_seconds",
-            "Time that requests took; long waits are counted apart",
+            "Seconds of requests; long waits are counted separately",
             ["waits"],
             registry=self.registry,
         )
@@ -198,10 +198,10 @@ def queues_of(queues: list[Queue], now: float) -> Iterator[Metric]:
     """Yield the metrics of tasks that wait for workers."""
     families: list[tuple[str, str, Callable[[Queue], float]]] = [
         ("sagas_tasks_ready", "Tasks that wait for a worker", lambda queue: queue.ready),
-        ("sagas_tasks_claimed", "Tasks that workers have", lambda queue: queue.claimed),
+        ("sagas_tasks_claimed", "Tasks that workers have claimed", lambda queue: queue.claimed),
         (
             "sagas_tasks_oldest_seconds",
-            "For how long the oldest task has waited for a worker",
+            "Seconds for which the oldest task has waited for a worker",
             lambda queue: now - queue.oldest if queue.oldest else 0.0,
         ),
     ]

@@ -147,8 +147,8 @@ def foreign(fields: dict[bytes, str], host: str) -> str | None:
     if origin is not None and urlsplit(origin).netloc != host:
         return (
             f"the request has the Origin {origin[:MOST_SHOWN]!r} and the Host "
-            f"{host[:MOST_SHOWN]!r}. A proxy has to pass on the Host that the browser sends, with "
-            "its port"
+            f"{host[:MOST_SHOWN]!r}. A proxy must forward the browser's Host header, "
+            "with its port"
         )
     if site in ("cross-site", "same-site"):
         return f"the request has the Sec-Fetch-Site {site!r}"
@@ -197,16 +197,18 @@ class Guard:
             forwarded(scope, self.settings.trusted_proxies)
         path = parted(scope.get("raw_path") or scope["path"].encode())
         if path is None:
-            return Problem("MalformedRequest", "a part of the path is no UTF-8")
+            return Problem("MalformedRequest", "the path is not valid UTF-8")
         scope["path"] = path
         host = fields.get(b"host", "")
         if self.settings.tokens is None and not names_loopback(host):
             return Problem(
-                "UnknownHost", "without a token file only the loopback's own names are answered to"
+                "UnknownHost", "without a token file, the Host must be a name of the loopback"
             )
         if scope["method"] not in ("GET", "HEAD", "OPTIONS"):
             if why := foreign(fields, host):
-                return Problem("CrossOrigin", f"only pages of this service change something: {why}")
+                return Problem(
+                    "CrossOrigin", f"requests from pages of other sites are refused: {why}"
+                )
         length, limit = fields.get(b"content-length"), self.most(scope)
         if length is not None and (not length.isdigit() or len(length) > 12 or int(length) > limit):
             return too_large(limit)
@@ -223,7 +225,7 @@ class Guard:
 
 def too_large(limit: int) -> Problem:
     """Return the problem for a body that exceeds the limit."""
-    return Problem("BodyTooLarge", f"a body has at most {limit} bytes")
+    return Problem("BodyTooLarge", f"the body must have at most {limit} bytes")
 
 
 def has_body(scope: Scope) -> bool:
@@ -290,9 +292,7 @@ class Passage:
         except Problem as problem:
             return problem
         except ValueError:
-            return Problem(
-                "MalformedRequest", "a header of the request cannot be read, or is there twice"
-            )
+            return Problem("MalformedRequest", "a header of the request is malformed or duplicated")
 
     def _occupy(self, client: Any) -> None:
         """Count a forwarded request as one of its own address. Raises `Problem`."""
@@ -311,7 +311,10 @@ class Passage:
             logger.exception("a request failed", extra={"sagas": {"path": self.scope["path"]}})
             if not self.status:
                 await self._refuse(
-                    Problem("InternalError", "this is a fault of the service; its log says more")
+                    Problem(
+                        "InternalError",
+                        "the service has an internal error; its log has the details",
+                    )
                 )
 
     async def receive(self) -> Message:
@@ -338,7 +341,7 @@ class Passage:
             async with asyncio.timeout_at(self._until):
                 return await self._receive()
         except TimeoutError:
-            await self._refuse(Problem("RequestTimeout", "the body did not come in time"))
+            await self._refuse(Problem("RequestTimeout", "the body did not arrive in time"))
             raise Refusal from None
 
     async def send(self, message: Message) -> None:

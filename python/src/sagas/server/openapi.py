@@ -28,7 +28,7 @@ TITLE, VERSION = "sagas", "1"
 TAGS = {
     "sagas": "Start sagas, wait for them, and decide approvals.",
     "workers": "Claim tasks and report them.",
-    "operators": "What needs a person, changes of many sagas, health and metrics.",
+    "operators": "What needs an operator, bulk actions, health and metrics.",
     "definitions": "The definitions that the service has.",
 }
 ALWAYS = (
@@ -200,8 +200,8 @@ def document(operations: Iterable[Operation]) -> dict[str, Any]:
         "info": {
             "title": TITLE,
             "version": VERSION,
-            "summary": "Start sagas, claim tasks, and see what needs a person.",
-            "description": "Times are seconds since 1970, and RFC 3339 in the field beside.",
+            "summary": "Start sagas, claim tasks, and see what needs an operator.",
+            "description": "Each time is in seconds since 1970, and as RFC 3339 text.",
             "license": {"name": "Apache-2.0", "identifier": "Apache-2.0"},
         },
         "jsonSchemaDialect": "https://json-schema.org/draft/2020-12/schema",
@@ -218,7 +218,7 @@ def document(operations: Iterable[Operation]) -> dict[str, Any]:
                 "token": {
                     "type": "http",
                     "scheme": "bearer",
-                    "description": "`sagas token` makes one. Without a token file there is none.",
+                    "description": "`sagas token` creates one.",
                 }
             },
         },

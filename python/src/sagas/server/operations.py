@@ -127,7 +127,7 @@ KEY = Text(most=512, least=1)
 
 def path_not_found() -> Problem:
     """Return the problem for a path that does not exist."""
-    return Problem("NotFound", "there is no such path: /openapi.json lists all")
+    return Problem("NotFound", "the path does not exist; /openapi.json lists all paths")
 
 
 def read_query(fields: Mapping[str, Field], request: Request, is_open: bool) -> dict[str, Any]:
@@ -146,14 +146,14 @@ def read_query(fields: Mapping[str, Field], request: Request, is_open: bool) -> 
             elif name in fields and name not in seen and (text or not is_open):
                 values[name] = fields[name].shape.of_text(text, name)
             elif name in seen:
-                raise Invalid(name, "it is there twice")
+                raise Invalid(name, "must occur only once")
             elif name not in fields and not is_open:
                 shown = name[:MOST_SHOWN]
-                raise Invalid(shown, f"there is no such parameter{meant(shown, [*fields])}")
+                raise Invalid(shown, f"unknown parameter{meant(shown, [*fields])}")
             seen.add(name)
         for name, value in values.items():
             if value is REQUIRED:
-                raise Invalid(name, "it is missing")
+                raise Invalid(name, "is required")
     except Invalid as error:
         raise invalid(error) from None
     return values
@@ -164,10 +164,10 @@ async def read_body(shape: Record, request: Request) -> dict[str, Any]:
     sent = request.headers.get("content-type", "").partition(";")[0].strip().lower()
     is_empty = shape.is_optional and not sent
     if not is_empty and sent != "application/json" and not sent.endswith("+json"):
-        shown = repr(sent[:MOST_SHOWN]) if sent else "without a Content-Type"
+        shown = f"as {sent[:MOST_SHOWN]!r}" if sent else "without a Content-Type"
         raise Problem(
             "UnsupportedMediaType",
-            f"the body was sent as {shown}: send it with Content-Type: application/json",
+            f"the body was sent {shown}: send it with Content-Type: application/json",
             headers={"Accept": "application/json"},
         )
     text = await body_of(request)
@@ -177,12 +177,12 @@ async def read_body(shape: Record, request: Request) -> dict[str, Any]:
     try:
         value = read() if len(text) < LARGE else await service_of(request).threads.answers.do(read)
     except json.JSONDecodeError as error:
-        why = f"the body is not JSON at line {error.lineno}: send an object"
+        why = f"the body is not valid JSON (line {error.lineno}): send an object"
         raise Problem("InvalidJson", why) from None
     except UnicodeDecodeError:
         raise Problem("InvalidJson", "the body is not UTF-8: send an object as JSON") from None
     except ValueError as error:
-        raise Problem("InvalidJson", f"the body is not JSON that can be taken: {error}") from None
+        raise Problem("InvalidJson", f"the body is not accepted as JSON: {error}") from None
     try:
         return shape.read(value, "")
     except Invalid as error:
@@ -238,7 +238,9 @@ class Resource:
         operation = self.operations.get("GET" if method == "HEAD" else method)
         if operation is None:
             raise Problem(
-                "MethodNotAllowed", f"this path has {self.allowed}", headers={"Allow": self.allowed}
+                "MethodNotAllowed",
+                f"this path supports only {self.allowed}",
+                headers={"Allow": self.allowed},
             )
         if operation.permission is None:
             principal = ANONYMOUS

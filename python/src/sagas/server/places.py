@@ -13,7 +13,7 @@ from sagas.server.settings import ConcurrencySettings
 class Kind(enum.Enum):
     """The kinds of requests that are limited."""
 
-    CONNECTION = "connections with a request"
+    CONNECTION = "connections with an active request"
     WAIT = "requests that wait for a saga"
     CLAIM = "claims"
 
@@ -41,7 +41,7 @@ class ConcurrencyLimits:
         """
         if not self.has_room(client_key, kind):
             name = "TooManyConnections" if kind is Kind.CONNECTION else "TooManyWaits"
-            why = f"your token has {self._limits[kind]} {kind.value}: ask again when one has ended"
+            why = f"your token has {self._limits[kind]} {kind.value}: retry when one has ended"
             raise Problem(name, why)
         key = client_key, kind
         self._taken[key] += 1

@@ -31,10 +31,10 @@ PROBLEMS = {
     "Unauthorized": Kind(401, "The token is missing, unknown or expired"),
     "Forbidden": Kind(403, "The token does not allow this"),
     "CrossOrigin": Kind(403, "A page of another site sent the request"),
-    "UnknownHost": Kind(403, "Without a token file only the loopback is answered"),
+    "UnknownHost": Kind(403, "Without a token file, only local requests are accepted"),
     "InvalidLease": Kind(403, "The lease was not issued to this worker for this task"),
     "ExpiredForm": Kind(403, "The form is not of this session"),
-    "NoSession": Kind(403, "There is no session of the dashboard"),
+    "NoSession": Kind(403, "The dashboard has no session"),
     "NotFound": Kind(404, "The path does not exist"),
     "NoSuchSaga": Kind(404, "No saga has this key"),
     "NoSuchTask": Kind(404, "No task has this attempt id"),
@@ -44,32 +44,32 @@ PROBLEMS = {
     "NoPlan": Kind(404, "The saga has no plan"),
     "MethodNotAllowed": Kind(405, "The path does not have this method"),
     "RequestTimeout": Kind(408, "The body did not arrive in time", repeat=True),
-    "KeyConflict": Kind(409, "The key has another saga or input"),
-    "StepNotWaiting": Kind(409, "Nobody has to report this"),
+    "KeyConflict": Kind(409, "The key is already used with another saga or input"),
+    "StepNotWaiting": Kind(409, "The saga or step is not waiting for this"),
     "ConflictingReport": Kind(409, "Another outcome was reported first"),
-    "LeaseLost": Kind(409, "The lease is not the newest"),
+    "LeaseLost": Kind(409, "The task has a newer lease"),
     "NotAbortable": Kind(409, "The saga undoes a child"),
     "SagaOver": Kind(409, "The saga is over"),
-    "CountChanged": Kind(409, "The filter selects another number of sagas"),
+    "CountChanged": Kind(409, "The filter now selects another number of sagas"),
     "BodyTooLarge": Kind(413, "The body exceeds the limit"),
-    "UnsupportedMediaType": Kind(415, "The body has another media type"),
+    "UnsupportedMediaType": Kind(415, "The media type of the body is not supported"),
     "InvalidRequest": Kind(422, "The request does not fit the schema"),
     "InvalidKey": Kind(422, "The key cannot be stored"),
-    "InvalidLabel": Kind(422, "A label is not valid"),
+    "InvalidLabel": Kind(422, "A label is invalid"),
     "InvalidInput": Kind(422, "The input does not fit the first steps"),
     "NotSerializable": Kind(422, "A value cannot be stored as JSON"),
-    "InvalidResult": Kind(422, "The result is not that of a child"),
+    "InvalidResult": Kind(422, "The result is not that of a child saga"),
     "TooLarge": Kind(422, "The saga has too many steps or needs for its input"),
     "TooManyRequests": Kind(429, "Too many requests", repeat=True),
     "QuotaExceeded": Kind(429, "The token has too many open sagas", repeat=True),
-    "InternalError": Kind(500, "The service has a fault", repeat=True),
+    "InternalError": Kind(500, "The service has an internal error", repeat=True),
     "TooManyConnections": Kind(503, "There are too many connections", repeat=True),
     "TooManyWaits": Kind(503, "There are too many requests that wait", repeat=True),
     "TooManyStreams": Kind(503, "There are too many event streams", repeat=True),
-    "Stopping": Kind(503, "The service is about to stop", repeat=True),
+    "Stopping": Kind(503, "The service is stopping", repeat=True),
     "Closed": Kind(503, "The store is closed", repeat=True),
-    "RightsChanged": Kind(503, "The rights of the token changed meanwhile", repeat=True),
-    "OwnerUnavailable": Kind(503, "The node that drives the saga does not answer", repeat=True),
+    "RightsChanged": Kind(503, "The rights of the token have changed", repeat=True),
+    "OwnerUnavailable": Kind(503, "The node that executes the saga does not answer", repeat=True),
     "StoreUnavailable": Kind(503, "The store cannot be read or written", repeat=True),
 }
 """The problems by name. Problems of the package's exceptions have their names."""
@@ -77,11 +77,11 @@ RENAMED = {"DefinitionError": "NoSuchDefinition"}
 REPEAT = sorted({kind.status for kind in PROBLEMS.values() if kind.repeat} | {502, 504})
 """Statuses of requests that are worth repeating. Only proxies send 502 and 504."""
 SILENT = {
-    "StoreUnavailable": "the store cannot be read or written now: send the same request again in a "
-    "while. An operator finds the cause in the service's log",
-    "Closed": "the service is about to stop: send the same request again in a while",
-    "OwnerUnavailable": "the node that executes the saga has not answered yet. What was asked may "
-    "still happen: look at the saga, and send the same request again in a while",
+    "StoreUnavailable": "the store cannot be read or written at the moment. Retry the same request "
+    "later; the service's log has the cause",
+    "Closed": "the service is stopping. Retry the same request later",
+    "OwnerUnavailable": "the node that executes the saga has not answered yet. The request may "
+    "still take effect: read the saga, then retry the same request",
 }
 """Details for errors whose text may name hosts, roles, files or nodes. The text itself is logged.
 """

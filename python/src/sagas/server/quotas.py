@@ -99,7 +99,7 @@ class Quotas:
                 raise Problem(
                     "QuotaExceeded",
                     f"{principal.name} may have {quota.sagas:,} open sagas with "
-                    f"{quota.bytes:,} bytes of input in all: wait until some of them have ended",
+                    f"{quota.bytes:,} bytes of input in all: wait until some have ended",
                 )
         start = PendingStart(principal.name, size)
         self._pending[start] = None

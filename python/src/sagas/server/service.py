@@ -188,7 +188,7 @@ class Service:
     def ready(self) -> str | None:
         """Return None if it accepts requests, else the reason why not."""
         if self.stopping.done():
-            return "it is about to stop"
+            return "the service is stopping"
         if self.unwritten is not None and time.monotonic() < self.unwritten + FAILED_COMMIT:
             return "the store could not be written"
         if not self.store.holds():
@@ -205,8 +205,7 @@ class Service:
                 return await work
         except TimeoutError:
             raise OwnerUnavailable(
-                "the node that has the saga has not answered yet: look at the saga, and ask again "
-                "in a while"
+                "the node that executes the saga has not answered yet. Read the saga, then retry"
             ) from None
 
     # -- looks
@@ -316,7 +315,7 @@ class Service:
                 return declared_steps.approvals(saga, definition)
         raise DefinitionError(
             f"this service does not have the definition {name!r} of version "
-            f"{version_of(definition)}, so it cannot tell which steps are approvals"
+            f"{version_of(definition)}, so it does not know which steps are approvals"
         )
 
     async def start(
@@ -351,8 +350,8 @@ class Service:
             return run
         except TimeoutError:
             raise StoreUnavailable(
-                f"the store has not kept the start of {key!r} in {self.settings.patience:g} s, and "
-                "may still do so. Send the same request again"
+                f"the store has not confirmed the start of {key!r} within "
+                f"{self.settings.patience:g} s, and may still store it. Retry the same request"
             ) from None
         except KeyConflict:
             if principal.definitions is None:
@@ -360,7 +359,9 @@ class Service:
             try:
                 await self.check_sees(principal, key)
             except NoSuchSaga:
-                raise KeyConflict(f"the key {key!r} is another saga's: take another key") from None
+                raise KeyConflict(
+                    f"the key {key!r} belongs to another saga: use another key"
+                ) from None
             raise
         finally:
             if pending:
@@ -391,9 +392,10 @@ class Service:
         ]
         if not matches:
             names = ", ".join(self.names(principal))
+            of_version = "" if version is None else f" of version {version}"
             raise DefinitionError(
-                "there is no definition "
-                f"{name!r}{'' if version is None else f' of version {version}'}, but {names[:400]}"
+                f"the service has no definition {name!r}{of_version}. "
+                f"It has: {names[:400] or 'none'}"
             )
         return max(matches, key=lambda saga: saga.version)
 

@@ -279,13 +279,13 @@ def read_fields(fields: Mapping[str, Field], value: dict[str, Any], path: str) -
     for name in value:
         if name not in fields:
             shown = name[:MOST_SHOWN]
-            raise Invalid(within(path, shown), f"there is no such field{meant(shown, [*fields])}")
+            raise Invalid(within(path, shown), f"unknown field{meant(shown, [*fields])}")
     result: dict[str, Any] = {}
     for name, field in fields.items():
         if name in value:
             result[name] = field.shape.read(value[name], within(path, name))
         elif field.is_required:
-            raise Invalid(within(path, name), "it is missing")
+            raise Invalid(within(path, name), "is required")
         else:
             result[name] = field.default
     return result

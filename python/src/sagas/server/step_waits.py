@@ -6,10 +6,10 @@ from sagas.inspection import wording
 from sagas.inspection.views import SagaView, Waits
 
 REASONS = {
-    "unknown": "its outcome is unknown once more",
-    "exhausted": "it has used up its attempts once more",
+    "unknown": "its outcome is unknown again",
+    "exhausted": "its attempts are used up again",
     "approval": "it waits for a decision now",
-    "cannot_decode": "what is stored for it cannot be read",
+    "cannot_decode": "its stored value cannot be read",
 }
 
 
@@ -39,7 +39,7 @@ def description_of(view: SagaView, step: str, undo: bool, now: float) -> str:
     """Describe what an active attempt waits for."""
     held = _held(view, step, undo)
     if held is None or (held.why in ("unknown", "retry") and held.until is not None):
-        return "it is called again, or is about to be"
+        return "it is being called again, or will be soon"
     if held.why == "external":
         return f"the worker {held.said} claimed it {wording.ago(now - held.since)}"
     return REASONS.get(held.why, "it waits for something else")

@@ -28,7 +28,7 @@ class Streams:
         others = sum(count for (_, shown), count in self._open.items() if not shown)
         total = self._open.total()
         if total >= self.most or (not dashboard and others >= most):
-            return f"there are {most} event streams: ask again in a while"
+            return f"there are {most} event streams: retry later"
         return None
 
     def take(self, client_key: str, dashboard: bool) -> Callable[[], None]:

@@ -10,7 +10,7 @@ from sagas.server.shapes import Field, Text
 
 FIELD = Field(
     Text(most=8192),
-    "the groups whose parts are drawn, by declared names with commas between them; * is each",
+    "comma-separated declared names of the groups whose parts are drawn; *: all groups",
     default=None,
 )
 ANCHOR = "steps"

@@ -97,7 +97,7 @@ async def _status(reader: asyncio.StreamReader) -> int:
         if is_first:
             status = STATUS.match(line)
             if not status:
-                raise InvalidAnswer("its answer is not HTTP" if line else "it gave no answer")
+                raise InvalidAnswer("its answer is not HTTP" if line else "it sent no answer")
             if status[1][0] != ord("1"):
                 return int(status[1])
         is_first = not line.strip()  # the empty line ends the head of an answer in between

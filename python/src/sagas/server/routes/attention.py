@@ -63,26 +63,27 @@ def pages(
     query=filters.SAGAS
     | filters.MORE
     | {
-        "kind": Field(Choice(KINDS), "of this kind", default=None),
-        "step": Field(Text(most=32), "of this step", default=None),
+        "kind": Field(Choice(KINDS), "only entries of this kind", default=None),
+        "step": Field(Text(most=32), "only entries of this step", default=None),
         "order": Field(
-            Choice(("oldest", "newest")), "which are first, of each kind", default="oldest"
+            Choice(("oldest", "newest")), "which entries of each kind come first", default="oldest"
         ),
         "after": Field(
             Text(most=90, pattern=rf"({KIND})\.{filters.POSITION}\.-?[0-9]{{1,4}}"),
-            "`next` of the page before",
+            "`next` of the previous page",
             default=None,
         ),
         "limit": filters.LIMIT,
     },
-    answers={200: Answer("A page.", answers.ATTENTION)},
+    answers={200: Answer("A page of entries.", answers.ATTENTION)},
 )
 async def listed(call: Call) -> Response:
-    """List what needs a person.
+    """List what needs an operator.
 
-    Stuck sagas, compensations that failed permanently, reports that were not used, attempts with an
-    unknown outcome, attempts that are exhausted, stored values that cannot be read, sagas of
-    damaged shards, and approvals: one kind after the other."""
+    These are stuck sagas, permanently failed compensations, unused reports, attempts with an
+    unknown outcome, exhausted attempts, stored values that cannot be read, sagas of damaged
+    shards, and approvals: one kind after the other.
+    """
     query = call.query
     kind, after = parse_cursor(query["after"])
     kinds = [query["kind"]] if query["kind"] else list(KINDS)

@@ -32,14 +32,16 @@ AT_ONCE = 50
 Target = tuple[str, str, bool]
 """A saga's key, a step or "", and whether its compensation is the target."""
 Action = Callable[[Target], Awaitable[Any]]
-SAGAS = Record("SagaFilter", {**filters.SAGAS, **filters.LABELS}, "What is left out selects all.")
+SAGAS = Record(
+    "SagaFilter", {**filters.SAGAS, **filters.LABELS}, "Selects sagas. Omitted fields select all."
+)
 STEPS = Record(
     "AttentionFilter",
     {
         **filters.SAGAS,
         **filters.LABELS,
-        "kind": Field(Choice(tuple(KINDS[3:])), "of attempts that wait"),
-        "step": Field(Text(most=32), "of this step; of one with items: of all its items"),
+        "kind": Field(Choice(tuple(KINDS[3:])), "only attempts of this kind"),
+        "step": Field(Text(most=32), "only this step; for a step with items, all of them"),
         "undo": UNDO,
     },
 )
@@ -48,18 +50,18 @@ RESOLVABLE = Record(
     {
         **filters.SAGAS,
         **filters.LABELS,
-        "kind": Field(Choice(tuple(KINDS[:3])), "what they need a person for"),
+        "kind": Field(Choice(tuple(KINDS[:3])), "only entries of this kind"),
     },
 )
 MODE: Mapping[str, Field] = {
-    "dry_run": Field(Flag(), "count them, and change nothing", default=True),
+    "dry_run": Field(Flag(), "only count, and change nothing", default=True),
     "count": Field(
         Nullable(Number(0, 10**9, whole=True)),
-        "how many the dry run counted; required where it is none",
+        "the count of the dry run; required unless this is one",
         default=None,
     ),
     "limit": Field(
-        Number(1, MOST_TARGETS, whole=True), "how many are changed at most", default=MOST_TARGETS
+        Number(1, MOST_TARGETS, whole=True), "maximum number of changes", default=MOST_TARGETS
     ),
 }
 
@@ -113,12 +115,12 @@ async def count_and_act(
     done, refused = 0, list[Any]()
     if not body["dry_run"]:
         if body["count"] is None:
-            raise Problem("InvalidRequest", "count: give what the dry run counted", "count")
+            raise Problem("InvalidRequest", "count: pass the count of the dry run", "count")
         if body["count"] != total:
             raise Problem(
                 "CountChanged",
-                f"the filter selects {total} now, and not {body['count']}: nothing was changed; "
-                "make another dry run",
+                f"the filter now selects {total} instead of {body['count']}. Nothing was changed; "
+                "repeat the dry run",
                 "count",
             )
         done, refused = await each(call.service, targets[: body["limit"]], action)
@@ -184,7 +186,7 @@ def declare(name: str, body: Record, verb: str, description: str) -> Handler:
     async def handler(call: Call) -> Response:
         selection, sent = call.body["filter"], call.body
         if selection["labels"] is not None and not selection["labels"]:
-            why = "this selects every saga. Leave it out to mean that"
+            why = "an empty object selects every saga. Leave out the field to do so"
             raise Problem("InvalidRequest", f"filter.labels: {why}", "filter.labels")
         options = {"by": call.principal.name, "note": sent["note"]}
         action = action_of(call.service, verb, options, sent.get("result"), sent.get("error"))
@@ -197,7 +199,7 @@ def declare(name: str, body: Record, verb: str, description: str) -> Handler:
         return await count_and_act(call, sagas, entries, action)
 
     handler.__doc__ = description
-    answer = Answer("What the filter selects, and what was done.", answers.BULK)
+    answer = Answer("What the filter selects, and what was changed.", answers.BULK)
     return routes.post(
         f"/{name}",
         f"{name}Many",
@@ -209,15 +211,15 @@ def declare(name: str, body: Record, verb: str, description: str) -> Handler:
 
 
 DRY_RUN_FIRST = (
-    "Count them first: `dry_run` is true by default. Then send the count with `dry_run` false. At "
-    "most 1,000 are changed at once, the oldest first; repeat it while `left` is not 0."
+    "First make a dry run, which is the default. Then send its count with `dry_run` false. One "
+    "request changes at most 1,000, the oldest first. Repeat it while `left` is not 0."
 )
 abort = declare(
     "abort",
     record("AbortMany", SAGAS, {"note": NOTE}),
     "abort",
-    "Abort the open sagas of a filter.\n\nThose that were asked before, and those that undo "
-    f"children, are left out. {DRY_RUN_FIRST}",
+    "Abort the open sagas of a filter.\n\nSagas with an earlier abort request, and sagas "
+    f"that undo children, are excluded. {DRY_RUN_FIRST}",
 )
 resolve = declare(
     "resolve",
@@ -229,7 +231,7 @@ retry = declare(
     "retry",
     record("RetryMany", STEPS, {"note": NOTE}),
     "retry",
-    f"Attempt a step of each saga of a filter again.\n\n{DRY_RUN_FIRST}",
+    f"Retry a step of each saga of a filter.\n\n{DRY_RUN_FIRST}",
 )
 complete = declare(
     "complete",

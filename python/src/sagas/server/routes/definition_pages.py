@@ -64,7 +64,7 @@ async def saga(call: Call) -> Response:
     since = service.hub.now
     counts, _ = await service.figures.of(principal.scope)
     if not versions and name not in counts:
-        values: dict[str, Any] = {"title": "There is no such definition", "back": "/ui/definitions"}
+        values: dict[str, Any] = {"title": "Unknown definition", "back": "/ui/definitions"}
         return show_page(
             request, "fault.html", 404, text=f"No definition is named {name}.", **values
         )
@@ -173,7 +173,7 @@ def drawn(saga: Saga, declared: list[DeclaredStep], rows: list[Row]) -> str:
         tally = row.at
         state = f"{tally.open:,} open" if tally.open else "none open"
         state += f", {tally.waits:,} wait" if tally.waits else ""
-        counts = ((tally.person, "for a person"), (tally.failed, "failed"))
+        counts = ((tally.person, "for an operator"), (tally.failed, "failed"))
         note = row.step.note if row.step else ""
         why = ", ".join([f"{count:,} {label}" for count, label in counts if count] or [note])
         tone = "person" if tally.person else "failed" if tally.failed else ""

@@ -50,7 +50,8 @@ def step_of(declared: DeclaredStep) -> dict[str, Any]:
 async def listed(call: Call) -> Response:
     """List definitions.
 
-    Those that the token may see, with their steps and how many sagas there are."""
+    Returns those that the token may see, with their steps and the number of their sagas.
+    """
     counts, _ = await call.service.figures.of(call.principal.scope)
     no_counts = dict.fromkeys(COUNTED, 0)
     visible = [saga for saga in call.service.settings.sagas if call.principal.sees(saga.name)]

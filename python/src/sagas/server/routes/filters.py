@@ -24,7 +24,7 @@ from sagas.server.shapes import (
 )
 from sagas.storage.filters import Filter
 
-LIMIT = Field(Number(1, 1000, whole=True), "how many at most", default=100)
+LIMIT = Field(Number(1, 1000, whole=True), "maximum number of entries", default=100)
 POSITION = r"-?[0-9]+(\.[0-9]+)?-[0-9]+"
 CURSOR = Text(most=64, pattern=POSITION)
 """A position in the list: when a saga started, and its id, such as 1795934845.949-1048577."""
@@ -40,9 +40,9 @@ class Moment(Shape):
             text = str(value)
             moment = datetime.datetime.fromisoformat(text if text.isascii() else "")
         except ValueError:
-            raise Invalid(field, "it is a time, as 2027-01-31T12:00:00Z") from None
+            raise Invalid(field, "must be a time, for example 2027-01-31T12:00:00Z") from None
         if moment.tzinfo is None:
-            raise Invalid(field, "it has an offset, as 2027-01-31T12:00:00Z")
+            raise Invalid(field, "must have an offset, for example 2027-01-31T12:00:00Z")
         return moment.timestamp()
 
     def of_text(self, text: str, field: str) -> float:
@@ -55,15 +55,19 @@ class Moment(Shape):
 
 
 LABEL = Text(most=400, pattern="[^=]+=.*")
-MORE = {"label": Field(Several(LABEL, most=16), "with this label, as `customer=7`", default=None)}
+MORE = {
+    "label": Field(
+        Several(LABEL, most=16), "only sagas with this label, such as `customer=7`", default=None
+    )
+}
 """Parameters of a query. A body has `labels` as an object."""
-LABELS = {"labels": Field(Mapped(Text()), "with these labels", default=None)}
+LABELS = {"labels": Field(Mapped(Text()), "only sagas with these labels", default=None)}
 SAGAS: dict[str, Field] = {
-    "definition": Field(Text(most=64), "of this definition", default=None),
-    "search": Field(Text(most=512), "whose key contains this", default=None),
-    "started_after": Field(Moment(), "started then or later", default=None),
-    "started_before": Field(Moment(), "started earlier", default=None),
-    "error": Field(Text(most=512), "of which an attempt raised what contains this", default=None),
+    "definition": Field(Text(most=64), "only sagas of this definition", default=None),
+    "search": Field(Text(most=512), "only sagas whose key contains this", default=None),
+    "started_after": Field(Moment(), "only sagas started at this time or later", default=None),
+    "started_before": Field(Moment(), "only sagas started before this time", default=None),
+    "error": Field(Text(most=512), "only sagas with an error that contains this", default=None),
 }
 
 

@@ -228,9 +228,9 @@ def confirmation_page(
 def fault_of(form: dict[str, str]) -> str | None:
     """Return what is wrong with a form, or None."""
     if form["verb"] == "resolve" and not form.get("note", "").strip():
-        return "Say what was done about it."
+        return "Describe what was done."
     if form["verb"] == "failed" and not form.get("failed", "").strip():
-        return "Say why."
+        return "Enter a reason."
     try:
         json_texts.read(form.get("result") or "null")
     except ValueError:

@@ -18,9 +18,9 @@ TITLES = {
 }
 EXPLANATIONS = {
     "stuck": "No plan is feasible. Repair by hand what is needed, then resolve them.",
-    "undo_failed": "A compensation failed permanently, and the effect of its step is still there.",
+    "undo_failed": "A compensation failed permanently, and the effect of its step still exists.",
     "unused_report": "A success was reported before the step began, and its saga ended without it. "
-    "What was done elsewhere is still there.",
+    "Its effect still exists.",
     "unknown": "The outcome of the step is unknown. Check the external system, then report it.",
     "exhausted": "The attempts of the step are used up. Fix the cause, then retry it.",
     "cannot_decode": "No program can read a stored value. Open the store with a program that can.",
@@ -80,13 +80,13 @@ QUESTIONS = {
     "done": Question(
         "Report that {} {are} done?",
         ("It is done", "They are done"),
-        "The sagas continue with it. Report this only of effects that are there: sagas cannot "
+        "The sagas continue with it. Report this only of effects that exist: sagas cannot "
         "check it.",
     ),
     "failed": Question(
         "Report that {} had no effect?",
         ("It had no effect", "They had no effect"),
-        f"{FAILS} Report this only of effects that are not there: no compensation undoes an effect "
+        f"{FAILS} Report this only if there was no effect: no compensation undoes an effect "
         "that you deny.",
     ),
     "abort": Question(
@@ -108,7 +108,7 @@ OF_COMPENSATIONS = {
     "failed": Question(
         "Report that {} had no effect?",
         ("It had no effect", "They had no effect"),
-        "Each compensation fails permanently, and the effect of its step stays until a person "
+        "Each compensation fails permanently, and the effect of its step stays until an operator "
         "repairs it. This cannot be undone.",
     ),
 }

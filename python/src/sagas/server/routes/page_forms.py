@@ -47,13 +47,13 @@ NO_CHILD = (
     "undo, enter null as the key."
 )
 RESOLVE = {
-    "title": "Mark it as resolved?",
+    "title": "Mark this saga as resolved?",
     "verb": "Mark as resolved",
     "note_title": "What was done about it (a note)",
     "note_needed": True,
     "text": (
-        "No step runs because of this. It records that a person repaired what the saga could "
-        "not, and takes the saga off the inbox."
+        "No step runs because of this. It records that an operator repaired what the saga could "
+        "not, and removes the saga from the inbox."
     ),
 }
 COMPENSATE: dict[str, Any] = {
@@ -69,8 +69,8 @@ REMOVE: dict[str, Any] = {
     "verb": "Remove it",
     "danger": True,
     "text": (
-        "It starts no more sagas, and its times are forgotten. Sagas that it started stay. This "
-        "cannot be undone. The service's log has your name and the time."
+        "It starts no more sagas. Sagas that it started remain. This cannot be undone. The "
+        "service's log records your name and the time."
     ),
 }
 
@@ -104,7 +104,7 @@ async def is_approval(call: Call, view: SagaView, step: str, undo: bool) -> bool
 
 def step_question(step: str, outcome: str, undo: bool, approval: bool) -> dict[str, Any]:
     """Return the question before a step's end is reported."""
-    attempt = f"undoing {step}" if undo else step
+    attempt = f"undoing {step}" if undo else f"step {step}"
     if outcome == "retry":
         return {
             "title": f"Retry {attempt}?",
@@ -121,17 +121,17 @@ def step_question(step: str, outcome: str, undo: bool, approval: bool) -> dict[s
             "note_title": "A note",
             "asks_result": not undo,
             "text": (
-                "The saga continues with it. Report this only if its effect is there: sagas cannot "
+                "The saga continues with it. Report this only if its effect exists: sagas cannot "
                 "check it."
             ),
         }
     failed_text = (
         "The step fails permanently, and the saga follows a plan of least cost. Report this "
-        "only if its effect is not there: no compensation undoes an effect that you deny."
+        "only if it had no effect: no compensation undoes an effect that you deny."
     )
     undo_failed_text = (
-        f"The compensation fails permanently, and the effect of {step} stays until a "
-        "person repairs it. This cannot be undone."
+        f"The compensation fails permanently, and the effect of {step} stays until an "
+        "operator repairs it. This cannot be undone."
     )
     return {
         "title": f"Report that {attempt} had no effect?",
@@ -147,14 +147,14 @@ def approval_question(step: str, outcome: str) -> dict[str, Any]:
     """Return the question before an approval is decided."""
     if outcome == "done":
         return {
-            "title": f"Approve {step}?",
+            "title": f"Approve step {step}?",
             "verb": "Approve",
             "note_title": "A note",
             "asks_result": True,
             "text": "The saga continues. Steps that need this one get its result.",
         }
     return {
-        "title": f"Refuse {step}?",
+        "title": f"Refuse step {step}?",
         "verb": "Refuse",
         "danger": True,
         "note_title": "A note",
@@ -213,7 +213,7 @@ async def resolve(call: Call) -> Response:
     session, form = await session_and_form(request)
     note = form.get("note", "").strip()[:2000]
     if not note:
-        return confirmation_page(request, key, RESOLVE, 422, fault="Say what was done about it.")
+        return confirmation_page(request, key, RESOLVE, 422, fault="Describe what was done.")
     try:
         await service_of(request).check_sees(session.principal, key)
         await service_of(request).store.resolve(key, note, by=session.principal.name)
@@ -252,7 +252,7 @@ async def compensate(call: Call) -> Response:
 
 def compensation_question(call: Call) -> dict[str, Any]:
     """Return the confirmation before a step is compensated."""
-    return COMPENSATE | {"title": f"Compensate {call.path['step']}?"}
+    return COMPENSATE | {"title": f"Compensate step {call.path['step']}?"}
 
 
 @routes.get("/ui/sagas/{key}/steps/{step}/{outcome}", parts={"outcome": OUTCOME}, query=UNDO)
@@ -323,7 +323,7 @@ async def report_step(call: Call) -> Response:
     if view is not None and (fault := why_outdated(call, view, form.get("waits", ""))):
         return await ask_again(409, fault=fault)
     if call.path["outcome"] == "failed" and not form.get("failed", "").strip():
-        return await ask_again(422, fault="Say why.")
+        return await ask_again(422, fault="Enter a reason.")
     try:
         result = result_of(form)
     except (ValueError, KeyError):
@@ -344,7 +344,7 @@ def why_outdated(call: Call, view: SagaView, answered: str) -> str | None:
     if step_waits.name_of(view, step, undo) in ("", answered):
         return None
     now = step_waits.description_of(view, step, undo, time.time())
-    return f"The step has gone on since you saw this form: {now}. Check it again."
+    return f"The step has changed since you opened this form: {now}. Check it again."
 
 
 async def report(call: Call, principal: Principal, form: dict[str, str], result: Any) -> None:

@@ -69,7 +69,7 @@ def file(request: Request, name: str) -> Response:
     """Return a static file."""
     static_file = renderer.STATIC.get(name)
     if static_file is None:
-        raise Problem("NotFound", "there is no such file")
+        raise Problem("NotFound", "the file does not exist")
     kind, data, tag = static_file
     headers = {
         "etag": tag,
@@ -99,9 +99,9 @@ async def login(call: Call) -> Response:
     wanted = form.get("next", "/ui")
     if principal is None or not principal.has_permission(Permission.OPERATE):
         fault = (
-            "This is no operator's token."
+            "This token does not have the role operator."
             if service.refusals.take(address(request))
-            else "Too many wrong tokens from this address; wait a while."
+            else "Too many invalid tokens from this address. Try again later."
         )
         return page(request, "login.html", None, 403, next=wanted, fault=fault)
     response = RedirectResponse(wanted if service.is_page(wanted) else "/ui", 303)
@@ -206,7 +206,7 @@ def filter_of(parameters: dict[str, Any], principal: Principal) -> Filter:
     """Return the filter of the list. Raises `ValueError`, `InvalidLabel`."""
     label = (parameters["label"] or "").partition("=")
     if parameters["label"] and not label[1]:
-        raise ValueError("a label is NAME=VALUE, as customer=7")
+        raise ValueError("a label must be NAME=VALUE, for example customer=7")
     days: list[float | None] = []
     for name, more in (("since", 0), ("until", 1)):
         day = parameters[name] and datetime.datetime.fromisoformat(

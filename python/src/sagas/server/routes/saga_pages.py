@@ -46,7 +46,7 @@ async def saga(call: Call) -> Response:
         view = await service.saga(key, is_page=True)
         view = view and families.seen_by(view, viewer_of(request).scope)
     if view is None:
-        values: dict[str, Any] = {"title": "There is no such saga", "back": "/ui/sagas"}
+        values: dict[str, Any] = {"title": "Unknown saga", "back": "/ui/sagas"}
         return show_page(request, "fault.html", 404, text=f"No saga has the key {key}.", **values)
     work = functools.partial(
         template_values, view, service.approvals, time.time(), call.query["unfold"]

@@ -57,12 +57,13 @@ async def change(service: Service, principal: Principal, name: str, verb: str) -
     "",
     "listSchedules",
     permission=Permission.LOOK,
-    answers={200: Answer("By name.", answers.SCHEDULES)},
+    answers={200: Answer("The schedules, by name.", answers.SCHEDULES)},
 )
 async def listed(call: Call) -> Response:
     """List schedules.
 
-    Of the definitions that the token may see, with their last and next times."""
+    Returns those of the definitions that the token may see, with their last and next times.
+    """
     visible = await seen(call.service, call.principal)
     return Json({"schedules": [json_views.schedule(schedule) for schedule in visible]})
 
@@ -83,11 +84,11 @@ def declare(verb: str, description: str) -> Handler:
         f"{verb}Schedule",
         permission=Permission.OPERATE,
         parts={"name": NAME},
-        answers={200: Answer("It is done.", answers.SCHEDULE_CHANGED)},
+        answers={200: Answer("The schedule is changed.", answers.SCHEDULE_CHANGED)},
         problems=("NoSuchSchedule",),
     )(handler)
 
 
 pause = declare("pause", "Pause a schedule.\n\nIt starts no more sagas until it is resumed.")
 resume = declare("resume", "Resume a schedule.\n\nIt continues with its next time.")
-remove = declare("remove", "Remove a schedule.\n\nSagas that have started stay.")
+remove = declare("remove", "Remove a schedule.\n\nSagas that it started remain.")

@@ -44,8 +44,7 @@ async def start(call: Call) -> Response:
         return form_page(
             request,
             form,
-            "Give it a key of at most 512 characters: its name as long as it is kept, an order's "
-            "number say.",
+            "Enter a key of 1 to 512 characters, for example an order number.",
             422,
         )
     try:

@@ -46,7 +46,7 @@ def parse_steps(steps: list[str], path: str = "steps") -> list[Word]:
             location = f"{path}.{number}"
             raise Problem(
                 "InvalidRequest",
-                f"{location}: {step[:80]!r}: a step is saga/step, or saga/step/undo",
+                f"{location}: {step[:80]!r} must be DEFINITION/STEP or DEFINITION/STEP/undo",
                 location,
             )
         words.append(parsed)

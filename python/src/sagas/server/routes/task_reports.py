@@ -22,18 +22,25 @@ MOST_REPORTS = 100
 REPORT = Record(
     "TaskReport",
     {
-        "attempt_id": Field(Text(most=130), "as the task has it"),
+        "attempt_id": Field(Text(most=130), "the attempt id of the task"),
         **LEASE,
-        "outcome": Field(Choice(("complete", "fail", "unknown")), "as the request for one task"),
-        "result": Field(Anything(), "of `complete`: what the step gives", default=None),
-        "error": Field(Nullable(Text(most=4000)), "of `fail` and `unknown`: why", default=None),
-        "final": Field(Flag(), "of `fail`: no further attempt will help", default=False),
+        "outcome": Field(
+            Choice(("complete", "fail", "unknown")), "the same as the requests for one task"
+        ),
+        "result": Field(Anything(), "for `complete`: the result of the step", default=None),
+        "error": Field(
+            Nullable(Text(most=4000)), "for `fail` and `unknown`: the reason", default=None
+        ),
+        "final": Field(Flag(), "for `fail`: no further attempt will help", default=False),
     },
 )
 REPORTS = Record(
     "TaskReports",
     {
-        "reports": Field(Several(REPORT, least=1, most=MOST_REPORTS), "each as if sent alone"),
+        "reports": Field(
+            Several(REPORT, least=1, most=MOST_REPORTS),
+            "the reports; each counts as if it was sent alone",
+        ),
         **MORE,
     },
     example={
@@ -53,7 +60,7 @@ def outcome_of(report: dict[str, Any], index: int) -> dict[str, Any]:
         return {"unknown": error or "the worker does not know"}
     if error is None:
         location = f"reports.{index}.error"
-        raise Problem("InvalidRequest", f"{location}: it is missing", location)
+        raise Problem("InvalidRequest", f"{location}: is required", location)
     return {"error": error, "final": report["final"]}
 
 
@@ -77,13 +84,14 @@ async def _kept(
     "reportTasks",
     permission=Permission.WORK,
     body=REPORTS,
-    answers={200: Answer("Each has its own answer.", answers.REPORTED_TASKS)},
+    answers={200: Answer("The results of the reports, in their order.", answers.REPORTED_TASKS)},
 )
 async def report(call: Call) -> Response:
     """Report several tasks.
 
-    Each report counts as if it was sent alone, and has its own problem if it is not stored. Repeat
-    those whose problem has a status that is worth repeating."""
+    Each report counts as if it was sent alone, and has its own problem if it is not stored.
+    Repeat the reports whose problem has a repeatable status.
+    """
     body, more = call.body, call.body["next"]
     outcomes = [outcome_of(entry, index) for index, entry in enumerate(body["reports"])]
     check_next(call, more)

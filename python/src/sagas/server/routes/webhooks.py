@@ -21,7 +21,7 @@ from sagas.storage.deliveries import DeliveryState
 
 logger = logging.getLogger("sagas.server")
 routes = Routes("operators", "/v1")
-REDELIVER = Record("RedeliverRequest", {}, "Nothing is to be said.")
+REDELIVER = Record("RedeliverRequest", {}, "An empty object.")
 
 
 def delivery_json(delivery: Delivery) -> dict[str, Any]:
@@ -43,7 +43,7 @@ def delivery_json(delivery: Delivery) -> dict[str, Any]:
 def check_all(principal: Principal) -> None:
     """Raise `Problem` if the principal is restricted to some definitions."""
     if principal.definitions is not None:
-        raise Problem("Forbidden", f"{principal.name} is kept to some definitions")
+        raise Problem("Forbidden", f"{principal.name} is restricted to some definitions")
 
 
 async def again(service: Service, principal: Principal, id: str) -> Delivery:
@@ -63,16 +63,21 @@ async def again(service: Service, principal: Principal, id: str) -> Delivery:
     "listDeliveries",
     permission=Permission.OPERATE,
     query={
-        "state": Field(Choice(tuple(state.value for state in DeliveryState)), "", default=None),
-        "webhook": Field(Text(most=64), "to this webhook", default=None),
+        "state": Field(
+            Choice(tuple(state.value for state in DeliveryState)),
+            "only deliveries in this state",
+            default=None,
+        ),
+        "webhook": Field(Text(most=64), "only deliveries to this webhook", default=None),
         "limit": LIMIT,
     },
-    answers={200: Answer("The latest, the newest first.", answers.DELIVERIES)},
+    answers={200: Answer("The latest deliveries, newest first.", answers.DELIVERIES)},
 )
 async def listed(call: Call) -> Response:
     """List deliveries of webhooks.
 
-    Those of the store: of all services that share it."""
+    Returns deliveries of all services that share the store.
+    """
     check_all(call.principal)
     query = call.query
     listed_deliveries = await call.service.look(
@@ -86,11 +91,12 @@ async def listed(call: Call) -> Response:
     "redeliver",
     permission=Permission.OPERATE,
     body=REDELIVER,
-    answers={200: Answer("It is pending again.", answers.DELIVERY)},
+    answers={200: Answer("The delivery is pending again.", answers.DELIVERY)},
     problems=("NoSuchDelivery",),
 )
 async def redeliver(call: Call) -> Response:
     """Post a delivery again.
 
-    Under its id, with all its attempts, also where it was delivered or given up."""
+    It keeps its id and gets all its attempts again, even if it was delivered or given up.
+    """
     return Json(delivery_json(await again(call.service, call.principal, call.path["id"])))
