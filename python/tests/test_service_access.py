@@ -167,7 +167,7 @@ def test_roles(guarded: Guarded) -> None:
                     assert (found, name) == (
                         403,
                         "Forbidden",
-                    )  # a compensation is no approval: see below
+                    )  # a compensation is not an approval: see below
                 elif role in (*good.split(), "operator"):
                     assert found == status and name != "Forbidden", (
                         role,
@@ -302,7 +302,7 @@ def test_who_may_approve(guarded: Guarded) -> None:
             assert (answer.status_code, error_of(answer)) == (
                 403,
                 "Forbidden",
-            ) and "is no approval" in answer.json()["detail"]
+            ) and "is not an approval" in answer.json()["detail"]
         assert (
             approver.post("/v1/sagas/nobody/steps/review/complete", json={"result": 1}).status_code
             == 404
@@ -347,7 +347,7 @@ def test_an_approval_before_it_begins(guarded: Guarded) -> None:
             assert "its success is reported" in told and "Approve sign before" not in told
             assert "Approve seal before it begins" in told
             form = "/ui/sagas/ahead/steps/seal/failed"
-            assert "Refuse seal?" in page.get(form).text
+            assert "Refuse step seal?" in page.get(form).text
             sent = {"csrf": csrf_of(page, form), "failed": "too dear"}
             assert page.post(form, data=sent).status_code == 303
             assert "its failure is reported" in page.get("/ui/sagas/ahead").text

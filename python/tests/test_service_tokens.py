@@ -120,7 +120,7 @@ def test_a_caller_starts_its_definitions(world: World) -> None:
         )
     assert (
         told(client.post("/v1/sagas", json={"definition": "trip", "key": "x", "version": 7}))[2]
-        == "there is no definition 'trip' of version 7, but few, trip"
+        == "the service has no definition 'trip' of version 7. It has: few, trip"
     )
     status, name, text = told(start(client, "trip", "a-order", {"secret": "of order"}))
     assert (status, name, text) == (
@@ -449,7 +449,7 @@ def test_the_dashboard_starts_its_definitions(world: World) -> None:
     other = {"csrf": csrf, "definition": "trip", "key": "by-page"}
     assert page.post("/ui/start", data=other).status_code == 403
     taken = page.post("/ui/start", data={"csrf": csrf, "definition": "order", "key": "a-trip"})
-    assert taken.status_code == 409 and "is another saga&#39;s" in taken.text
+    assert taken.status_code == 409 and "belongs to another saga" in taken.text
     assert "secret" not in taken.text
     form = "/ui/sagas/a-order/steps/review/failed"
     sent = dict(re.findall(r'name="(csrf|waits)" value="([^"]+)"', page.get(form).text))
@@ -472,8 +472,8 @@ def test_a_token_that_expires(tmp_path: pathlib.Path) -> None:
             assert told(client.get("/v1/sagas")) == (
                 401,
                 "Unauthorized",
-                "the token has expired. Create another one with `sagas token`, "
-                "sent as Authorization: Bearer TOKEN",
+                "the token has expired. Create another one with `sagas token`. "
+                "Send it as Authorization: Bearer TOKEN",
             )
             assert page.post("/ui/login", data={"token": old}).status_code == 403
             assert good.get("/v1/sagas").status_code == 200

@@ -288,7 +288,7 @@ async def is_list(asked: Callable[[], Any], wanted: list[str]) -> bool:
 
 
 class Hand:
-    """A parent whose child step waits for a person, since its child fails. Of that, `gone` is undone by then, and `first` stays."""
+    """A parent whose child step waits for an operator, since its child fails. Of that, `gone` is undone by then, and `first` stays."""
 
     def __init__(self) -> None:
         self.undone = list[str]()

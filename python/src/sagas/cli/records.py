@@ -222,8 +222,8 @@ def lost(shard: ShardCheck) -> list[str]:
         last = max(telling.chunks for telling in loss.told)
         edges = ", ".join(sorted({telling.edge for telling in loss.told}))
         lines.append(
-            f"shard {shard.shard}: lost: a server took over with {loss.had} commits, but what was "
-            f"acknowledged ({edges}) depends on {last}"
+            f"shard {shard.shard}: lost: a server took over with {loss.had} commits, but "
+            f"acknowledged results ({edges}) need {last}"
         )
     if shard.ends_lost:
         ids = ", ".join(map(str, shard.ends_lost[:8]))

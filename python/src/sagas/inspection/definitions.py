@@ -1,4 +1,4 @@
-"""Questions about the sagas of one definition: states of their steps, and costs of recoveries."""
+"""Questions about the sagas of one definition: their steps and their costs."""
 
 from __future__ import annotations
 

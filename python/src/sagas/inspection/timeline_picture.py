@@ -1,4 +1,4 @@
-"""The timeline of a saga as SVG: when attempts were queued, ran, waited and backed off."""
+"""The timeline of a saga as SVG: the states of its attempts."""
 
 from __future__ import annotations
 
