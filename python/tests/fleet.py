@@ -12,7 +12,7 @@ import fleet_model
 
 from sagas.base import program
 from sagas.cli import records
-from sagas.cli.records import Judged
+from sagas.cli.records import ShardCheck
 from sagas.cli.snapshot import Snapshot
 
 
@@ -29,7 +29,7 @@ def by_both(text: str) -> tuple[bool, str]:
     """What the model says of a record; the program says the same."""
     fault = fleet_model.judge(text)
     if has_program():
-        good, answer = records.judged(text)
+        good, answer = records.audit_record(text)
         begins = "yes sessions " if fault is None else f"no line {fault[0]} "
         assert good == (fault is None) and answer.startswith(
             begins
@@ -44,16 +44,16 @@ def by_both(text: str) -> tuple[bool, str]:
 
 def shards_of(
     url: str, files: Sequence[pathlib.Path], sync: bool, folder: str | None = None
-) -> list[Judged]:
+) -> list[ShardCheck]:
     """The shards of a store with their records."""
     notes = records.read([str(file) for file in files if file.exists()])
     with Snapshot(url) as store:
-        return records.Judge(store, notes, sync, folder, by_both).all()
+        return records.RecordChecker(store, notes, sync, folder, by_both).all()
 
 
 def judged(
     url: str, files: Sequence[pathlib.Path] = (), *, sync: bool = False
-) -> tuple[list[Judged], list[str]]:
+) -> tuple[list[ShardCheck], list[str]]:
     """The shards; and what is not allowed in the record of each, or is lost."""
     found, faults = shards_of(url, files, sync), list[str]()
     for one in found:

@@ -98,7 +98,7 @@ def test_what_needs_a_person(
             looks = StoreReader(store.reader())
             try:
                 assert told(looks.ask(lists.attention())) == WANTED
-                assert looks.ask(lists.asked()) == {
+                assert looks.ask(lists.attention_counts()) == {
                     "stuck": 1,
                     "undo_failed": 1,
                     "unused_report": 0,

@@ -14,7 +14,7 @@ from cases import HOUR, Task, run, until
 
 import sagas
 from sagas.cli import store_command
-from sagas.inspection.activity import known
+from sagas.inspection.activity import with_active_attempts
 from sagas.core.history import Stretch
 from sagas.inspection import lists
 from sagas.inspection import saga as one_saga
@@ -70,7 +70,7 @@ def test_what_waited_for_its_time_is_called(place: str) -> None:
                 await until(lambda: [one.waits for one in store.active_attempts("k")] == [""])
                 view = looks.ask(one_saga.view("k"))
                 assert view and view.held == [] and looks.ask(lists.waits(person=False)) == []
-                told = known(view, store.active_attempts("k"), store.now())
+                told = with_active_attempts(view, store.active_attempts("k"), store.now())
                 assert told.running == {("then", False)} and told.held == []
 
     run(main())
@@ -90,7 +90,7 @@ def test_the_store_and_its_program_together() -> None:
         view = SagaView(
             summary, False, None, None, {}, [], None, rows, [], [], [stretch], [], [], "", "x-1"
         )
-        found = known(view, begun, 100.0)
+        found = with_active_attempts(view, begun, 100.0)
         return [(one.why, one.said) for one in found.held], ("a", False) in found.running
 
     def begun(waits: str, attempt: int = 1) -> sagas.ActiveAttempt:

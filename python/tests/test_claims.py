@@ -18,10 +18,10 @@ from serving import served, start, take
 import sagas
 from sagas.base.errors import Closed, StoreUnavailable
 from sagas.server.middleware import FOLLOWED, GONE, SERVICE
-from sagas.server.places import Places
+from sagas.server.places import ConcurrencyLimits
 from sagas.server.problems import Problem
 from sagas.server.routes import task_claims
-from sagas.server.settings import PlaceSettings
+from sagas.server.settings import ConcurrencySettings
 from sagas.server.waiting_claims import WaitingClaims
 from sagas.storage.lots import Batcher
 
@@ -318,7 +318,7 @@ class Claims:
         self.store = types.SimpleNamespace(workers=self, now=lambda: 0.0)
         self.claims = WaitingClaims()
         self.tokens, self.stopping = None, asyncio.get_running_loop().create_future()
-        self.places = Places(PlaceSettings())
+        self.places = ConcurrencyLimits(ConcurrencySettings())
         self.gone: asyncio.Future[None] = asyncio.get_running_loop().create_future()
 
     def saw(self, *_: object) -> None:

@@ -92,7 +92,7 @@ def shop() -> sagas.Saga:
 
 
 def signed() -> sagas.Saga:
-    """A saga that waits for a person."""
+    """A saga that waits for an operator."""
     signed = sagas.Saga("signed")
 
     @signed.step
@@ -111,7 +111,7 @@ def signed() -> sagas.Saga:
 
 
 def held(path: str) -> list[tuple[Any, ...]]:
-    """What the store holds for a person: keys and why."""
+    """What the store holds for an operator: keys and why."""
     with contextlib.closing(admin.connect(path)) as link:
         return link.ask(
             "SELECT key, reason FROM suspensions JOIN sagas USING (id) WHERE reason = 'approval' OR reason = 'unknown' AND until IS NULL"
@@ -245,7 +245,7 @@ def test_log_and_plan(shell: Shell) -> None:
 
 
 def test_counts_stuck_and_waiting(shell: Shell) -> None:
-    """How many there are, which are stuck and why, and what waits for a person."""
+    """How many there are, which are stuck and why, and what waits for an operator."""
     assert shell.json("stats") == {
         "sagas": {
             "shop": {"open": 1, "completed": 1, "recovered": 0, "stuck": 1, "resolved": 0},
@@ -256,7 +256,7 @@ def test_counts_stuck_and_waiting(shell: Shell) -> None:
         "unused_report": 0,
         "damaged": 0,
     }
-    assert "3 wait for a person" in shell("stats")
+    assert "3 wait for an operator" in shell("stats")
     assert [(one["key"], one["blocking_steps"]) for one in shell.json("stuck")] == [
         ("bad", ["charge"])
     ]
@@ -265,7 +265,7 @@ def test_counts_stuck_and_waiting(shell: Shell) -> None:
         ("letter-1", "sign", "approval"),
         ("letter-2", "sign", "approval"),
     }
-    assert "a person: unknown outcome (2 times)" in shell("pending")
+    assert "an operator: unknown outcome (2 times)" in shell("pending")
     assert [one["count"] for one in shell.json("pending") if one["key"] == "odd"] == [2]
 
 
@@ -759,8 +759,8 @@ def test_finish_says_what_is_wrong(place: str, capsys: pytest.CaptureFixture[str
     )  # also while no program runs
     assert "not JSON" in finish("letter-1", "sign", "--result", "yes", status=2)
     store_command.main([path, "complete", "letter-1", "sign", "--result", "yes"])
-    assert """Write a text as '"yes"'""" in capsys.readouterr().err
-    for command, told in ("complete", "waits for an approval"), (
+    assert """Quote a string: '"yes"'""" in capsys.readouterr().err
+    for command, told in ("complete", "to approve it"), (
         "retry",
         "\n  1    no saga or step has the name, or",
     ):
@@ -879,7 +879,7 @@ FORGED = {
     "INSERT INTO attempts SELECT id, 1, 'undo', 1, 'undone', NULL, 0 FROM sagas WHERE key = 'good'": [
         "good: charge, undo 1: the row says undone, the events nothing"
     ],
-    "DELETE FROM sagas WHERE key = 'letter-1'": ["saga 3: events, and no row"],
+    "DELETE FROM sagas WHERE key = 'letter-1'": ["saga 3: has events but no row"],
     "INSERT INTO attempts SELECT id, 1, 'undo', 1, 'ok', NULL, 0 FROM sagas WHERE key = 'good'": [
         "good: charge, undo 1: the row says ok, the events nothing"
     ],
@@ -914,9 +914,9 @@ def test_an_audit_of_what_is_being_written(place: str) -> None:
     """Rows and events are of one moment, at each of them."""
     kind = shop()
 
-    def differences() -> list[audits.Judged]:
+    def differences() -> list[audits.ShardAudit]:
         with Snapshot(place) as store:
-            judged = [audits.judge(store, log) for log, _, _ in store.rows(audits.SHARDS)]
+            judged = [audits.audit_shard(store, log) for log, _, _ in store.rows(audits.SHARDS)]
         return [one for one in judged if not one.is_good]
 
     async def main() -> None:

@@ -99,7 +99,7 @@ def killed(place: str, kind: sagas.Saga, keys: list[str]) -> None:
 
 
 async def asked(store: sagas.Store) -> list[sagas.Attention]:
-    """What waits for a person."""
+    """What waits for an operator."""
     return [one for one in await store.attention() if one.why is ASKS]
 
 
@@ -389,7 +389,7 @@ def test_the_command(tmp_path: pathlib.Path, capsys: pytest.CaptureFixture[str])
                 return len(await asked(store)) == 2
 
             await until(are_asked)
-            assert "attempts used up" in said("attention") and "a person: its" in said("pending")
+            assert "attempts used up" in said("attention") and "an operator: its" in said("pending")
             assert '"exhausted"' in said("pending", "--json")
             notes.broken.unlink()
             done = await asyncio.to_thread(said, "retry", "a", "a")

@@ -9,7 +9,7 @@ import time
 from hypothesis import given
 from hypothesis import strategies as st
 
-from sagas.server.fair_queue import LONG, MAKER, MAX_REST, REST, ComputingTime, FairQueue
+from sagas.server.fair_queue import LONG, CURRENT_CLIENT, MAX_REST, REST, ComputingTime, FairQueue
 from sagas.server.threads import Pool
 
 
@@ -103,10 +103,10 @@ def test_a_pool_goes_on_after_a_rest() -> None:
             end = time.thread_time() + 2 * LONG
             while time.thread_time() < end:
                 pass
-            return MAKER.get()
+            return CURRENT_CLIENT.get()
 
         def ask(maker: str) -> asyncio.Task[str]:
-            MAKER.set(maker)
+            CURRENT_CLIENT.set(maker)
             return asyncio.ensure_future(pool.do(compute))
 
         await asyncio.gather(*(ask(maker) for maker in ("evil", "other") * 5))
@@ -163,7 +163,7 @@ def test_a_pool() -> None:
             return name
 
         def ask(maker: str, name: str) -> asyncio.Task[str]:
-            MAKER.set(maker)
+            CURRENT_CLIENT.set(maker)
             return asyncio.ensure_future(pool.do(lambda: work(name)))
 
         evil = [ask("evil", f"e{number}") for number in range(30)]

@@ -125,7 +125,7 @@ def test_a_database_that_differs(
     [
         (
             "DELETE FROM event_log WHERE first_seq = 0",
-            "a commit follows event .*, and the one before ends at 0",
+            "a commit follows event .*, and the previous one ends at 0",
         ),
         (
             "DELETE FROM event_log WHERE first_seq = (SELECT min(first_seq) FROM event_log WHERE first_seq > 0)",
@@ -253,7 +253,7 @@ def test_records_that_cannot_be(
 @pytest.mark.parametrize(
     ("text", "told"),
     [
-        (None, "No such file or directory. Name the file of a record"),
+        (None, "No such file or directory. Pass the file of a record"),
         ("sagas-record 1 a\nwhat\n", "line 2: it is no event. Name a file that a program wrote"),
         ("sagas-record 2 a\n", "line 1: its format is not 1"),
     ],
@@ -298,7 +298,7 @@ def test_a_folder_that_cannot_be_written(
     store: str, tmp_path: pathlib.Path, capsys: pytest.CaptureFixture[str]
 ) -> None:
     assert store_command.main([store, "record", "--save", str(tmp_path / "node" / "below")]) == 4
-    assert "Not a directory. Name a folder by --save" in capsys.readouterr().err
+    assert "Not a directory. Pass a writable folder to --save" in capsys.readouterr().err
 
 
 def test_a_node_that_takes_up_what_another_left(url: str, tmp_path: pathlib.Path) -> None:

@@ -10,12 +10,12 @@ from hypothesis import strategies as st
 
 from sagas.inspection import picture, timeline_picture
 from sagas.inspection.folding import FEW, folded
-from sagas.inspection.picture import Told
+from sagas.inspection.picture import StepDisplay
 from sagas.inspection.timeline import AttemptTimes, Span
 from sagas.server import table_rows
 
-PLAIN = Told("to do", "", False, "waiting", "waiting")
-FAILED = Told("failed", "", False, "failed", "failed")
+PLAIN = StepDisplay("to do", "", False, "waiting", "waiting")
+FAILED = StepDisplay("failed", "", False, "failed", "failed")
 
 
 def test_equal_steps_are_one_box() -> None:
@@ -55,9 +55,9 @@ def test_a_thousand_steps_are_drawn() -> None:
     wide.append(("last", [name for name, _ in wide[1:]]))
     chains = [(f"s{number}", [f"s{number - 8}"] if number >= 8 else []) for number in range(1024)]
     for steps in (wide, chains):
-        tolds = [FAILED if number == 500 else PLAIN for number in range(len(steps))]
+        displays = [FAILED if number == 500 else PLAIN for number in range(len(steps))]
         began = time.process_time()
-        text = picture.drawn(steps, picture.plain_boxes(steps, tolds), "many")
+        text = picture.drawn(steps, picture.plain_boxes(steps, displays), "many")
         assert time.process_time() - began < 1.0
         assert "failed" in text
     assert "1021 × s0 …" in picture.drawn(
@@ -70,8 +70,8 @@ def test_a_thousand_steps_are_drawn() -> None:
 def test_what_failed_comes_first() -> None:
     """In its layer of the picture, in a table of which most rows are folded, and in a timeline."""
     needs = [[], *([0] for _ in range(5)), [*range(1, 6)]]
-    tolds = [FAILED if number == 4 else PLAIN for number in range(7)]
-    corners = picture.ordered(needs, tolds).corners
+    displays = [FAILED if number == 4 else PLAIN for number in range(7)]
+    corners = picture.ordered(needs, displays).corners
     assert min(range(1, 6), key=lambda step: corners[step][1]) == 4
     rows = table_rows.folded(range(200), lambda row: (row != 150,))
     assert rows.shown[0] == 150 and sorted(rows.shown + rows.more) == [*range(200)]

@@ -88,7 +88,7 @@ def of_pages(reader: StoreReader, of: Filter, newest: bool, most: int) -> list[S
     word, place = "before" if newest else "after", None
     while True:
         words: dict[str, Any] = {word: place}
-        page = reader.ask(pages.page(of=of, newest=newest, most=most, **words))
+        page = reader.ask(pages.page(of=of, newest=newest, limit=most, **words))
         found += page
         if len(page) < most:
             return found
@@ -111,11 +111,11 @@ def test_pages_of_any_filter(
     fill(place)
     is_database = place.startswith("postgresql:")
     reader = StoreReader(DatabaseReader(place, "db") if is_database else FileReader(place))
-    every = reader.ask(pages.page(most=None))
+    every = reader.ask(pages.page(limit=None))
     assert len(every) == COUNT and len({one.started for one in every}) <= 100
     assert every == sorted(every, key=lambda one: (one.started, one.id), reverse=True)
     for name, words in FILTERS.items():
-        whole = reader.ask(pages.page(of=Filter(**words), most=None))
+        whole = reader.ask(pages.page(of=Filter(**words), limit=None))
         ids = {one.id for one in whole}
         assert len(ids) == reader_count(place, Filter(**words)), name
         wanted = [one for one in every if one.id in ids]
@@ -139,7 +139,7 @@ def test_cursors_round_trip() -> None:
     floats += [0.0, 1e-7, 5e-324, 1e16, 1e22, 2.0**60, -1.5, 1795934845.949, 0.1 + 0.2]
     for at in floats:
         text = filters.cursor_of((at, 1_048_577))
-        assert filters.place_of(text) == (at, 1_048_577) and "e" not in text
+        assert filters.parse_position(text) == (at, 1_048_577) and "e" not in text
         assert len(text) > 64 or filters.CURSOR.read(text, "after") == text
     assert filters.cursor_of((1795934845.949, 1048577)) == "1795934845.949-1048577"
-    assert filters.place_of(f"1.5-{10**30}") == (1.5, 2**62)
+    assert filters.parse_position(f"1.5-{10**30}") == (1.5, 2**62)

@@ -46,7 +46,7 @@ def test_looks_and_who_did_what(place: str) -> None:
             try:
                 for key in ("one", "two", "t_ree"):
                     await store.start(kind, key=key, input={"n": key})
-                await until(lambda: looks.ask(lists.asked())["approval"] == 3)
+                await until(lambda: looks.ask(lists.attention_counts())["approval"] == 3)
                 assert looks.ask(lists.counts()) == {
                     "asking": {"open": 3, "completed": 0, "recovered": 0, "stuck": 0, "resolved": 0}
                 }
@@ -120,7 +120,7 @@ def test_a_log_is_told_in_its_own_order(place: str) -> None:
             run = await store.start(kind, "k")
             looks = StoreReader(store.reader())
             try:
-                await until(lambda: looks.ask(lists.asked())["approval"])
+                await until(lambda: looks.ask(lists.attention_counts())["approval"])
                 clock.by += 30
                 await store.complete("k", "agreed", "yes", by="ann")
                 assert (await run.wait()).ok
@@ -236,10 +236,11 @@ def test_what_if_a_step_has_failed_permanently(tmp_path: pathlib.Path) -> None:
                 await missed("run", "missed")
                 await missed("undo", "undo_missed")
                 assert (
-                    what_if.done_words(view("run"), "hotel") == "It would be stuck, because of visa"
+                    what_if.describe_completion(view("run"), "hotel")
+                    == "It would be stuck, because of visa"
                 )
                 assert (
-                    what_if.failed_words(view("run"), "hotel")
+                    what_if.describe_failure(view("run"), "hotel")
                     == "It would be stuck, because of visa"
                 )
                 told = what_if.of(view("undo"), done="hotel").plan

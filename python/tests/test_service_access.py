@@ -167,7 +167,7 @@ def test_roles(guarded: Guarded) -> None:
                     assert (found, name) == (
                         403,
                         "Forbidden",
-                    )  # a compensation is no approval: see below
+                    )  # a compensation is not an approval: see below
                 elif role in (*good.split(), "operator"):
                     assert found == status and name != "Forbidden", (
                         role,
@@ -233,17 +233,17 @@ def waits(client: httpx.Client, key: str, why: str) -> None:
 
 
 BOTH = [
-    ("complete", {}, "result: it is missing"),
-    ("complete", {"note": "NO"}, "result: it is missing"),
-    ("complete", {"undo": False}, "result: it is missing"),
-    ("complete", {"result": 1, "error": "x"}, "error: there is no such field"),
-    ("complete", {"approved": True, "result": 1}, "approved: there is no such field"),
+    ("complete", {}, "result: is required"),
+    ("complete", {"note": "NO"}, "result: is required"),
+    ("complete", {"undo": False}, "result: is required"),
+    ("complete", {"result": 1, "error": "x"}, "error: unknown field"),
+    ("complete", {"approved": True, "result": 1}, "approved: unknown field"),
     ("complete", {"result": 1, "note": 5}, "note: must be a string"),
     ("complete", {"result": 1, "undo": "no"}, "undo: must be true or false"),
     ("complete", [], "the body: must be an object"),
     ("complete", [["result", 1]], "the body: must be an object"),
-    ("fail", {}, "error: it is missing"),
-    ("fail", {"error": "x", "result": 1}, "result: there is no such field"),
+    ("fail", {}, "error: is required"),
+    ("fail", {"error": "x", "result": 1}, "result: unknown field"),
     ("fail", {"error": None}, "error: must be a string"),
     ("fail", {"error": 5}, "error: must be a string"),
     ("fail", [["error", "x"]], "the body: must be an object"),
@@ -302,7 +302,7 @@ def test_who_may_approve(guarded: Guarded) -> None:
             assert (answer.status_code, error_of(answer)) == (
                 403,
                 "Forbidden",
-            ) and "is no approval" in answer.json()["detail"]
+            ) and "is not an approval" in answer.json()["detail"]
         assert (
             approver.post("/v1/sagas/nobody/steps/review/complete", json={"result": 1}).status_code
             == 404
@@ -347,7 +347,7 @@ def test_an_approval_before_it_begins(guarded: Guarded) -> None:
             assert "its success is reported" in told and "Approve sign before" not in told
             assert "Approve seal before it begins" in told
             form = "/ui/sagas/ahead/steps/seal/failed"
-            assert "Refuse seal?" in page.get(form).text
+            assert "Refuse step seal?" in page.get(form).text
             sent = {"csrf": csrf_of(page, form), "failed": "too dear"}
             assert page.post(form, data=sent).status_code == 303
             assert "its failure is reported" in page.get("/ui/sagas/ahead").text
@@ -427,7 +427,7 @@ FOREIGN = (
     ({"Origin": "null"}, "has the Origin 'null' and the Host 'HOST'"),
     (
         {"Origin": "http://own.example:8443", "Host": "own.example"},
-        "A proxy has to pass on the Host that the browser sends, with its port",
+        "A proxy must forward the browser's Host header, with its port",
     ),
     ({"Sec-Fetch-Site": "cross-site"}, "has the Sec-Fetch-Site 'cross-site'"),
     ({"Sec-Fetch-Site": "same-site"}, "has the Sec-Fetch-Site 'same-site'"),

@@ -189,7 +189,7 @@ def test_a_filter_that_selects_nothing_by_mistake(client: httpx.Client) -> None:
     told = {"definition": "order", "key": "labeled", "labels": {"customer": "7"}}
     assert client.post("/v1/sagas", json=told).status_code == 201
     answer = client.post("/v1/bulk/abort", json={"filter": {"labels": {}}})
-    assert answer.status_code == 422 and "filter.labels: this selects every saga" in answer.text
+    assert answer.status_code == 422 and "filter.labels: an empty object selects every saga" in answer.text
     for labels, text in (
         ({"custmer": "7"}, "no saga has a label 'custmer'; did you mean 'customer'?"),
         ({"customer": "8"}, "no saga has the label customer='8'"),

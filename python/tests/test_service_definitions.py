@@ -165,7 +165,7 @@ FAULTS = [
         BESIDE.replace("concurrency = 4", "concurrency = 0"),
         "a.service.toml:8: saga 'trip', step 'car': concurrency=0: must be an integer >= 1",
     ),
-    (GOOD, BESIDE.replace("step.car", "step.cra"), "a.service.toml:6: no step is named 'cra'"),
+    (GOOD, BESIDE.replace("step.car", "step.cra"), "a.service.toml:6: the definition has no step 'cra'"),
     (
         GOOD,
         BESIDE.replace('kind = "approval"\ntimeout = 60', 'kind = "wait"'),

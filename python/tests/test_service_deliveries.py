@@ -158,7 +158,7 @@ def test_the_command(world: World, receiver: Receiver) -> None:
     settled(world["operator"], "came")
     for words, status, text in (
         (("redeliver", "msg_none"), 1, "no delivery has the id 'msg_none'"),
-        (("redeliver",), 2, "give the id"),
+        (("redeliver",), 2, "pass the id"),
         (("--limit", "-1"), 2, "argument --limit: invalid value '-1'"),
         (("--state", "lost"), 2, "invalid choice: 'lost'"),
     ):

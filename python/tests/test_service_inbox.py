@@ -180,7 +180,7 @@ def test_what_nobody_saw_is_not_approved(service: Served) -> None:
         start(client, "order", "seen-3")
         waits(client, "seen-3", "approval")
         done = client.post("/ui/inbox", data=form).text
-        assert "1 done" in done and "1 of those that you saw had changed" in done, done
+        assert "1 done" in done and "1 of the entries that you saw had changed" in done, done
         assert client.get("/v1/sagas/seen-2").json()["states"]["review"] == "committed"
         gone = client.post("/ui/inbox", data=form)
         assert gone.status_code == 422 and "Nothing is selected" in gone.text
@@ -210,7 +210,7 @@ def test_a_form_is_for_what_its_reader_saw(service: Served) -> None:
         report(client, tour, "unknown", error="the line went dead")
         waits(client, "hazy", "unknown")
         again = client.post(where, data=old)
-        assert again.status_code == 409 and "unknown once more" in again.text
+        assert again.status_code == 409 and "unknown again" in again.text
         assert client.post("/ui/inbox", data=many).status_code == 422  # none of them waits
         assert client.get("/v1/sagas/hazy").json()["states"]["tour"] == "begun"
         undo = client.get("/ui/sagas/hazy/steps/car/failed?undo=true").text
@@ -227,7 +227,7 @@ def test_a_definition_s_page(service: Served) -> None:
     with service.client() as client:
         page = client.get("/ui/definitions/licence").text
         assert "Share recovered" in page and "3 failed" in page
-        assert client.get("/ui/definitions/order").text.count("for a person") >= 2
+        assert client.get("/ui/definitions/order").text.count("for an operator") >= 2
         assert client.get("/ui/definitions/none").status_code == 404
         assert 'href="/ui/definitions/closed-shop"' in client.get("/ui/definitions").text
         assert "<option>closed-shop</option>" in client.get("/ui").text
@@ -272,13 +272,13 @@ def test_a_filter_of_the_inbox(service: Served) -> None:
             assert time.monotonic() < deadline
             time.sleep(0.02)
         page = client.get("/ui/sagas/panel-1").text
-        (link,) = re.findall(r'5 more steps wait for a person: <a href="([^"]+)"', page)
+        (link,) = re.findall(r'5 more steps wait for an operator: see <a href="([^"]+)"', page)
         shown = client.get(html.unescape(link)).text
         assert shown.count(">panel-1<") >= 5
         for path in ("/ui?definition=panel", html.unescape(link)):
             found = tabs(client.get(path).text)
             assert (found["*Approvals"], found["Stuck"]) == (ASKED, 0), path
-        assert "Nothing that the filter selects" in client.get("/ui?kind=stuck&search=panel").text
+        assert "Nothing matches the filter" in client.get("/ui?kind=stuck&search=panel").text
         question = asked(client, "approval", "abort", search="panel").text
         assert "Abort 1 saga?" in question
         question = asked(client, "approval", "done", search="panel").text

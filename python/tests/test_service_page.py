@@ -207,7 +207,7 @@ def test_a_stuck_one_is_found_in_two_clicks_and_resolved(browser: Browser) -> No
     assert "because of licence" in browser.text
     browser.shot("stuck")
     browser.click("a.button", "Mark as resolved…")
-    browser.has("Mark it as resolved?")
+    browser.has("Mark this saga as resolved?")
     browser.shot("resolve")
     browser.click("main button", "Mark as resolved")
     assert "/resolve" in browser.driver.current_url  # a note is needed
@@ -231,7 +231,7 @@ def test_an_approval(browser: Browser) -> None:
     browser.has("review waits to be approved")
     assert "Start send" in browser.text  # what the answer would do
     browser.click("a.button", "Approve…")
-    browser.has("Approve review?")
+    browser.has("Approve step review?")
     browser.type("textarea[name=result]", "yes")
     browser.type("textarea[name=note]", "asked the boss")
     browser.click("main button", "Approve")
@@ -276,7 +276,7 @@ def test_an_unknown_outcome_and_an_abort(browser: Browser) -> None:
     browser.go("/ui/sagas/order-2")
     browser.click("a.button", "Abort…")
     browser.has("Abort this saga?")
-    browser.has("Now it would: Nothing is to be undone: costs 0")
+    browser.has("Now it would: Nothing has to be undone: costs 0")
     browser.type("textarea[name=note]", "ordered twice")
     browser.click("main button", "Abort it")
     browser.has("Aborted")
@@ -310,7 +310,7 @@ def test_what_no_worker_takes(browser: Browser) -> None:
 def test_a_saga_is_started_by_hand(browser: Browser) -> None:
     """By a form that says what is wrong with it, and keeps what was said in it."""
     browser.go("/ui/sagas?definition=order")
-    browser.click("a.button", "Start one")
+    browser.click("a.button", "Start a saga")
     browser.has("Start a saga")
     browser.type("[name=key]", "by-hand-1")
     browser.type("[name=input]", "{to: Oslo}")
@@ -421,7 +421,7 @@ def test_those_that_ended_by_plan(browser: Browser) -> None:
         == ["Undo failed"]
     )
     browser.click("a.key", "fixed-1")
-    browser.has("Undoing car failed permanently: “no”. Its effect is still there.")
+    browser.has("Undoing car failed permanently: “no”. Its effect still exists.")
     browser.shot("undo-failed")
     with browser.service.client() as client:
         listed = client.get("/v1/sagas?phase=recovered").json()["sagas"]
@@ -708,7 +708,7 @@ document.dispatchEvent(new Event("visibilitychange"));
 
 def test_a_page_that_is_not_answered_is_taken_later(browser: Browser) -> None:
     """It says that it is not live, and is renewed without another event. What takes long is
-    asked for less often. Of a saga that is not kept any more it says that."""
+    asked for less often. Of a saga that is no longer stored it says that."""
     browser.go("/ui/sagas?search=page")
     browser.driver.execute_script(ANSWERED, 503)
     with browser.service.client() as client:
@@ -724,7 +724,7 @@ def test_a_page_that_is_not_answered_is_taken_later(browser: Browser) -> None:
     assert pause > 5 * took - 5  # milliseconds
     browser.is_quiet()
     browser.driver.execute_script(GONE)
-    browser.has("There is no such saga")
+    browser.has("Unknown saga")
     assert not browser.driver.find_element(By.ID, "lapsed").is_displayed()
     browser.driver.get("about:blank")
     browser.driver.get_log("browser")  # it shows each answer that is no 200

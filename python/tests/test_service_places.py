@@ -25,7 +25,7 @@ from test_service_denial import inside
 
 from sagas.server import command, uvicorn_server
 from sagas.server.request_framing import Malformed, RequestFraming
-from sagas.server.settings import PlaceSettings
+from sagas.server.settings import ConcurrencySettings
 
 RESET = struct.pack("ii", 1, 0)
 WAIT = "GET /v1/sagas/k/wait?seconds=60 HTTP/1.1"
@@ -132,7 +132,7 @@ def test_waits_and_claims_of_a_token(
                 async with asyncio.timeout(1.0):
                     await reply_of(await waiting)
 
-    places = PlaceSettings(waits=5, claims=5)
+    places = ConcurrencySettings(waits=5, claims=5)
     inside(tmp_path, ask, tokens=tmp_path / "tokens.toml", places=places)
 
 
@@ -159,7 +159,7 @@ def test_a_report_counts_when_no_claim_may_follow(
                     await evil.ask(text(line, tokens["evil"], json.dumps(report)))
                 ).status == 200
 
-    inside(tmp_path, ask, tokens=tmp_path / "tokens.toml", places=PlaceSettings(claims=2))
+    inside(tmp_path, ask, tokens=tmp_path / "tokens.toml", places=ConcurrencySettings(claims=2))
 
 
 def test_connections_of_a_token(tmp_path: pathlib.Path, tokens: dict[str, str]) -> None:
@@ -178,7 +178,7 @@ def test_connections_of_a_token(tmp_path: pathlib.Path, tokens: dict[str, str]) 
             while (await others.ask(list_sagas)).status != 200:
                 await asyncio.sleep(0.05)
 
-    places = PlaceSettings(connections_of_token=6)
+    places = ConcurrencySettings(connections_of_token=6)
     inside(tmp_path, ask, tokens=tmp_path / "tokens.toml", places=places)
 
 
@@ -215,7 +215,7 @@ def test_connections_of_an_address(
                 await others.end()
 
     words: dict[str, Any] = {} if is_behind_proxy else {"trusted_proxies": ()}
-    places = PlaceSettings(connections_of_address=6)
+    places = ConcurrencySettings(connections_of_address=6)
     inside(tmp_path, ask, tokens=tmp_path / "tokens.toml", places=places, **words)
 
 
@@ -236,7 +236,7 @@ def test_places_for_health_and_operators(tmp_path: pathlib.Path, tokens: dict[st
                 assert found.headers["retry-after"] == "1"
                 assert (await others.ask(text("GET /openapi.json HTTP/1.1"))).status == 503
 
-    places = PlaceSettings(connections=40, waits=100, kept=10)
+    places = ConcurrencySettings(connections=40, waits=100, kept=10)
     inside(tmp_path, ask, tokens=tmp_path / "tokens.toml", places=places)
 
 
@@ -255,7 +255,7 @@ def test_who_reads_nothing_gives_way(tmp_path: pathlib.Path, tokens: dict[str, s
                 assert found.status == 200
                 assert (await others.ask(text(LIVE))).status == 200
 
-    places = PlaceSettings(connections=40, kept=10)
+    places = ConcurrencySettings(connections=40, kept=10)
     inside(tmp_path, ask, tokens=tmp_path / "tokens.toml", places=places)
 
 

@@ -115,6 +115,6 @@ def test_the_dashboard_has_schedules_and_labels(world: World) -> None:
     text = page.get("/ui/sagas", params={"label": "customer=7"}).text
     assert "labeled" in text and "other-1" not in text and 'value="customer=7"' in text
     wrong = page.get("/ui/sagas", params={"label": "nothing"})
-    assert "a label is NAME=VALUE" in wrong.text and "labeled" not in wrong.text
+    assert "a label must be NAME=VALUE" in wrong.text and "labeled" not in wrong.text
     text = page.get("/ui/sagas").text
     assert "labeled" in text and "other-1" in text

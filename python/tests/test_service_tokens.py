@@ -120,13 +120,13 @@ def test_a_caller_starts_its_definitions(world: World) -> None:
         )
     assert (
         told(client.post("/v1/sagas", json={"definition": "trip", "key": "x", "version": 7}))[2]
-        == "there is no definition 'trip' of version 7, but few, trip"
+        == "the service has no definition 'trip' of version 7. It has: few, trip"
     )
     status, name, text = told(start(client, "trip", "a-order", {"secret": "of order"}))
     assert (status, name, text) == (
         409,
         "KeyConflict",
-        "the key 'a-order' is another saga's: take another key",
+        "the key 'a-order' belongs to another saga: use another key",
     )
     assert error_of(start(client, "few", "t-1")) == "KeyConflict"
     assert start(client, "trip", "a-trip", {"secret": "of trip"}).json() == {
@@ -449,7 +449,7 @@ def test_the_dashboard_starts_its_definitions(world: World) -> None:
     other = {"csrf": csrf, "definition": "trip", "key": "by-page"}
     assert page.post("/ui/start", data=other).status_code == 403
     taken = page.post("/ui/start", data={"csrf": csrf, "definition": "order", "key": "a-trip"})
-    assert taken.status_code == 409 and "is another saga&#39;s" in taken.text
+    assert taken.status_code == 409 and "belongs to another saga" in taken.text
     assert "secret" not in taken.text
     form = "/ui/sagas/a-order/steps/review/failed"
     sent = dict(re.findall(r'name="(csrf|waits)" value="([^"]+)"', page.get(form).text))
@@ -472,8 +472,8 @@ def test_a_token_that_expires(tmp_path: pathlib.Path) -> None:
             assert told(client.get("/v1/sagas")) == (
                 401,
                 "Unauthorized",
-                "this token has expired: `sagas token` makes another, "
-                "sent as Authorization: Bearer TOKEN",
+                "the token has expired. Create another one with `sagas token`. "
+                "Send it as Authorization: Bearer TOKEN",
             )
             assert page.post("/ui/login", data={"token": old}).status_code == 403
             assert good.get("/v1/sagas").status_code == 200
@@ -541,7 +541,7 @@ def test_a_file_that_was_unreadable_once(
     gone, stays = (token(tmp_path, name, "operator") for name in ("gone", "stays"))
     file, said = tmp_path / "tokens.toml", list[str]()
     tokens = auth.Tokens(file, said.append)
-    monkeypatch.setattr(auth, "LOOK", -1.0)  # each question is a look
+    monkeypatch.setattr(auth, "RELOAD_INTERVAL", -1.0)  # each question is a look
     file.write_text("[[token]]" + file.read_text().rpartition("[[token]]")[2])
     soft, hard = resource.getrlimit(resource.RLIMIT_NOFILE)
     resource.setrlimit(resource.RLIMIT_NOFILE, (0, hard))  # it can be looked at, and not be opened

@@ -120,7 +120,7 @@ def test_on_the_dashboard(client: httpx.Client) -> None:
     assert "A report was not used" in page and "/ui/sagas/d/steps/pay/compensate" in page
     form = client.get("/ui/sagas/d/steps/pay/compensate").text
     found = re.search(r'name="csrf" value="([^"]+)"', form)
-    assert found and "Compensate pay?" in form
+    assert found and "Compensate step pay?" in form
     sent = {"csrf": found[1], "note": "so"}
     assert client.post("/ui/sagas/d/steps/pay/compensate", data=sent).status_code == 303
     again = client.post("/ui/sagas/e/steps/reserve/compensate", data=sent)

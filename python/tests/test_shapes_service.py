@@ -269,12 +269,12 @@ def test_approvals_of_items_and_of_included_sagas(tmp_path: pathlib.Path) -> Non
                 answer = client.post(f"/v1/sagas/k/steps/{step}/complete", json={"result": 1})
                 assert answer.status_code == status, (step, answer.text)
             assert answer.json()["detail"].startswith(
-                "approver is an approver, and 'sign' is no approval"
+                "approver is an approver: 'sign' is not an approval"
             )
         with service.client() as page:
             page.post("/ui/login", data={"token": operator})
             assert "/steps/sign-0/done" in page.get("/ui/sagas/k?unfold=*").text
-            assert "Approve sign-0?" in page.get("/ui/sagas/k/steps/sign-0/done").text
+            assert "Approve step sign-0?" in page.get("/ui/sagas/k/steps/sign-0/done").text
 
 
 def test_an_approval_of_a_definition_that_is_elsewhere(tmp_path: pathlib.Path, url: str) -> None:

@@ -182,7 +182,7 @@ def test_functions(place: str) -> None:
         ("again", 2): [("backoff", None), ("running", None)],
         ("last", 1): [("running", None), ("running", None)],
     }
-    assert found["last", 1].spans[-1].detail == timeline.AGAIN
+    assert found["last", 1].spans[-1].detail == timeline.CALLED_AGAIN
     assert (
         found["again", 1].error == "RuntimeError: not yet"
         and found["again", 2].seconds(0.0)["backoff"] > 0.03

@@ -88,7 +88,7 @@ def test_what_undoes_a_child_is_not_aborted(place: str, capsys: pytest.CaptureFi
             words = ("abort", "--all", "--label", "customer=7")
             assert (
                 await asyncio.to_thread(shell, *words)
-                == "1 saga: --yes aborts it\n1 saga left out, because it undoes a child\n"
+                == "1 saga: --yes aborts it\n1 saga skipped, because it undoes a child\n"
             )
             assert await asyncio.to_thread(shell.json, *words) == {"count": 1, "undoing": 1}
             result = await store.abort_all(labels={"customer": "7"}, by="ann")
@@ -100,12 +100,12 @@ def test_what_undoes_a_child_is_not_aborted(place: str, capsys: pytest.CaptureFi
             )
             assert (
                 await asyncio.to_thread(shell, *words, "--yes")
-                == "t/:kid:undo: left out, because it undoes a child\n"
+                == "t/:kid:undo: skipped, because it undoes a child\n"
             )
             asked = {
                 "key": "t/:kid:undo",
                 "asked": "abort",
-                "answer": "left out, because it undoes a child",
+                "answer": "skipped, because it undoes a child",
             }
             assert await asyncio.to_thread(shell.json, *words, "--yes") == [asked]
             assert await asyncio.to_thread(shell, "abort", "t/:kid:undo", status=1) == ""
@@ -288,7 +288,7 @@ async def is_list(asked: Callable[[], Any], wanted: list[str]) -> bool:
 
 
 class Hand:
-    """A parent whose child step waits for a person, since its child fails. Of that, `gone` is undone by then, and `first` stays."""
+    """A parent whose child step waits for an operator, since its child fails. Of that, `gone` is undone by then, and `first` stays."""
 
     def __init__(self) -> None:
         self.undone = list[str]()

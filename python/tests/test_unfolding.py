@@ -29,15 +29,15 @@ from sagas.cli.store_command import main
 from sagas.definition.groups import ALL, Groups
 from sagas.inspection import layout, picture
 from sagas.inspection import saga as one_saga
-from sagas.inspection.group_boxes import MOST_ITEMS, Told, boxes_of
+from sagas.inspection.group_boxes import MOST_ITEMS, StepDisplay, boxes_of
 from sagas.inspection.question import StoreReader
 from sagas.inspection.views import SagaView
 from sagas.server import declared_steps, json_views
 from sagas.server.routes import saga_pages
 from sagas.server.table_rows import FEW
 
-DONE = Told("done", "", False, "committed", "committed")
-FAILED = Told("failed", "no", False, "failed", "failed")
+DONE = StepDisplay("done", "", False, "committed", "committed")
+FAILED = StepDisplay("failed", "no", False, "failed", "failed")
 GIVEN = Trip(Package(Hotel("Rome", ["a", "b"], True), ["vw", "bmw"]))
 SHOP = pathlib.Path(__file__).with_name("unfolding_shop.py")
 
@@ -90,8 +90,8 @@ def test_a_picture_has_no_circle(unfold: set[str], rooms: int) -> None:
     """Whatever is unfolded, each step is in one box, and the boxes have an order."""
     text = shaped.trip.toml(Trip(Package(Hotel("Rome", ["a"] * rooms, True), ["vw", "bmw"])))
     steps, groups = steps_of(text), Groups.read(text)
-    tolds = [FAILED if place % 5 == 3 else DONE for place in range(len(steps))]
-    shown = boxes_of(groups.blocks(len(steps), unfold), [name for name, _ in steps], tolds)
+    displays = [FAILED if place % 5 == 3 else DONE for place in range(len(steps))]
+    shown = boxes_of(groups.blocks(len(steps), unfold), [name for name, _ in steps], displays)
     assert sorted(step for box in shown for step in box.steps) == [*range(len(steps))]
     needs, over = picture.needs_of(steps, shown), set[int]()
     while len(over) < len(shown):
@@ -106,15 +106,15 @@ def test_the_boxes_of_items() -> None:
     """A group has counts; of its items the urgent ones are drawn, and the others as one."""
     text = shaped.order.toml(parcels(50))
     names, groups = [name for name, _ in steps_of(text)], Groups.read(text)
-    tolds = [FAILED if name in ("ship-7", "ship-49") else DONE for name in names]
-    folded = boxes_of(groups.blocks(len(names), ()), names, tolds)
-    assert [(box.title, box.told.state, box.told.why) for box in folded] == [
+    displays = [FAILED if name in ("ship-7", "ship-49") else DONE for name in names]
+    folded = boxes_of(groups.blocks(len(names), ()), names, displays)
+    assert [(box.title, box.display.state, box.display.why) for box in folded] == [
         ("reserve", "done", ""),
         ("ship ×50", "2 failed", "48 done"),
         ("label ×50", "50 done", ""),
         ("mail", "done", ""),
     ]
-    items = boxes_of(groups.blocks(len(names), {"ship"}), names, tolds)
+    items = boxes_of(groups.blocks(len(names), {"ship"}), names, displays)
     titles = [box.title for box in items]
     assert {"ship-7", "ship-49", "ship: 38 more", "label ×50"} <= {*titles}
     assert len(titles) == MOST_ITEMS + 4
@@ -179,7 +179,7 @@ def test_a_definition_is_read_once(tmp_path: pathlib.Path, monkeypatch: pytest.M
 
     view = asyncio.run(main())
     assert view and view.plan
-    told = saga_pages.told_of(view, lambda name, text: set(), time.time(), "*")
+    told = saga_pages.template_values(view, lambda name, text: set(), time.time(), "*")
     assert [*told["choices"]] == [step.name for step in view.steps] and told["attempts"].shown
     assert json_views.timeline(view, time.time())["attempts"]
     assert len(texts) <= 1

@@ -326,7 +326,7 @@ def test_a_worker_compensates_an_item_of_an_included_saga(place: str) -> None:
 
 
 def test_what_a_compensation_that_fails_comes_to(place: str) -> None:
-    """It waits for a person, as any other; and nothing is said to be compensated that has none."""
+    """It waits for an operator, as any other; and nothing is said to be compensated that has none."""
     gate = asyncio.Event()
     saga = sagas.Saga("plain")
 

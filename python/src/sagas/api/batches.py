@@ -35,7 +35,7 @@ def _page(
     filter: Filter, after: Summary | int | None, limit: int
 ) -> Question[builtins.list[Summary]]:
     after_position = yield from pages.position(after)
-    return (yield from pages.page(of=filter, after=after_position, newest=False, most=limit))
+    return (yield from pages.page(of=filter, after=after_position, newest=False, limit=limit))
 
 
 async def over_own_connection(name: str, work: Callable[[admin.Source], T]) -> T:

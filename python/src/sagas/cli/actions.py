@@ -1,4 +1,6 @@
-"""`abort`, `complete`, `fail` and `retry`, which are asked of the program that has the store."""
+"""`abort`, `complete`, `fail`, `retry` and `compensate`: requests to the program that has the
+store.
+"""
 
 from __future__ import annotations
 
@@ -33,87 +35,93 @@ from sagas.storage.queries import DEFINITION, PHASE
 Json = dict[str, Any]
 VERBS = {"complete": "completes", "fail": "fails", "retry": "retries"}
 WITHDRAWN = "withdrawn"
-"""The answer to an abort of a start that no node had taken."""
+"""The answer to an abort of a start that no node had accepted."""
 SAGA = f"SELECT id, {PHASE} FROM sagas s WHERE key = ?"
 CHILDREN = child_results.CHILDREN.format(PHASE)
 
 
-def ask(path: str, key: str, what: str, value: Any, timeout: float) -> tuple[Any, bool]:
-    """Leaves a request in the store; gives the answer of the program that has the saga, or None
-    where none has come yet, and whether a program has the store.
+def ask(path: str, key: str, command: str, value: Any, timeout: float) -> tuple[Any, bool]:
+    """Store a request for the program that executes the saga.
+
+    Returns its answer, or None if there is none yet, and whether a program has the store open.
     """
     with admin.writing(path) as link:
-        if what in ("complete", "fail") and is_repeated(link, key, what, value):
+        if command in ("complete", "fail") and is_repeated(link, key, command, value):
             return True, True
-        of = what_is_asked(link, key, what, value)
-        if of is None:
+        saga_id = target_of(link, key, command, value)
+        if saga_id is None:
             return WITHDRAWN, True
-        number = link.add_request(of, what, json.dumps(value))
-        if number is None and of < 0:  # it is a saga by now
-            of = what_is_asked(link, key, what, value) or of
-            number = link.add_request(of, what, json.dumps(value))
+        number = link.add_request(saga_id, command, json.dumps(value))
+        if number is None and saga_id < 0:  # it is a saga by now
+            saga_id = target_of(link, key, command, value) or saga_id
+            number = link.add_request(saga_id, command, json.dumps(value))
         if number is None:
             raise gone(key)
         link.notify("requests")
-        driven = link.is_driven()
-        until = time.monotonic() + (timeout if driven else 0.0)
+        is_executed = link.is_driven()
+        until = time.monotonic() + (timeout if is_executed else 0.0)
         while True:
-            is_there, answer = link.answer(number, of)
+            is_there, answer = link.answer(number, saga_id)
             if not is_there:
                 raise gone(key)
             if answer is not None or time.monotonic() >= until:
-                return answer and json.loads(answer), driven
-            time.sleep(0.02)  # SQLite tells another process of a commit only when it looks
+                return answer and json.loads(answer), is_executed
+            time.sleep(0.02)  # SQLite has no notifications
 
 
 def gone(key: str) -> Trouble:
-    """What is said where the saga goes while it is asked."""
-    return Trouble(f"saga {key} was deleted meanwhile")
+    """Return the error for a saga that is deleted while a request to it is stored."""
+    return Trouble(f"saga {key} was deleted concurrently")
 
 
-def what_is_asked(link: admin.Source, key: str, what: str, value: Any) -> int | None:
-    """The id of the saga that is asked; below 0 that of a client's start. None: that start, which
-    no node had taken, is withdrawn. Raises `Trouble` where nothing can be asked."""
-    found = link.ask(SAGA, key)
-    if not found and what == "abort":
+def target_of(link: admin.Source, key: str, command: str, value: Any) -> int | None:
+    """Return the id of the saga that a request is for.
+
+    The id of a client's start is negative. None: the start, which no node had accepted, is
+    withdrawn. Raises `Trouble` if the saga cannot take the request.
+    """
+    rows = link.ask(SAGA, key)
+    if not rows and command == "abort":
         if link.withdraw(key):
             return None
         start = link.start_of(key)  # its node does what it is asked once it has begun
-        found = link.ask(SAGA, key) or ([(-start, "open")] if start else [])
-    if not found:
+        rows = link.ask(SAGA, key) or ([(-start, "open")] if start else [])
+    if not rows:
         raise link.missing_saga_error(key)
-    ((id, phase),) = found
-    if what == "compensate":
+    ((id, phase),) = rows
+    if command == "compensate":
         if phase == "open":
             raise Trouble(f"{key} has not ended, so there is nothing to compensate")
         check_step(link, key, id, value["step"])
         return int(id)
     if phase == "stuck":
         raise Trouble(
-            f"{key} is stuck, so there is nothing to {what}. After the repair, run `resolve`"
+            f"{key} is stuck, so there is nothing to {command}. After the repair, run `resolve`"
         )
     if phase != "open":
-        raise Trouble(f"{key} has ended ({phase}), so there is nothing to {what}")
-    if what == "abort":
+        raise Trouble(f"{key} has ended ({phase}), so there is nothing to {command}")
+    if command == "abort":
         check_abortable(key)
-    if what in ("complete", "fail", "retry"):
+    if command in ("complete", "fail", "retry"):
         check_step(link, key, id, value["step"])
     return int(id)
 
 
-def is_repeated(link: admin.Source, key: str, what: str, value: Any) -> bool:
-    """Whether a saga is over, and this was reported of its step before. Raises `Trouble` where
-    another outcome was."""
+def is_repeated(link: admin.Source, key: str, command: str, value: Any) -> bool:
+    """Return whether a saga has ended and already has this report of its step.
+
+    Raises `Trouble` if another outcome was reported.
+    """
     for id, phase in link.ask(SAGA, key):
         names = step_names(str(link.ask(DEFINITION, id)[0][0]))
         if phase == "open" or value["step"] not in names:
             return False
-        place, kind = names.index(value["step"]), value["kind"]
-        first = step_reports.first_of(link.ask(step_reports.RESULTS, id), place, kind)
-        first = first or step_reports.early_of(link.ask(step_reports.EARLY, id, place, kind))
+        index, kind = names.index(value["step"]), value["kind"]
+        first = step_reports.first_of(link.ask(step_reports.RESULTS, id), index, kind)
+        first = first or step_reports.early_of(link.ask(step_reports.EARLY, id, index, kind))
         if first is None or ENVELOPE.match(first.value):  # it cannot be compared here
             return False
-        outcome = reported(value.get("result"), value["error"] if what == "fail" else None)
+        outcome = reported(value.get("result"), value["error"] if command == "fail" else None)
         try:
             step_reports.check(key, value["step"], first, outcome)
         except ConflictingReport as error:
@@ -127,7 +135,7 @@ def is_repeated(link: admin.Source, key: str, what: str, value: Any) -> bool:
 
 
 def check_abortable(key: str) -> None:
-    """Raises `Trouble` where the saga undoes a child: no program would abort it."""
+    """Raise `Trouble` if the saga undoes a child: no program would abort it."""
     try:
         children.check_abortable(key)
     except NotAbortable as error:
@@ -135,10 +143,10 @@ def check_abortable(key: str) -> None:
 
 
 def check_child(link: admin.Source, key: str, step: str, result: Any) -> None:
-    """Raises `Trouble` where a step that has started a child is completed with what is none."""
+    """Raise `Trouble` if a step that has started a child is completed with an invalid result."""
     for id, phase in link.ask(SAGA, key):
         rows = [(str(key), str(phase)) for key, phase in link.ask(CHILDREN, id)]
-        is_child = any(children.is_of_step(one, key, step) for one, _ in rows)
+        is_child = any(children.is_of_step(child, key, step) for child, _ in rows)
         if phase != "open" or not is_child or children.undoes_child(key):
             return
         try:
@@ -148,168 +156,180 @@ def check_child(link: admin.Source, key: str, step: str, result: Any) -> None:
 
 
 def check_step(link: admin.Source, key: str, id: int, step: str) -> None:
-    """Raises `Trouble` where the saga's definition has no such step: no program would take it."""
+    """Raise `Trouble` if the saga's definition has no such step."""
     names = step_names(str(link.ask(DEFINITION, id)[0][0]))
     if step not in names:
         raise Trouble(f"saga {key!r} has no step {step!r}{meant(step, names)}")
 
 
 def request(
-    path: str, words: argparse.Namespace, what: str, value: Any, done: str, refused: str
+    path: str, options: argparse.Namespace, command: str, value: Any, done: str, refused: str
 ) -> int:
-    """Asks the program for something, and says what came of it."""
-    answer, driven = ask(path, words.key, what, value, words.timeout)
-    good = answer is None or answer is True or answer == WITHDRAWN
-    if words.json:
-        show_json({"key": words.key, "asked": what, "answer": answer})
+    """Send a request and print its result."""
+    answer, is_executed = ask(path, options.key, command, value, options.timeout)
+    is_accepted = answer is None or answer is True or answer == WITHDRAWN
+    if options.json:
+        show_json({"key": options.key, "asked": command, "answer": answer})
     elif answer is None:
-        none = (
+        when = (
             "a node executes the saga (run `sagas store URL nodes`)"
             if factory.is_url(path)
             else "the program handles it"
         )
         print(
-            f"{words.key}: requested; it takes effect when "
-            f"{none if driven else 'a program has the store open'}"
+            f"{options.key}: requested; it takes effect when "
+            f"{when if is_executed else 'a program has the store open'}"
         )
     elif answer == WITHDRAWN:
-        print(f"{words.key}: start withdrawn; no node had accepted it, and nothing has started")
-    elif good:
-        print(f"{words.key}: {done}")
+        print(f"{options.key}: start withdrawn; no node had accepted it, and nothing has started")
+    elif is_accepted:
+        print(f"{options.key}: {done}")
     else:
-        complain(reason(answer) if isinstance(answer, dict) else f"{words.key}: {refused}")
-    return GOOD if good else NO
+        complain(reason(answer) if isinstance(answer, dict) else f"{options.key}: {refused}")
+    return GOOD if is_accepted else NO
 
 
-def abort(path: str, words: argparse.Namespace) -> int:
-    """Abort a saga, or with --all each of a filter: undo by a least-cost plan.
+def abort(path: str, options: argparse.Namespace) -> int:
+    """Abort sagas, and undo them by least-cost plans.
 
-    No step starts any more. A client's start that no node has accepted is withdrawn.
+    No further step starts. With --all, abort each open saga of a filter. A client's start that
+    no node has accepted is withdrawn.
     """
-    check_keys(words, bool(words.key))
-    if words.all:
-        return abort_all(path, words)
-    value = {"note": words.note} if words.note else None
+    check_keys(options, bool(options.key))
+    if options.all:
+        return abort_all(path, options)
+    value = {"note": options.note} if options.note else None
     return request(
-        path, words, "abort", value, "aborted", "not aborted: it has ended, or was aborted before"
+        path, options, "abort", value, "aborted", "not aborted: it has ended, or was aborted before"
     )
 
 
-def complete(path: str, words: argparse.Namespace) -> int:
-    """Report that a step succeeded: one that waits for an approval or a report.
+def complete(path: str, options: argparse.Namespace) -> int:
+    """Report that a step succeeded, for example to approve it.
 
-    With --all, report it of each step whose attempts are used up. The program that executes the
-    saga takes the report, now or when it opens the store.
+    The program that executes the saga handles the report, now or when it opens the store. With
+    --all, report each step whose attempts are used up.
     """
-    if is_deeper(words.result):
+    if is_deeper(options.result):
         raise Trouble(f"--result: {TOO_DEEP}", 2)
     try:
-        result = json.loads(words.result)
+        result = json.loads(options.result)
     except ValueError as error:
-        told = f"--result is not JSON ({error}). Write a text as '\"yes\"'"
-        raise Trouble(told, 2) from error
-    check_steps(words, "complete")
-    payloads = payloads_of(words)
+        message = f"--result is not JSON ({error}). Quote a string: '\"yes\"'"
+        raise Trouble(message, 2) from error
+    check_steps(options, "complete")
+    payloads = payloads_of(options)
     with admin.writing(path) as link:
         codec_note.check(link, payloads)
-        if words.key and not words.undo:
-            check_child(link, words.key, words.step, result)
+        if options.key and not options.undo:
+            check_child(link, options.key, options.step, result)
     kept = {"result": payloads.encode_value(result)}
-    return answer(path, words, "complete", kept, "succeeded", "not reported")
+    return answer(path, options, "complete", kept, "succeeded", "not reported")
 
 
-def fail(path: str, words: argparse.Namespace) -> int:
+def fail(path: str, options: argparse.Namespace) -> int:
     """Report that a step failed permanently, for example to reject an approval.
 
-    With --all, report it of each step whose attempts are used up. The program that executes the
-    saga takes the report, now or when it opens the store.
+    The program that executes the saga handles the report, now or when it opens the store. With
+    --all, report each step whose attempts are used up.
     """
-    check_steps(words, "fail")
-    if (words.why is None) == words.all or (words.error is None) != words.all:
-        raise Trouble("fail takes KEY, STEP and ERROR, or --all and --error TEXT", 2)
-    told = {"error": words.why if words.all else words.error}
-    return answer(path, words, "fail", told, "failed", "not reported")
+    check_steps(options, "fail")
+    if (options.why is None) == options.all or (options.error is None) != options.all:
+        raise Trouble("fail requires KEY, STEP and ERROR, or --all and --error TEXT", 2)
+    report = {"error": options.why if options.all else options.error}
+    return answer(path, options, "fail", report, "failed", "not reported")
 
 
-def retry(path: str, words: argparse.Namespace) -> int:
-    """Attempt a step again whose attempts are used up, or whose outcome is unknown."""
-    check_steps(words, "retry")
-    return answer(path, words, "retry", {}, "is attempted again", "not retried")
+def retry(path: str, options: argparse.Namespace) -> int:
+    """Retry a step whose attempts are used up, or whose outcome is unknown."""
+    check_steps(options, "retry")
+    return answer(path, options, "retry", {}, "is attempted again", "not retried")
 
 
-def compensate(path: str, words: argparse.Namespace) -> int:
-    """Have a step compensated that was reported before it began, and not used.
+def compensate(path: str, options: argparse.Namespace) -> int:
+    """Compensate a step whose early report was not used.
 
     `attention` lists such reports. A program that has the saga's definition starts a saga that
     calls the compensation, now or when it opens the store.
     """
-    value = {"step": words.step} | ({"note": words.note} if words.note else {})
-    undo = children.key_of(words.key, words.step, undo=True)
-    done = f"{words.step} is compensated, by the saga {undo}"
-    return request(path, words, "compensate", value, done, "not compensated")
+    value = {"step": options.step} | ({"note": options.note} if options.note else {})
+    undo = children.key_of(options.key, options.step, undo=True)
+    done = f"{options.step} is compensated, by the saga {undo}"
+    return request(path, options, "compensate", value, done, "not compensated")
 
 
-def check_steps(words: argparse.Namespace, what: str) -> None:
-    """Raises `Trouble` where it is not said which steps are meant, or twice."""
-    check_keys(words, bool(words.key))
-    if words.key and not words.step:
-        raise Trouble(f"{what} takes KEY and STEP", 2)
-    if words.all and words.undo:
-        raise Trouble("--undo needs KEY and STEP: --all means compensations, too", 2)
-    if words.key and (words.only or words.yes):
-        raise Trouble("--step and --yes need --all", 2)
+def check_steps(options: argparse.Namespace, command: str) -> None:
+    """Raise `Trouble` unless the options select steps in exactly one way."""
+    check_keys(options, bool(options.key))
+    if options.key and not options.step:
+        raise Trouble(f"{command} requires KEY and STEP", 2)
+    if options.all and options.undo:
+        raise Trouble("--undo requires KEY and STEP; --all includes compensations", 2)
+    if options.key and (options.only or options.yes):
+        raise Trouble("--step and --yes require --all", 2)
 
 
 def answer(
-    path: str, words: argparse.Namespace, what: str, told: Json, done: str, refused: str
+    path: str, options: argparse.Namespace, command: str, report: Json, done: str, refused: str
 ) -> int:
-    """Says it of a step, or with --all of each of the filter whose attempts are used up.
+    """Report a step, or with --all each step of the filter whose attempts are used up.
 
-    All of them are asked before the first answer is waited for."""
-    if not words.all:
-        return request(path, words, what, report_of(words) | told, f"{words.step} {done}", refused)
+    All requests are stored before the first answer is waited for.
+    """
+    if not options.all:
+        return request(
+            path, options, command, report_of(options) | report, f"{options.step} {done}", refused
+        )
     why = Suspension.EXHAUSTED.value
-    of = filter_of(words)
+    sagas = filter_of(options)
     with Snapshot(path) as store:
-        waits = store.ask(lists.waits(lists.ALL, why=why, within=of, step=words.only))
-    warn_of(path, of, is_needed=not waits, step=words.only)
-    if not words.yes:
-        return show_count(words, len(waits), f"--yes {VERBS[what]}", "step")
-    asked = []
-    for one in waits:
-        words.step, words.undo = one.step, one.undo
-        asked.append((one.id, report_of(words) | told))
+        waits = store.ask(lists.waits(lists.ALL, why=why, within=sagas, step=options.only))
+    warn_of(path, sagas, is_needed=not waits, step=options.only)
+    if not options.yes:
+        return show_count(options, len(waits), f"--yes {VERBS[command]}", "step")
+    requests = []
+    for wait in waits:
+        options.step, options.undo = wait.step, wait.undo
+        requests.append((wait.id, report_of(options) | report))
     with admin.writing(path) as link:
-        answers = Batch(link, of).ask(what, asked, words.timeout)
-    return show_answers(words, what, waits, answers, done)
+        answers = Batch(link, sagas).ask(command, requests, options.timeout)
+    return show_answers(options, command, waits, answers, done)
 
 
 def show_answers(
-    words: argparse.Namespace, what: str, waits: Sequence[Waits], answers: list[Any], done: str
+    options: argparse.Namespace, command: str, waits: Sequence[Waits], answers: list[Any], done: str
 ) -> int:
-    """Says what came of it for each step."""
-    said = [
-        reason(one) if isinstance(one, dict) else str(gone(step.key)) if one is False else one
-        for step, one in zip(waits, answers)
+    """Print the result of the request for each step."""
+    outcomes = [
+        reason(entry)
+        if isinstance(entry, dict)
+        else str(gone(step.key))
+        if entry is False
+        else entry
+        for step, entry in zip(waits, answers)
     ]
-    if words.json:
-        told = [{"key": one.key, "step": one.step, "kind": kind_of(one.undo)} for one in waits]
-        show_json([one | {"asked": what, "answer": text} for one, text in zip(told, said)])
-    for one, text in zip(waits, said) if not words.json else ():
-        if isinstance(text, str):  # somebody else was faster
+    if options.json:
+        steps = [
+            {"key": entry.key, "step": entry.step, "kind": kind_of(entry.undo)} for entry in waits
+        ]
+        show_json(
+            [entry | {"asked": command, "answer": text} for entry, text in zip(steps, outcomes)]
+        )
+    for entry, text in zip(waits, outcomes) if not options.json else ():
+        if isinstance(text, str):  # another request was faster
             complain(text)
         else:
-            print(f"{one.key}: {one.step}{f' {done}' if text else f': {WAITS}'}")
-    return NO if any(isinstance(text, str) for text in said) else GOOD
+            print(f"{entry.key}: {entry.step}{f' {done}' if text else f': {WAITS}'}")
+    return NO if any(isinstance(text, str) for text in outcomes) else GOOD
 
 
 def kind_of(undo: bool) -> str:
-    """What an attempt does for its step."""
+    """Return the kind of an attempt: `undo` or `run`."""
     return "undo" if undo else "run"
 
 
-def report_of(words: argparse.Namespace) -> Json:
-    """Which step is meant, and why."""
-    early = getattr(words, "early", True) and not words.all  # those of --all are under way
-    value = step_arguments(words.step, kind_of(words.undo), early)
-    return value | ({"note": words.note} if words.note else {})
+def report_of(options: argparse.Namespace) -> Json:
+    """Return the common fields of a report: the step and the note."""
+    early = getattr(options, "early", True) and not options.all  # those of --all are under way
+    value = step_arguments(options.step, kind_of(options.undo), early)
+    return value | ({"note": options.note} if options.note else {})

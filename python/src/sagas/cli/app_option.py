@@ -17,39 +17,41 @@ HELP = (
 )
 
 
-def words_of_app(part: argparse.ArgumentParser) -> argparse.ArgumentParser:
+def add_app_option(part: argparse.ArgumentParser) -> argparse.ArgumentParser:
     """Add the option; return the parser."""
     part.add_argument("--app", metavar="MODULE:NAME", help=HELP)
     return part
 
 
-def read_by(words: argparse.Namespace) -> Read:
-    """Return what reads a value for a command that shows it. Raises `Trouble`, as what it returns
-    does where a value cannot be decoded."""
-    payloads = payloads_of(words)
+def read_by(options: argparse.Namespace) -> Read:
+    """Return a function that decodes a stored value for display.
+
+    Raises `Trouble`. So does the function if a value cannot be decoded.
+    """
+    payloads = payloads_of(options)
 
     def read(text: str) -> Any:
         try:
             return payloads.read(text)
         except CannotDecode as error:
-            told = "" if payloads.codec else ". Name the codec of the store by --app MODULE:NAME"
+            advice = "" if payloads.codec else ". Pass the codec of the store: --app MODULE:NAME"
             why = str(error) if payloads.codec else "the values of this store are encoded"
-            raise Trouble(f"{why}{told}", CANNOT) from error
+            raise Trouble(f"{why}{advice}", CANNOT) from error
 
     return read
 
 
-def payloads_of(words: argparse.Namespace) -> Payloads:
+def payloads_of(options: argparse.Namespace) -> Payloads:
     """Return how values are stored. Raises `Trouble`."""
-    place = words.app
-    if place is None:
+    location = options.app
+    if location is None:
         return PLAIN
     try:
-        found = loaded("--app", place)
-        return checked(getattr(found, "codec", found))
+        value = loaded("--app", location)
+        return checked(getattr(value, "codec", value))
     except ValueError as error:
         raise Trouble(str(error), 2) from error
     except TypeError as error:
         raise Trouble(
-            f"--app {place}: must be a store made by sagas.open, a client or a codec", 2
+            f"--app {location}: must be a store made by sagas.open, a client or a codec", 2
         ) from error

@@ -25,7 +25,7 @@ from sagas.storage.admin import Trouble
 Attempt = tuple[int, int, str, int]
 """id, step, action, number"""
 Standing = tuple[str | None, Any, bool, bool]
-"""phase, outcome, recovered, undo_failed: as the row of a saga has them"""
+"""The phase, outcome, recovered and undo_failed columns of a saga's row."""
 SHARDS = "SELECT shard, name, closed FROM shards ORDER BY shard"
 SAGAS = """
 SELECT id, key, definition_index, phase, outcome, recovered, undo_failed FROM sagas
@@ -33,19 +33,19 @@ WHERE id >= ? AND id < ? ORDER BY id
 """
 ATTEMPTS = "SELECT id, step, action, number, event FROM attempts WHERE id >= ? AND id < ?"
 TRANSACTION = "ok"
-"""The event of a row that a step's own transaction wrote, until the shard has that event."""
+"""The event of a row that a step's own transaction wrote, until the shard has the event."""
 MOST_SHOWN = 8
 
 
 class Events:
-    """What the events of a shard say.
+    """The content of a shard's event log.
 
     Attributes:
         first: The id of its first saga.
-        places: Of each saga the place of its definition, by id.
-        attempts: The event to which each attempt came.
-        under_way: The attempts that have begun and are not over.
-        standings: How each saga stands for the engine, by id.
+        places: The index of each saga's definition, by the saga's id.
+        attempts: The event that ended each attempt.
+        under_way: The attempts that have begun and have not ended.
+        standings: The state of each saga according to the engine, by id.
     """
 
     def __init__(self, log: int, text: str) -> None:
@@ -56,24 +56,24 @@ class Events:
         counts: dict[tuple[int, int, str], int] = {}
         running: dict[tuple[int, int], Attempt] = {}
         for event in json.loads(f"[{','.join(text.splitlines())}]"):
-            word, id = event["event"], self.first + event["saga"]
-            if word == "open":
+            name, id = event["event"], self.first + event["saga"]
+            if name == "open":
                 self.places[id] = event["def"]
-            elif word in STARTS:
-                key = id, event["step"], "undo" if STARTS[word] else "run"
+            elif name in STARTS:
+                key = id, event["step"], "undo" if STARTS[name] else "run"
                 counts[key] = counts.get(key, 0) + 1
                 running[key[:2]] = *key, counts[key]
-            elif word in EVENT_STATES:
-                self.attempts[running.pop((id, event["step"]))] = word
+            elif name in EVENT_STATES:
+                self.attempts[running.pop((id, event["step"]))] = name
         self.under_way = {*running.values()}
 
-    def ask(self, given: program.Texts) -> None:
-        """Asks the engine how each saga stands behind these events. Raises `Trouble`."""
+    def ask(self, texts: program.Texts) -> None:
+        """Ask the engine for the state of each saga after these events. Raises `Trouble`."""
         if not self.places:
             return
-        log, *definitions = given.paths
-        asked = "".join(f"{protocol.show_line(id - self.first)}\n" for id in self.places)
-        done = ran(["drive", "--lines", "--from", log, *definitions], given, asked)
+        log, *definitions = texts.paths
+        requests = "".join(f"{protocol.show_line(id - self.first)}\n" for id in self.places)
+        done = ran(["drive", "--lines", "--from", log, *definitions], texts, requests)
         replies = [line for line in done.stdout.splitlines() if line.startswith(protocol.REPLY)]
         if done.returncode != GOOD or len(replies) != len(self.places):
             raise Trouble(f"sagas drive: {(done.stderr or done.stdout).strip()}", CANNOT)
@@ -81,7 +81,7 @@ class Events:
 
 
 def standing(reply: str) -> Standing:
-    """How a saga stands, by the engine's reply to `show`, as a row has it."""
+    """Return the state of a saga from the engine's reply to `show`, as a row has it."""
     phase, text = protocol.standing(reply)
     if not EnginePhase(phase).is_over:
         return None, None, False, False
@@ -91,23 +91,27 @@ def standing(reply: str) -> Standing:
 
 
 def ran(
-    words: list[str], given: program.Texts, asked: str = ""
+    arguments: list[str], texts: program.Texts, requests: str = ""
 ) -> subprocess.CompletedProcess[str]:
-    """Runs the program over texts that it was given."""
+    """Run the program over texts that are passed as files."""
     return subprocess.run(
-        [program.path(), *words],
-        input=asked,
+        [program.path(), *arguments],
+        input=requests,
         capture_output=True,
         text=True,
         check=False,
-        pass_fds=given.files,
+        pass_fds=texts.files,
     )
 
 
 @dataclasses.dataclass
-class Judged:
-    """A shard: what `sagas audit` says of its events, whether that is yes, and where its rows
-    differ from them.
+class ShardAudit:
+    """The audit of a shard.
+
+    Attributes:
+        said: What `sagas audit` prints about its events.
+        is_allowed: Whether it accepts them.
+        differences: Where the rows of the shard differ from its events.
     """
 
     said: str
@@ -119,60 +123,62 @@ class Judged:
         return self.is_allowed and not self.differences
 
 
-def judge(store: Snapshot, log: int) -> Judged:
-    """Verifies the events of a shard, and then compares its rows with them. Raises `Trouble`."""
+def audit_shard(store: Snapshot, log: int) -> ShardAudit:
+    """Verify the events of a shard, and compare its rows with them. Raises `Trouble`."""
     texts = [text for _, text in store.rows(queries.TEXTS, log, log)]
     lines, _ = queries.joined(store.rows(queries.LINES, log))
-    with contextlib.closing(program.Texts([protocol.HEADER + lines, *texts])) as given:
-        done = ran(["audit", *given.paths], given)
-        found = Judged((done.stdout or done.stderr).strip(), done.returncode == GOOD)
-        if not found.is_allowed:
-            return found
+    with contextlib.closing(program.Texts([protocol.HEADER + lines, *texts])) as opened:
+        done = ran(["audit", *opened.paths], opened)
+        result = ShardAudit((done.stdout or done.stderr).strip(), done.returncode == GOOD)
+        if not result.is_allowed:
+            return result
         events = Events(log, lines)
-        events.ask(given)
+        events.ask(opened)
     rows = store.rows(SAGAS, *queries.bounds(log))
     keys: dict[int, str] = {id: key for id, key, *_ in rows}
-    found.differences += compare_sagas(rows, events)
-    found.differences += [
-        f"saga {id}: events, and no row" for id in events.places if id not in keys
+    result.differences += compare_sagas(rows, events)
+    result.differences += [
+        f"saga {id}: has events but no row" for id in events.places if id not in keys
     ]
-    found.differences += compare_attempts(store, log, events, keys, texts)
-    return found
+    result.differences += compare_attempts(store, log, events, keys, texts)
+    return result
 
 
 def compare_sagas(rows: Sequence[Row], events: Events) -> list[str]:
-    """Where the rows of sagas differ from the events: definition, phase and outcome."""
-    found = []
-    for id, key, place, phase, outcome, recovered, undo_failed in rows:
+    """Return where rows of sagas differ from the events: definition, phase and outcome."""
+    differences = []
+    for id, key, index, phase, outcome, recovered, undo_failed in rows:
         if id not in events.places:
-            found.append(f"{key}: a row, and no events")
+            differences.append(f"{key}: has a row but no events")
             continue
-        if place != events.places[id]:
-            found.append(f"{key}: the row has definition {place}, the events {events.places[id]}")
+        if index != events.places[id]:
+            differences.append(
+                f"{key}: the row has definition {index}, the events {events.places[id]}"
+            )
         row = phase, parsed(outcome), bool(recovered), bool(undo_failed)
-        told = events.standings[id]
-        if row != told:
+        standing_of_events = events.standings[id]
+        if row != standing_of_events:
             says = f"{key}: the row says {phase_of(row)}"
-            is_other_phase = phase_of(row) != phase_of(told)
-            found.append(
-                f"{says}, the events say {phase_of(told)}"
+            is_other_phase = phase_of(row) != phase_of(standing_of_events)
+            differences.append(
+                f"{says}, the events say {phase_of(standing_of_events)}"
                 if is_other_phase
                 else f"{says} with another outcome than the events"
             )
-    return found
+    return differences
 
 
 def parsed(outcome: str | None) -> Any:
-    """What an outcome says; the text, where it is no JSON."""
+    """Return a parsed outcome, or its text if it is not JSON."""
     try:
         return None if outcome is None else json.loads(outcome)
     except ValueError:
         return outcome
 
 
-def phase_of(one: Standing) -> str:
-    """The phase of a saga, in the words of `list`."""
-    phase, _, recovered, _ = one
+def phase_of(saga: Standing) -> str:
+    """Return the phase of a saga, in the words of `list`."""
+    phase, _, recovered, _ = saga
     is_known = phase in (None, EnginePhase.ENDED, EnginePhase.STUCK)
     return saga_phase(phase, recovered, None).value if is_known else repr(phase)
 
@@ -180,7 +186,7 @@ def phase_of(one: Standing) -> str:
 def compare_attempts(
     store: Snapshot, log: int, events: Events, keys: dict[int, str], texts: list[str]
 ) -> list[str]:
-    """Where the rows of attempts differ from the events: which attempts are over, and how."""
+    """Return where rows of attempts differ from the events: which have ended, and how."""
     rows: dict[Attempt, str] = {
         (id, step, action, count): event
         for id, step, action, count, event in store.rows(ATTEMPTS, *queries.bounds(log))
@@ -189,70 +195,71 @@ def compare_attempts(
     if rows == events.attempts:
         return []
     names = [step_names(text) for text in texts]
-    found = []
+    differences = []
     for attempt in sorted(rows.keys() | events.attempts.keys(), key=in_order):
-        row, told = rows.get(attempt), events.attempts.get(attempt)
-        if row != told:
+        row, event_of_log = rows.get(attempt), events.attempts.get(attempt)
+        if row != event_of_log:
             id, step, action, count = attempt
             listed = dict(enumerate(names[events.places[id]] if id in events.places else ()))
-            where = f"{keys.get(id, f'saga {id}')}: {listed.get(step, step)}, {action} {count}"
-            found.append(
-                f"{where}: the row says {row or 'nothing'}, the events {told or 'nothing'}"
+            location = f"{keys.get(id, f'saga {id}')}: {listed.get(step, step)}, {action} {count}"
+            differences.append(
+                f"{location}: the row says {row or 'nothing'}, "
+                f"the events {event_of_log or 'nothing'}"
             )
-    return found
+    return differences
 
 
 def in_order(attempt: Attempt) -> tuple[int, list[str]]:
-    """For the order of attempts, also of rows that somebody has spoilt."""
-    return attempt[0], [str(word).zfill(4) for word in attempt[1:]]
+    """Return the sort key of an attempt. Rows may hold values of any type."""
+    return attempt[0], [str(part).zfill(4) for part in attempt[1:]]
 
 
-def audit(path: str, words: argparse.Namespace) -> int:
+def audit(path: str, options: argparse.Namespace) -> int:
     """Verify every event of every shard, and compare the events with the rows.
 
     The rows must have the same definition, phase and outcome of each saga, and the same end of each
     attempt. Inputs, results and errors are only in the rows.
     """
-    told = []
+    reports = []
     with Snapshot(path) as store:
         logs = store.rows(SHARDS)
         progress = Progress("shards", len(logs))
         for done, (log, name, closed) in enumerate(logs, 1):
-            one = judge(store, log)
-            told.append(
+            result = audit_shard(store, log)
+            reports.append(
                 {
                     "shard": log,
                     "name": name,
                     "closed": bool(closed),
-                    "good": one.is_good,
-                    "audit": one.said,
-                    "differences": one.differences,
+                    "good": result.is_good,
+                    "audit": result.said,
+                    "differences": result.differences,
                 }
             )
             progress.at(done)
-    if words.json:
-        show_json(told)
+    if options.json:
+        show_json(reports)
     else:
-        show(told)
-    return GOOD if all(one["good"] for one in told) else NO
+        show(reports)
+    return GOOD if all(result["good"] for result in reports) else NO
 
 
-def show(told: list[dict[str, Any]]) -> None:
-    """Prints what was found, for a person."""
+def show(reports: list[dict[str, Any]]) -> None:
+    """Print the results of an audit."""
     heads = ["SHARD", "NAME", "CLOSED", "GOOD", "AUDIT"]
     rows = [
         (
-            one["shard"],
-            one["name"],
-            "yes" if one["closed"] else "no",
-            "yes" if one["good"] else "NO",
-            one["audit"],
+            report["shard"],
+            report["name"],
+            "yes" if report["closed"] else "no",
+            "yes" if report["good"] else "NO",
+            report["audit"],
         )
-        for one in told
+        for report in reports
     ]
     print(table(heads, rows))
-    for one in told:
-        for line in one["differences"][:MOST_SHOWN]:
-            print(escaped(f"shard {one['shard']}: {line}"))
-        if (more := len(one["differences"]) - MOST_SHOWN) > 0:
-            print(f"shard {one['shard']}: {number(more, 'more difference')}; --json has all")
+    for report in reports:
+        for line in report["differences"][:MOST_SHOWN]:
+            print(escaped(f"shard {report['shard']}: {line}"))
+        if (more := len(report["differences"]) - MOST_SHOWN) > 0:
+            print(f"shard {report['shard']}: {number(more, 'more difference')}; --json lists all")

@@ -21,7 +21,7 @@ from sagas.storage.filters import Filter
 
 Json = dict[str, Any]
 UNCLAIMED = 60.0
-"""Seconds after which a task that no worker has claimed is listed: by then one would have asked."""
+"""Seconds after which an unclaimed task is listed. Usually, a worker polls within this time."""
 NEEDS = {
     AttentionReason.STUCK: "stuck",
     AttentionReason.UNDO_FAILED: "undo failed",
@@ -31,130 +31,132 @@ NEEDS = {
     AttentionReason.UNUSED_REPORT: "unused report",
     AttentionReason.DAMAGED: "damaged shard",
 }
-"""Why a saga needs a person, in words."""
+"""Why a saga needs an operator, in words."""
 
 
-def held_json(one: Waits) -> Json:
-    """A held attempt, for programs."""
-    is_leased = one.why == "external"
+def held_json(wait: Waits) -> Json:
+    """Return a suspended attempt as JSON."""
+    is_leased = wait.why == "external"
     return {
-        "key": one.key,
-        "step": one.step,
-        "kind": "undo" if one.undo else "run",
-        "attempt": one.attempt,
-        "why": one.why,
-        "count": one.count,
-        "since": one.since,
-        "until": one.until,
-        "error": None if is_leased else one.said,
-        "worker": one.said if is_leased else None,
+        "key": wait.key,
+        "step": wait.step,
+        "kind": "undo" if wait.undo else "run",
+        "attempt": wait.attempt,
+        "why": wait.why,
+        "count": wait.count,
+        "since": wait.since,
+        "until": wait.until,
+        "error": None if is_leased else wait.said,
+        "worker": wait.said if is_leased else None,
     }
 
 
 def start_json(key: str, saga: str, version: int, at: float) -> Json:
-    """A start that a client left and no node has taken, for programs."""
-    told: Json = {"key": key, "step": None, "kind": "start", "attempt": None, "why": "node"}
-    told |= {"count": 0, "since": at, "until": None, "error": None, "worker": None}
-    return told | {"saga": saga, "version": version}
+    """Return a client's start that no node has accepted, as JSON."""
+    start: Json = {"key": key, "step": None, "kind": "start", "attempt": None, "why": "node"}
+    start |= {"count": 0, "since": at, "until": None, "error": None, "worker": None}
+    return start | {"saga": saga, "version": version}
 
 
 def show_held(held: Sequence[Json]) -> None:
-    """Prints what is held."""
+    """Print suspended attempts as a table."""
     heads = ["KEY", "STEP", "KIND", "ATTEMPT", "WAITS FOR", "SINCE", "UNTIL", "DETAIL"]
     cells = []
-    for one in held:
-        what = one["key"], one["step"] or "", one["kind"], one["attempt"] or ""
-        times = moment(one["since"]), moment(one["until"])
-        cells.append((*what, waits_for(one), *times, short(one["error"])))
+    for entry in held:
+        columns = entry["key"], entry["step"] or "", entry["kind"], entry["attempt"] or ""
+        times = moment(entry["since"]), moment(entry["until"])
+        cells.append((*columns, waits_for(entry), *times, short(entry["error"])))
     print(table(heads, cells))
 
 
-def waits_for(one: Json) -> str:
-    """Whom a held attempt waits for."""
-    why, until = one["why"], one["until"]
+def waits_for(entry: Json) -> str:
+    """Describe what a suspended attempt waits for."""
+    why, until = entry["why"], entry["until"]
     if why == "unknown":
-        times = f" ({number(one['count'], 'time')})"
+        times = f" ({number(entry['count'], 'time')})"
         if until is None:
-            return f"a person: unknown outcome{times}"
+            return f"an operator: unknown outcome{times}"
         return f"its next attempt: unknown outcome{times}"
     if why == AttentionReason.EXHAUSTED:
-        return "a person: its attempts are used up"
+        return "an operator: its attempts are used up"
     if why == "retry":
-        return f"its next attempt: it failed ({number(one['count'], 'time')})"
+        return f"its next attempt: it failed ({number(entry['count'], 'time')})"
     if why == AttentionReason.CANNOT_DECODE:
         return "a program that can read its stored values"
     if why == "external":
         if until > time.time():
-            return f"a worker: {one['worker']} has it"
-        return f"a worker: the lease of {one['worker']} ended"
+            return f"a worker: {entry['worker']} has it"
+        return f"a worker: the lease of {entry['worker']} ended"
     if why == "worker":
-        return f"a worker: none has claimed it for {span(time.time() - one['since'])}"
+        return f"a worker: none has claimed it for {span(time.time() - entry['since'])}"
     if why == "node":
-        return f"a node with {one['saga']} version {one['version']}"
+        return f"a node with {entry['saga']} version {entry['version']}"
     return WAITS_FOR.get(why, why)
 
 
-def stats(path: str, words: argparse.Namespace) -> int:
+def stats(path: str, options: argparse.Namespace) -> int:
     """Count sagas by name and phase."""
     with Snapshot(path) as store:
-        name, told = store.link.name, store.ask(lists.counts())
-        asked = store.ask(lists.asked())
-    undo_failed = asked["undo_failed"]
-    persons = sum(asked[why] for why in ("unknown", "exhausted", "cannot_decode", "approval"))
-    if words.json:
+        name, counted = store.link.name, store.ask(lists.counts())
+        needed = store.ask(lists.attention_counts())
+    undo_failed = needed["undo_failed"]
+    persons = sum(needed[why] for why in ("unknown", "exhausted", "cannot_decode", "approval"))
+    if options.json:
         counts = {"undo_failed": undo_failed, "attention_required": persons}
-        counts |= {"unused_report": asked["unused_report"]}
-        show_json({"sagas": told, **counts, "damaged": asked["damaged"]})
+        counts |= {"unused_report": needed["unused_report"]}
+        show_json({"sagas": counted, **counts, "damaged": needed["damaged"]})
         return GOOD
-    rows = [(saga, *of.values()) for saga, of in told.items()]
+    rows = [(saga, *phases.values()) for saga, phases in counted.items()]
     print(table(["SAGA", *map(str.upper, COUNTED)], rows))
-    command, said = f"sagas store {name}", []
+    command, notes = f"sagas store {name}", []
     if undo_failed:
-        said.append(
+        notes.append(
             f"{undo_failed} with a permanently failed compensation: {command} list "
             "--phase undo_failed"
         )
-    if unused := asked["unused_report"]:
-        said.append(f"{unused} with a report that was not used: {command} attention")
+    if unused := needed["unused_report"]:
+        notes.append(f"{unused} with a report that was not used: {command} attention")
     if persons:
         wait = "waits" if persons == 1 else "wait"
-        said.append(f"{persons} {wait} for a person: {command} pending")
-    if damaged := asked["damaged"]:
-        said.append(f"{damaged} in damaged shards: {command} attention")
-    if said:
-        print("\n" + "\n".join(said))
+        notes.append(f"{persons} {wait} for an operator: {command} pending")
+    if damaged := needed["damaged"]:
+        notes.append(f"{damaged} in damaged shards: {command} attention")
+    if notes:
+        print("\n" + "\n".join(notes))
     return GOOD
 
 
-def definitions(path: str, words: argparse.Namespace) -> int:
+def definitions(path: str, options: argparse.Namespace) -> int:
     """Count the sagas of each version of each definition.
 
-    UNDOABLE are those that have completed as children, and that an open saga may undo.
+    UNDOABLE sagas have completed as children, and an open saga may undo them.
     """
     with Snapshot(path) as store:
-        found = store.ask(lists.definitions())
-    if words.json:
-        show_json([dataclasses.asdict(one) for one in found])
+        counts = store.ask(lists.definitions())
+    if options.json:
+        show_json([dataclasses.asdict(count) for count in counts])
     else:
-        rows = [(one.saga, one.version, one.open, one.undoable, one.total) for one in found]
+        rows = [
+            (count.saga, count.version, count.open, count.undoable, count.total) for count in counts
+        ]
         print(table(["SAGA", "VERSION", "OPEN", "UNDOABLE", "TOTAL"], rows))
     return GOOD
 
 
-def stuck(path: str, words: argparse.Namespace) -> int:
-    """List the stuck sagas that nobody has resolved."""
+def stuck(path: str, options: argparse.Namespace) -> int:
+    """List the unresolved stuck sagas."""
     with Snapshot(path) as store:
-        name, found = store.link.name, store.ask(lists.stuck(lists.ALL))
+        name, listed = store.link.name, store.ask(lists.stuck(lists.ALL))
         undo_failed = store.ask(lists.count(Filter("undo_failed")))
-    if words.json:
+    if options.json:
         show_json(
             [
-                {"key": one.key, "saga": one.saga, "ended": one.ended, "blocking_steps": chain}
-                for one, chain in found
+                {"key": saga.key, "saga": saga.saga, "ended": saga.ended, "blocking_steps": chain}
+                for saga, chain in listed
             ]
         )
         return GOOD
-    rows = [(one.key, one.saga, moment(one.ended), " needs ".join(c)) for one, c in found]
+    rows = [(saga.key, saga.saga, moment(saga.ended), " needs ".join(c)) for saga, c in listed]
     print(table(["KEY", "SAGA", "STUCK SINCE", "BECAUSE"], rows))
     if undo_failed:
         print(
@@ -164,48 +166,56 @@ def stuck(path: str, words: argparse.Namespace) -> int:
     return GOOD
 
 
-def attention(path: str, words: argparse.Namespace) -> int:
-    """List what needs a person.
+def attention(path: str, options: argparse.Namespace) -> int:
+    """List what needs an operator.
 
-    That is: stuck sagas, failed compensations, reports that were not used, attempts that are used
-    up, unknown outcomes that are not repeated, and stored values that no program could read.
+    These are stuck sagas, failed compensations, unused reports, steps whose attempts are used
+    up, unknown outcomes that are not retried, stored values that no program could read, and
+    sagas of damaged shards.
     """
     with Snapshot(path) as store:
-        entries = store.ask(lists.attention(words.limit or lists.ALL))
-    if words.json:
-        show_json([dataclasses.asdict(one) for one in entries])
+        entries = store.ask(lists.attention(options.limit or lists.ALL))
+    if options.json:
+        show_json([dataclasses.asdict(entry) for entry in entries])
         return GOOD
     cells = [
-        (one.key, one.saga, NEEDS[one.why], _meant(one), moment(one.since), short(_detail(one)))
-        for one in entries
+        (
+            entry.key,
+            entry.saga,
+            NEEDS[entry.why],
+            _meant(entry),
+            moment(entry.since),
+            short(_detail(entry)),
+        )
+        for entry in entries
     ]
     print(table(["KEY", "SAGA", "WHY", "STEP", "SINCE", "DETAIL"], cells))
     return GOOD
 
 
-def _detail(one: Attention) -> str | None:
-    """What is said of it; of a report that was not used its result, and who reported it."""
-    if one.why is not AttentionReason.UNUSED_REPORT:
-        return one.detail
-    return f"{one.detail} by {one.by}" if one.by else one.detail
+def _detail(entry: Attention) -> str | None:
+    """Return the detail of an entry; for an unused report, its result and reporter."""
+    if entry.why is not AttentionReason.UNUSED_REPORT:
+        return entry.detail
+    return f"{entry.detail} by {entry.by}" if entry.by else entry.detail
 
 
-def _meant(one: Attention) -> str:
-    """The step, or its compensation."""
-    return "" if one.step is None else f"{one.step} (undo)" if one.undo else one.step
+def _meant(entry: Attention) -> str:
+    """Return the step's name, with `(undo)` for its compensation."""
+    return "" if entry.step is None else f"{entry.step} (undo)" if entry.undo else entry.step
 
 
-def pending(path: str, words: argparse.Namespace) -> int:
-    """List what waits: for a person, a worker, a time, a child saga or a node.
+def pending(path: str, options: argparse.Namespace) -> int:
+    """List what waits for an operator, a worker, a time, a child saga or a node.
 
-    Failed attempts that repeat are not listed. Tasks for workers are if one has claimed them, or
-    none has for a minute.
+    Failed attempts that will be retried are not listed. A task for workers is listed if a
+    worker has claimed it, or none has for a minute.
     """
     with Snapshot(path) as store:
         waits = lists.waits(lists.ALL, person=False, offered_before=time.time() - UNCLAIMED)
-        held = [held_json(one) for one in store.ask(waits)]
+        held = [held_json(wait) for wait in store.ask(waits)]
         held += [start_json(*row) for row in store.link.starts()]
-    if words.json:
+    if options.json:
         show_json(held)
     else:
         show_held(held)

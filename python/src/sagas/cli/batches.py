@@ -1,4 +1,4 @@
-"""`resolve`, and the commands to all sagas of a filter."""
+"""`resolve`, and the commands that apply to all sagas of a filter."""
 
 from __future__ import annotations
 
@@ -19,144 +19,146 @@ from sagas.storage.batches import Batch, resolve_one
 from sagas.storage.filters import Filter
 
 WAITS = "requested; it takes effect when its program handles it"
-LEFT_OUT = "left out, because it undoes a child"
+LEFT_OUT = "skipped, because it undoes a child"
 
 
-def words_of_filter(part: argparse.ArgumentParser, what: str) -> None:
-    """The options that say which sagas are meant."""
-    part.add_argument("--saga", metavar="NAME", help=f"{what}only sagas of this name")
+def add_filter_options(part: argparse.ArgumentParser, prefix: str) -> None:
+    """Add the options that select sagas."""
+    part.add_argument("--saga", metavar="NAME", help=f"{prefix}only sagas of this name")
     part.add_argument(
         "--label",
         metavar="NAME=VALUE",
         action="append",
         default=[],
-        help=f"{what}only sagas with this label; repeat it for several labels",
+        help=f"{prefix}only sagas with this label; repeat it for several labels",
     )
 
 
-def words_of_limit(part: argparse.ArgumentParser, what: str) -> None:
-    """The option that says how many are listed."""
+def add_limit_option(part: argparse.ArgumentParser, noun: str) -> None:
+    """Add the option for the maximum number of rows."""
     part.add_argument(
         "--limit",
         type=integer_from(0),
         default=100,
         metavar="N",
-        help=f"maximum number of {what}; 0: no limit (default: 100)",
+        help=f"maximum number of {noun}; 0: no limit (default: 100)",
     )
 
 
-def filter_of(words: argparse.Namespace) -> Filter:
-    """The filter of these options. Raises `Trouble`."""
+def filter_of(options: argparse.Namespace) -> Filter:
+    """Return the filter that the options describe. Raises `Trouble`."""
     labels: dict[str, str] = {}
-    for told in words.label:
-        name, equals, value = told.partition("=")
+    for label in options.label:
+        name, equals, value = label.partition("=")
         if not equals:
-            raise Trouble(f"--label {told}: must be NAME=VALUE", 2)
+            raise Trouble(f"--label {label}: must be NAME=VALUE", 2)
         if labels.setdefault(name, value) != value:
-            raise Trouble(f"--label {told}: a label has one value, and this is a second one", 2)
+            raise Trouble(f"--label {label}: a label can have only one value", 2)
     try:
-        return Filter(saga=words.saga or None, labels=labels_module.checked(labels))
+        return Filter(saga=options.saga or None, labels=labels_module.checked(labels))
     except InvalidLabel as error:
         raise Trouble(f"--label: {error}", 2) from error
 
 
-def check_keys(words: argparse.Namespace, has_keys: bool) -> None:
-    """Raises `Trouble` where neither keys nor --all say which sagas are meant, or both do."""
-    if has_keys == words.all:
-        raise Trouble(
-            "give the keys of the sagas, or --all for every saga of --saga and --label", 2
-        )
-    if has_keys and (words.label or words.saga):
-        raise Trouble("--saga and --label need --all", 2)
+def check_keys(options: argparse.Namespace, has_keys: bool) -> None:
+    """Raise `Trouble` unless either keys or --all select the sagas."""
+    if has_keys == options.all:
+        raise Trouble("pass the keys of sagas, or --all for every saga of --saga and --label", 2)
+    if has_keys and (options.label or options.saga):
+        raise Trouble("--saga and --label require --all", 2)
 
 
-def abort_all(path: str, words: argparse.Namespace) -> int:
-    """Says how many sagas that are; with --yes aborts them."""
+def abort_all(path: str, options: argparse.Namespace) -> int:
+    """Count the sagas of the filter; with --yes, abort them."""
     with admin.writing(path) as link:
-        batch = Batch(link, of := filter_of(words))
-        if not words.yes:
+        batch = Batch(link, sagas := filter_of(options))
+        if not options.yes:
             count, left_out = batch.abort_count(), batch.undoing_count()
-            warn_of(path, of, is_needed=not count + left_out)
-            return show_count(words, count, "--yes aborts", left_out=left_out)
-        found = batch.abort({"note": words.note} if words.note else None, words.timeout)
-    warn_of(path, of, is_needed=not (found.done or found.refused or found.waiting))
-    answers: dict[str, object] = dict.fromkeys(found.done, True)
-    answers |= dict.fromkeys(found.waiting) | found.refused
-    answers |= dict.fromkeys(found.undoing, LEFT_OUT)
-    if words.json:
-        show_json([{"key": key, "asked": "abort", "answer": one} for key, one in answers.items()])
+            warn_of(path, sagas, is_needed=not count + left_out)
+            return show_count(options, count, "--yes aborts", left_out=left_out)
+        result = batch.abort({"note": options.note} if options.note else None, options.timeout)
+    warn_of(path, sagas, is_needed=not (result.done or result.refused or result.waiting))
+    answers: dict[str, object] = dict.fromkeys(result.done, True)
+    answers |= dict.fromkeys(result.waiting) | result.refused
+    answers |= dict.fromkeys(result.undoing, LEFT_OUT)
+    if options.json:
+        show_json(
+            [{"key": key, "asked": "abort", "answer": answer} for key, answer in answers.items()]
+        )
     else:
-        said = dict.fromkeys(found.done, "aborted") | dict.fromkeys(found.waiting, WAITS)
-        said |= found.refused | dict.fromkeys(found.undoing, LEFT_OUT)
-        for key, text in said.items():
+        lines = dict.fromkeys(result.done, "aborted") | dict.fromkeys(result.waiting, WAITS)
+        lines |= result.refused | dict.fromkeys(result.undoing, LEFT_OUT)
+        for key, text in lines.items():
             print(f"{key}: {escaped(text)}")
-    return NO if found.refused else GOOD
+    return NO if result.refused else GOOD
 
 
-def warn_of(path: str, of: Filter, is_needed: bool, step: str | None = None) -> None:
-    """Says of a filter that selects nothing which labels no saga has, and no definition's step."""
-    if is_needed and (of.labels or step):
+def warn_of(path: str, sagas: Filter, is_needed: bool, step: str | None = None) -> None:
+    """Warn about labels and steps that nothing has, if the filter selects nothing."""
+    if is_needed and (sagas.labels or step):
         with Snapshot(path) as store:
-            for warning in store.ask(unmatched.of(of, step)):
+            for warning in store.ask(unmatched.of(sagas, step)):
                 complain(warning)
 
 
 def show_count(
-    words: argparse.Namespace, count: int, remedy: str, what: str = "saga", left_out: int = 0
+    options: argparse.Namespace, count: int, remedy: str, noun: str = "saga", left_out: int = 0
 ) -> int:
-    """Says how many sagas, or steps, are meant, and by what they are changed. `left_out`: how many
-    sagas are not, because they undo children."""
-    if words.json:
+    """Print how many sagas or steps are selected, and the option that changes them.
+
+    `left_out`: how many sagas are excluded because they undo children.
+    """
+    if options.json:
         show_json({"count": count} | ({"undoing": left_out} if left_out else {}))
     else:
-        them = "it" if count == 1 else "them"
-        print(f"{number(count, what)}" + (f": {remedy} {them}" if count else ""))
+        pronoun = "it" if count == 1 else "them"
+        print(f"{number(count, noun)}" + (f": {remedy} {pronoun}" if count else ""))
         if left_out:
             undoes = "it undoes a child" if left_out == 1 else "they undo children"
-            print(f"{number(left_out, 'saga')} left out, because {undoes}")
+            print(f"{number(left_out, 'saga')} skipped, because {undoes}")
     return GOOD
 
 
-def resolve(path: str, words: argparse.Namespace) -> int:
-    """Mark sagas as resolved that are stuck, or have a failed compensation or unused report."""
-    check_keys(words, bool(words.key))
-    if words.key and words.count:
-        raise Trouble("--count needs --all", 2)
-    if not words.note.strip():
-        raise Trouble("--note must not be empty. Say what was done about it", 2)
+def resolve(path: str, options: argparse.Namespace) -> int:
+    """Mark stuck sagas, failed compensations and unused reports as resolved."""
+    check_keys(options, bool(options.key))
+    if options.key and options.count:
+        raise Trouble("--count requires --all", 2)
+    if not options.note.strip():
+        raise Trouble("--note must not be empty. Describe what was done", 2)
     with admin.writing(path) as link:
-        if words.all:
-            batch = Batch(link, of := filter_of(words))
-            if words.count:
+        if options.all:
+            batch = Batch(link, sagas := filter_of(options))
+            if options.count:
                 count = batch.resolve_count()
-                warn_of(path, of, is_needed=not count)
-                return show_count(words, count, "without --count resolves")
-            done = batch.resolve(words.note, None).done
-            warn_of(path, of, is_needed=not done)
+                warn_of(path, sagas, is_needed=not count)
+                return show_count(options, count, "without --count resolves")
+            done = batch.resolve(options.note, None).done
+            warn_of(path, sagas, is_needed=not done)
         else:
             with link.transaction():
-                done = [key for key in words.key if resolve_one(link, key, words.note)]
-    if words.json:
-        told = [{"key": key, "note": words.note} for key in done]
-        show_json(told[0] if len(words.key) == 1 and told else told)
+                done = [key for key in options.key if resolve_one(link, key, options.note)]
+    if options.json:
+        entries = [{"key": key, "note": options.note} for key in done]
+        show_json(entries[0] if len(options.key) == 1 and entries else entries)
     else:
         for key in done:
             print(f"{key}: resolved")
-    if not words.all and (rest := [key for key in words.key if key not in done]):
-        check_same(path, rest, words.note)
+    if not options.all and (rest := [key for key in options.key if key not in done]):
+        check_same(path, rest, options.note)
     return GOOD
 
 
 def check_same(path: str, keys: list[str], note: str) -> None:
-    """Raises `Trouble` for sagas that nobody has to resolve, except those with this note."""
+    """Raise `Trouble` for sagas that cannot be resolved, except those resolved with this note."""
     with Snapshot(path) as store:
-        found = [view for key in keys if (view := store.saga(key)).note != clean(note)]
-    if found:
-        raise Trouble("; ".join(map(why_not, found)))
+        different = [view for key in keys if (view := store.saga(key)).note != clean(note)]
+    if different:
+        raise Trouble("; ".join(map(why_not, different)))
 
 
 def why_not(view: SagaView) -> str:
-    """What is said of a saga that nobody has to resolve."""
+    """Return why a saga cannot be resolved."""
     if view.note is not None:
-        return f"{view.key} is resolved already, and its first note stays"
+        return f"{view.key} is already resolved; its first note is kept"
     return f"{view.key} does not need to be resolved: it is {view.phase}"

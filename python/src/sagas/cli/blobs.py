@@ -1,4 +1,4 @@
-"""`own-blobs`: whose the values in a blob store are."""
+"""`own-blobs`: makes a store the owner of the values in a blob store."""
 
 from __future__ import annotations
 
@@ -16,21 +16,22 @@ from sagas.storage.blob_option import blobs_of
 SECRET = "SELECT value FROM secrets WHERE name = 'leases'"
 
 
-def words_of_blobs(part: argparse.ArgumentParser) -> argparse.ArgumentParser:
+def add_blobs_option(part: argparse.ArgumentParser) -> argparse.ArgumentParser:
     """Add the option; return the parser."""
-    told = "the values: a directory, or a blob store of a module"
-    part.add_argument("--blobs", metavar="DIR|MODULE:NAME", required=True, help=told)
+    help_text = "where the values are: a directory, or a blob store of a module"
+    part.add_argument("--blobs", metavar="DIR|MODULE:NAME", required=True, help=help_text)
     return part
 
 
-def own_blobs(path: str, words: argparse.Namespace) -> int:
-    """Make the values in a blob store those of this store.
+def own_blobs(path: str, options: argparse.Namespace) -> int:
+    """Make this store the owner of the values in a blob store.
 
-    For a store that was restored or copied, and replaces the other one: stop that one first, or
-    give it a blob store of its own. From then on this store deletes values to which it has no row.
+    Use this for a store that was restored or copied and replaces the original one. First stop
+    the original, or give it another blob store. From then on, this store deletes values that
+    none of its rows refers to.
     """
     try:
-        store = blobs_of(words.blobs)
+        store = blobs_of(options.blobs)
         check(store, LEAST)
     except (ValueError, TypeError) as error:
         raise Trouble(str(error), 2) from error
@@ -40,8 +41,8 @@ def own_blobs(path: str, words: argparse.Namespace) -> int:
         raise Trouble(f"{name}: no program has opened this store with a blob store", CANNOT)
     blobs = Blobs(store, LEAST, PLAIN, name)
     asyncio.run(blobs.mark(path, bytes.fromhex(rows[0][0])).take())
-    if words.json:
-        show_json({"store": name, "blobs": words.blobs})
+    if options.json:
+        show_json({"store": name, "blobs": options.blobs})
     else:
-        print(f"the values in {words.blobs} are those of {name}")
+        print(f"{name} owns the values in {options.blobs}")
     return GOOD

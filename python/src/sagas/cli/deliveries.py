@@ -1,4 +1,4 @@
-"""`deliveries`: lists posts to webhooks, and repeats one."""
+"""`deliveries`: lists the deliveries of webhooks, or repeats one."""
 
 from __future__ import annotations
 
@@ -6,7 +6,7 @@ import argparse
 import contextlib
 import dataclasses
 
-from sagas.cli.batches import words_of_limit
+from sagas.cli.batches import add_limit_option
 from sagas.cli.formatting import GOOD, moment, short, show_json, table
 from sagas.cli.snapshot import Snapshot
 from sagas.inspection import deliveries as questions
@@ -17,42 +17,53 @@ from sagas.storage.admin import Trouble
 from sagas.storage.deliveries import REDELIVER, DeliveryState
 
 
-def words_of_deliveries(part: argparse.ArgumentParser) -> None:
-    """The options of `deliveries`."""
+def add_deliveries_options(part: argparse.ArgumentParser) -> None:
+    """Add the options of `deliveries`."""
     part.add_argument("change", nargs="?", choices=["redeliver"], help="what to do with ID")
     part.add_argument("id", metavar="ID", nargs="?", help="the delivery's id")
     states = [state.value for state in DeliveryState]
     part.add_argument("--state", choices=states, help="only deliveries in this state")
     part.add_argument("--webhook", metavar="NAME", help="only deliveries to this webhook")
-    words_of_limit(part, "deliveries, the newest first")
+    add_limit_option(part, "deliveries, the newest first")
 
 
-def deliveries(path: str, words: argparse.Namespace) -> int:
-    """List the deliveries of webhooks, or have one posted again.
+def deliveries(path: str, options: argparse.Namespace) -> int:
+    """List the deliveries of webhooks, or post one again.
 
-    A service that has the webhook posts it within seconds, with all its attempts.
+    A service with this webhook posts it within seconds, with all its attempts.
     """
-    if (words.change is None) != (words.id is None):
-        raise Trouble("deliveries redeliver: give the id of the delivery", 2)
-    if words.change:
+    if (options.change is None) != (options.id is None):
+        raise Trouble("deliveries redeliver: pass the id of the delivery", 2)
+    if options.change:
         with contextlib.closing(admin.connect(path, "rw")) as link:
-            if not link.ask(REDELIVER.replace(":id", "?"), words.id):
-                raise Trouble(f"no delivery has the id {words.id!r}")
-        told = {"id": words.id, "state": DeliveryState.PENDING.value}
-        show_json(told) if words.json else print(f"{words.id}: {told['state']}")
+            if not link.ask(REDELIVER.replace(":id", "?"), options.id):
+                raise Trouble(f"no delivery has the id {options.id!r}")
+        change = {"id": options.id, "state": DeliveryState.PENDING.value}
+        show_json(change) if options.json else print(f"{options.id}: {change['state']}")
         return GOOD
     with Snapshot(path) as store:
-        found = store.ask(questions.listed(words.state, words.webhook, words.limit or lists.ALL))
-    if words.json:
-        show_json([dataclasses.asdict(one) for one in found])
+        listed = store.ask(
+            questions.listed(options.state, options.webhook, options.limit or lists.ALL)
+        )
+    if options.json:
+        show_json([dataclasses.asdict(delivery) for delivery in listed])
         return GOOD
-    rows = [row_of(one) for one in found]
+    rows = [row_of(delivery) for delivery in listed]
     print(table(["ID", "WEBHOOK", "TYPE", "KEY", "AT", "STATE", "ATTEMPTS", "ANSWER"], rows))
     return GOOD
 
 
-def row_of(one: Delivery) -> tuple[object, ...]:
-    """A delivery as a person reads it."""
-    answer = short(one.error) if one.error else one.status or ""
-    at = moment(one.at)
-    return one.id, one.webhook, one.type, one.key, at, one.state, one.attempts, str(answer)
+def row_of(delivery: Delivery) -> tuple[object, ...]:
+    """Return the table row of a delivery."""
+    answer = short(delivery.error) if delivery.error else delivery.status or ""
+    at = moment(delivery.at)
+    return (
+        delivery.id,
+        delivery.webhook,
+        delivery.type,
+        delivery.key,
+        at,
+        delivery.state,
+        delivery.attempts,
+        str(answer),
+    )

@@ -1,4 +1,4 @@
-"""Tables, JSON, times, errors and progress: what the commands print."""
+"""Tables, JSON, times, errors and progress that the commands print."""
 
 from __future__ import annotations
 
@@ -15,25 +15,27 @@ from sagas.base.wording import escaped
 from sagas.inspection.wording import clock, one_line
 
 GOOD, NO, CANNOT, INTERRUPTED = 0, 1, 4, 130
-"""The statuses of the command; 2 is for its words."""
+"""Exit statuses. Status 2 means invalid arguments."""
 UNPRINTED = re.compile(r"[\x7f-\x9f\u2028\u2029\u202a-\u202e\u2066-\u2069]")
-"""What JSON leaves as it is and terminals obey: control characters, and changes of direction."""
+"""Characters that JSON does not escape and that terminals interpret: controls, and changes of
+direction.
+"""
 
 
 def moment(at: float | None) -> str:
-    """A time as a person reads it: in UTC, as the dashboard and the service's log have it."""
+    """Return a time in UTC, as the dashboard and the service's log print it."""
     return clock(at)
 
 
 def short(value: Any, most: int = 60) -> str:
-    """A value in one line, as a terminal may print it; whole where the output is no terminal."""
+    """Return a value on one line, safe for a terminal. It is shortened only on a terminal."""
     text = escaped(one_line(value))
     is_whole = len(text) <= most or not sys.stdout.isatty()
     return text if is_whole else text[: most - 3] + "..."
 
 
 def table(heads: Sequence[str], rows: Sequence[Sequence[object]]) -> str:
-    """Columns, as wide as they have to be; numbers stand at the right. Each row is one line."""
+    """Return aligned columns, with one line for each row. Numbers are right-aligned."""
     cells = [[escaped(str(cell)) for cell in row] for row in rows]
     widths = [max(len(row[at]) for row in [list(heads), *cells]) for at in range(len(heads))]
     numeric = [
@@ -52,31 +54,33 @@ def table(heads: Sequence[str], rows: Sequence[Sequence[object]]) -> str:
 
 
 def show_json(value: object) -> None:
-    """Prints a value for programs; what is not printable, and what the output has no character
-    for, is escaped as JSON has it.
+    """Print a value as JSON. Unprintable characters, and those the output cannot encode, are
+    escaped.
     """
     text = json.dumps(value, indent=1, ensure_ascii=False)
     try:
         text.encode(sys.stdout.encoding or "utf-8")
     except UnicodeEncodeError:
         text = json.dumps(value, indent=1)
-    print(UNPRINTED.sub(lambda found: f"\\u{ord(found[0]):04x}", text))
+    print(UNPRINTED.sub(lambda match: f"\\u{ord(match[0]):04x}", text))
 
 
 def lines(text: str) -> str:
-    """Lines as a terminal may print them."""
+    """Return lines that are safe for a terminal."""
     return "\n".join(map(escaped, text.split("\n")))
 
 
 def complain(text: str) -> None:
-    """Says in one line on standard error what is wrong."""
-    told = " ".join(filter(None, map(str.strip, text.split("\n"))))
-    print(f"sagas store: {escaped(told)}", file=sys.stderr)
+    """Print an error on one line of standard error."""
+    line = " ".join(filter(None, map(str.strip, text.split("\n"))))
+    print(f"sagas store: {escaped(line)}", file=sys.stderr)
 
 
 def escape() -> None:
-    """From now on what standard output and error have no character for is printed escaped: a
-    half of a pair, as a saga's texts may have, say. Where one is closed, nothing is printed there.
+    """From now on, escape characters that standard output and error cannot encode.
+
+    For example, a saga's texts may hold lone surrogates. If a stream is closed, its output is
+    dropped.
     """
     for name in ("stdout", "stderr"):
         if getattr(sys, name) is None:
@@ -87,19 +91,19 @@ def escape() -> None:
 
 
 def drop_output() -> None:
-    """What was printed and cannot be written is given up: at exit, Python would write it again."""
+    """Drop output that cannot be written. Otherwise, Python would write it again at exit."""
     with contextlib.suppress(OSError), open(os.devnull, "wb") as nowhere:
         os.dup2(nowhere.fileno(), sys.stdout.fileno())
 
 
 class Progress:
-    """How far something long has come, on standard error where that is a terminal."""
+    """A progress line on standard error, if that is a terminal."""
 
     def __init__(self, title: str, total: int) -> None:
         self.title, self.total, self.shown = title, total, sys.stderr.isatty()
 
     def at(self, done: int) -> None:
-        """Says how much is done."""
+        """Print how many units are done."""
         if self.shown:
             print(
                 f"\r{self.title}: {done} of {self.total}",

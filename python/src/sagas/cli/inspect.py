@@ -30,53 +30,61 @@ from sagas.storage.operator_requests import reason
 Json = dict[str, Any]
 
 
-def phase_of(one: Summary) -> str:
-    """A saga's phase as a person reads it."""
-    return f"{one.phase}, undo failed" if one.undo_failed else one.phase
+def phase_of(summary: Summary) -> str:
+    """Return a saga's phase, with a remark if a compensation failed."""
+    return f"{summary.phase}, undo failed" if summary.undo_failed else summary.phase
 
 
-def labels_text(one: Summary) -> str:
-    """A saga's labels as a person reads them."""
-    return ", ".join(f"{name}={value}" for name, value in one.labels.items())
+def labels_text(summary: Summary) -> str:
+    """Return a saga's labels as text."""
+    return ", ".join(f"{name}={value}" for name, value in summary.labels.items())
 
 
-def summary_json(one: Summary) -> Json:
-    """A saga in a list, for programs."""
-    told = dataclasses.asdict(one)
-    told["at"] = told.pop("started")
+def summary_json(summary: Summary) -> Json:
+    """Return a saga of a list as JSON."""
+    fields = dataclasses.asdict(summary)
+    fields["at"] = fields.pop("started")
     order = "id key saga phase at ended note undo_failed labels deadline"
-    return {word: told[word] for word in order.split()}
+    return {name: fields[name] for name in order.split()}
 
 
-def list_sagas(path: str, words: argparse.Namespace) -> int:
-    """List sagas by phase and name, ordered by their starts, the oldest first."""
+def list_sagas(path: str, options: argparse.Namespace) -> int:
+    """List sagas by phase and name, the oldest first."""
     with Snapshot(path) as store:
-        last = pages.position_of(store.saga(words.after).summary) if words.after else None
-        found = store.ask(
+        last = pages.position_of(store.saga(options.after).summary) if options.after else None
+        listed = store.ask(
             pages.page(
-                phase=words.phase,
-                saga=words.saga or None,
-                labels=filter_of(words).labels,
-                after=None if words.newest else last,
-                before=last if words.newest else None,
-                newest=words.newest,
-                most=words.limit or None,
+                phase=options.phase,
+                saga=options.saga or None,
+                labels=filter_of(options).labels,
+                after=None if options.newest else last,
+                before=last if options.newest else None,
+                newest=options.newest,
+                limit=options.limit or None,
             )
         )
-    if words.json:
-        show_json([{w: v for w, v in summary_json(one).items() if w != "id"} for one in found])
+    if options.json:
+        show_json(
+            [{w: v for w, v in summary_json(summary).items() if w != "id"} for summary in listed]
+        )
     else:
         heads = ["KEY", "SAGA", "PHASE", "STARTED", "ENDED"]
         cells = [
-            [one.key, one.saga, phase_of(one), moment(one.started), moment(one.ended)]
-            for one in found
+            [
+                summary.key,
+                summary.saga,
+                phase_of(summary),
+                moment(summary.started),
+                moment(summary.ended),
+            ]
+            for summary in listed
         ]
-        if any(one.labels for one in found):
+        if any(summary.labels for summary in listed):
             heads.append("LABELS")
-            cells = [[*row, labels_text(one)] for row, one in zip(cells, found)]
+            cells = [[*row, labels_text(summary)] for row, summary in zip(cells, listed)]
         print(table(heads, cells))
-    if words.limit and len(found) == words.limit:
-        newest, key = "--newest " if words.newest else "", found[-1].key
+    if options.limit and len(listed) == options.limit:
+        newest, key = "--newest " if options.newest else "", listed[-1].key
         after = (
             f"--after={shlex.quote(key)}" if key.startswith("-") else f"--after {shlex.quote(key)}"
         )
@@ -84,14 +92,14 @@ def list_sagas(path: str, words: argparse.Namespace) -> int:
     return GOOD
 
 
-def show(path: str, words: argparse.Namespace) -> int:
+def show(path: str, options: argparse.Namespace) -> int:
     """Show the state of a saga, its steps, its last plan and what it waits for.
 
-    A step in state `begun` runs, or waits for its turn: only the program that executes it knows.
+    A step in state `begun` runs or waits. Only the program that executes the saga knows which.
     """
-    with Snapshot(path, read_by(words)) as store:
-        view = store.saga(words.key)
-    if words.json:
+    with Snapshot(path, read_by(options)) as store:
+        view = store.saga(options.key)
+    if options.json:
         show_json(view_json(view) | {"plan": view.plan.answer if view.plan else None})
         return GOOD
     facts = [
@@ -103,45 +111,45 @@ def show(path: str, words: argparse.Namespace) -> int:
         ("deadline", moment(view.summary.deadline)),
         ("labels", labels_text(view.summary)),
         ("parent", view.parent.key if view.parent else ""),
-        *(("child", f"{one.key} ({one.phase})") for one in view.children),
+        *(("child", f"{entry.key} ({entry.phase})") for entry in view.children),
         ("input", short(view.input, 200)),
-        ("unused", "" if view.note else ", ".join(f"report of {one}" for one in view.unused)),
+        ("unused", "" if view.note else ", ".join(f"report of {entry}" for entry in view.unused)),
         ("resolved", resolved_text(view)),
         ("note", one_line(view.note)),
     ]
-    print("\n".join(f"{word:8} {escaped(text)}" for word, text in facts if text))
+    print("\n".join(f"{name:8} {escaped(text)}" for name, text in facts if text))
     print()
     show_steps(view)
     if view.plan:
         print(f"\n{view.plan}")
     if view.held:
         print()
-        show_held([held_json(one) for one in view.held])
+        show_held([held_json(entry) for entry in view.held])
     return GOOD
 
 
 def view_json(view: SagaView) -> Json:
-    """How a saga stands, for programs."""
+    """Return the state of a saga as JSON."""
     return summary_json(view.summary) | {
         "aborted": view.aborted,
         "input": view.input,
         "parent": view.parent and view.parent.key,
-        "children": [dataclasses.asdict(one) for one in view.children],
+        "children": [dataclasses.asdict(entry) for entry in view.children],
         "end": view.end,
         "steps": [step_json(step) for step in view.steps],
-        "held": [held_json(one) for one in view.held],
+        "held": [held_json(entry) for entry in view.held],
     }
 
 
 def resolved_text(view: SagaView) -> str:
-    """When it was resolved, and by whom, as far as somebody is named."""
-    if (one := view.resolution) is None:
+    """Return when a saga was resolved, and by whom if this is known."""
+    if (note := view.resolution) is None:
         return ""
-    return moment(one.at) + (f" by {one.told['by']}" if one.told.get("by") else "")
+    return moment(note.at) + (f" by {note.told['by']}" if note.told.get("by") else "")
 
 
 def step_json(step: StepView) -> Json:
-    """A step of a saga, for programs."""
+    """Return a step of a saga as JSON."""
     return {
         "step": step.name,
         "state": known_state(step.state),
@@ -156,122 +164,122 @@ def step_json(step: StepView) -> Json:
 
 
 def show_steps(view: SagaView) -> None:
-    """Prints the steps of a saga; of one whose compensation failed for good also what that
-    raised.
-    """
+    """Print the steps of a saga, with the error of a permanently failed compensation."""
     undos = {
-        one.step: f"its compensation: {short(one.value)}"
-        for one in view.attempts
-        if one.outcome in MISSES and was_called(one.outcome, one.value)
+        attempt.step: f"its compensation: {short(attempt.value)}"
+        for attempt in view.attempts
+        if attempt.outcome in MISSES and was_called(attempt.outcome, attempt.value)
     }
     heads = ["STEP", "STATE", "TRIES", "STARTED", "ENDED", "DETAIL"]
     cells = []
     for step in view.steps:
         undo = undos.get(step.name) if step.state == "undo_failed" else None
         early = f"reported early: {step.early}" if step.early else None
-        said = "; ".join(filter(None, [short(str(step.progress or "") or step.said), undo, early]))
+        detail = "; ".join(
+            filter(None, [short(str(step.progress or "") or step.said), undo, early])
+        )
         times = moment(step.began), moment(step.ended)
         state = state_text(step.state, is_over=view.phase != "open")
-        cells.append((step.name, state, step.attempts, *times, said))
+        cells.append((step.name, state, step.attempts, *times, detail))
     print(table(heads, cells))
 
 
-def log(path: str, words: argparse.Namespace) -> int:
-    """Print the events of a saga, and as `note` what operators did to it."""
-    with Snapshot(path, read_by(words)) as store:
-        events = store.saga(words.key).history
-    if words.json:
-        show_json([dataclasses.asdict(one) for one in events])
+def log(path: str, options: argparse.Namespace) -> int:
+    """Print the events of a saga. Commands of operators are `note` events."""
+    with Snapshot(path, read_by(options)) as store:
+        events = store.saga(options.key).history
+    if options.json:
+        show_json([dataclasses.asdict(event) for event in events])
     else:
-        rows = [(moment(one.at), one.event, one.step or "", detail_of(one)) for one in events]
+        rows = [
+            (moment(event.at), event.event, event.step or "", detail_of(event)) for event in events
+        ]
         print(table(["TIME", "EVENT", "STEP", "DETAIL"], rows))
     return GOOD
 
 
-def detail_of(one: HistoryEvent) -> str:
-    """What came of an event, in one line: of what an operator did, who did it and why."""
-    if one.event != "note":
-        return short(one.value)
-    told: Json = one.value
-    answer = told["answer"]
-    what = f"{told['what']} (undo)" if told.get("kind") == "undo" else told["what"]
-    by = f" by {told['by']}" if told.get("by") else ""
-    why = "; ".join(filter(None, [told.get("note"), told.get("error")]))
-    came = ""
+def detail_of(event: HistoryEvent) -> str:
+    """Return the result of an event on one line; for a command, who sent it and why."""
+    if event.event != "note":
+        return short(event.value)
+    command: Json = event.value
+    answer = command["answer"]
+    action = f"{command['what']} (undo)" if command.get("kind") == "undo" else command["what"]
+    by = f" by {command['by']}" if command.get("by") else ""
+    why = "; ".join(filter(None, [command.get("note"), command.get("error")]))
+    outcome = ""
     if answer is None:
-        came = " (no answer yet)"
+        outcome = " (no answer yet)"
     elif answer is not True:
-        came = f" (refused{f': {reason(answer)}' if answer else ''})"
-    return short(f"{what}{by}{f': {why}' if why else ''}{came}")
+        outcome = f" (refused{f': {reason(answer)}' if answer else ''})"
+    return short(f"{action}{by}{f': {why}' if why else ''}{outcome}")
 
 
-def plan(path: str, words: argparse.Namespace) -> int:
+def plan(path: str, options: argparse.Namespace) -> int:
     """Print the last plan of a saga, with the costs of both choices for each step.
 
-    With --json, print its definition, case and answer; with --text, print them as `sagas` reads
-    them to check the plan.
+    With --json, print its definition, case and answer. With --text, print them in the format
+    that `sagas check` reads.
     """
     with Snapshot(path) as store:
-        found = store.saga(words.key).plan
-    if words.json:
+        last = store.saga(options.key).plan
+    if options.json:
         parts = ("definition", "case", "answer")
-        show_json({part: getattr(found, part) for part in parts} if found else None)
-    elif found:
-        print(certificate_text(found).rstrip("\n") if words.text else found)
+        show_json({part: getattr(last, part) for part in parts} if last else None)
+    elif last:
+        print(certificate_text(last).rstrip("\n") if options.text else last)
     else:
-        raise Trouble(
-            f"{words.key} has no plan, because nothing has failed and nobody has aborted it"
-        )
+        raise Trouble(f"{options.key} has no plan: no step has failed, and it was not aborted")
     return GOOD
 
 
-def draw(path: str, words: argparse.Namespace) -> int:
+def draw(path: str, options: argparse.Namespace) -> int:
     """Print the last plan of a saga, or its definition, for Graphviz.
 
     The items of a step, and the steps of an included saga, are one node.
     """
     with Snapshot(path) as store:
-        view = store.saga(words.key)
-    if words.svg:
-        text = picture.document(view, words.unfold)
+        view = store.saga(options.key)
+    if options.svg:
+        text = picture.document(view, options.unfold)
     elif view.plan:
-        text = view.plan.draw(unfold=words.unfold)
+        text = view.plan.draw(unfold=options.unfold)
     else:
         whole = program.draw(view.definition)
-        text = folded_drawing.fold(whole, view.definition, words.unfold)
-    if words.json:
-        show_json({"key": words.key, "svg" if words.svg else "dot": text})
+        text = folded_drawing.fold(whole, view.definition, options.unfold)
+    if options.json:
+        show_json({"key": options.key, "svg" if options.svg else "dot": text})
     else:
         print(lines(text.rstrip("\n")))
     return GOOD
 
 
-def export(path: str, words: argparse.Namespace) -> int:
+def export(path: str, options: argparse.Namespace) -> int:
     """Print everything that is stored of a saga, as JSON."""
-    with Snapshot(path, read_by(words)) as store:
-        view = store.saga(words.key)
+    with Snapshot(path, read_by(options)) as store:
+        view = store.saga(options.key)
     show_json(
         view_json(view)
         | {
             "definition": view.definition,
             "events": [{"at": at, **event} for at, event in view.lines],
             "results": results_json(view),
-            "notes": [dataclasses.asdict(one.event) for one in view.notes],
+            "notes": [dataclasses.asdict(note.event) for note in view.notes],
         }
     )
     return GOOD
 
 
 def results_json(view: SagaView) -> Sequence[Json]:
-    """How each attempt of a saga ended, in the order of time, for programs."""
+    """Return how each attempt of a saga ended, in the order of time, as JSON."""
     return [
         {
-            "step": one.step,
-            "kind": "undo" if one.undo else "run",
-            "attempt": one.attempt,
-            "outcome": one.outcome,
-            "value": one.value,
-            "at": one.at,
+            "step": attempt.step,
+            "kind": "undo" if attempt.undo else "run",
+            "attempt": attempt.attempt,
+            "outcome": attempt.outcome,
+            "value": attempt.value,
+            "at": attempt.at,
         }
-        for one in sorted(view.attempts, key=lambda one: one.at)
+        for attempt in sorted(view.attempts, key=lambda attempt: attempt.at)
     ]

@@ -11,74 +11,74 @@ from sagas.storage import factory
 from sagas.storage.sqlite import storage
 
 
-def nodes(path: str, words: argparse.Namespace) -> int:
-    """List the nodes of a PostgreSQL store, and what none of them executes."""
-    told = nodes_module.read(path)
-    if words.json:
-        show_json(told)
+def nodes(path: str, options: argparse.Namespace) -> int:
+    """List the nodes of a PostgreSQL store, and what no node executes."""
+    report = nodes_module.read(path)
+    if options.json:
+        show_json(report)
         return GOOD
     print(
         table(
             ["NODE", "RUN", "DEFINITIONS", "SINCE", "LEASE", "SHARDS", "OPEN"],
             [
                 (
-                    one["name"],
-                    one["run"],
-                    one["definitions"],
-                    moment(one["since"]),
-                    f"{one['lease']:.1f} s" if one["lease"] > 0 else "ended",
-                    one["shards"],
-                    one["open"],
+                    row["name"],
+                    row["run"],
+                    row["definitions"],
+                    moment(row["since"]),
+                    f"{row['lease']:.1f} s" if row["lease"] > 0 else "ended",
+                    row["shards"],
+                    row["open"],
                 )
-                for one in told["nodes"]
+                for row in report["nodes"]
             ],
         )
     )
-    left = told["shards_without_node"]
+    left = report["shards_without_node"]
     if left:
         print("\nNo node executes:")
         print(
             table(
                 ["SHARD", "OPEN", "SAGAS"],
-                [(one["name"], one["open"], ", ".join(one["sagas"])) for one in left],
+                [(row["name"], row["open"], ", ".join(row["sagas"])) for row in left],
             )
         )
-    if told["damaged_shards"]:
+    if report["damaged_shards"]:
         print("\nNo node can open these shards, because their data is damaged:")
         heads = ["shard", "name", "open", "reason"]
-        damaged = [[one[head] for head in heads] for one in told["damaged_shards"]]
+        damaged = [[row[head] for head in heads] for row in report["damaged_shards"]]
         print(table([head.upper() for head in heads], damaged))
-    if told["starts_without_node"]:
+    if report["starts_without_node"]:
         print("\nNo node has accepted these starts:")
         rows = [
             (
-                one["saga"],
-                one["definition"] or "-",
-                one["starts"],
-                f"{one['seconds']:.1f} s",
-                why(one),
+                row["saga"],
+                row["definition"] or "-",
+                row["starts"],
+                f"{row['seconds']:.1f} s",
+                why(row),
             )
-            for one in told["starts_without_node"]
+            for row in report["starts_without_node"]
         ]
         print(table(["SAGA", "DEFINITION", "STARTS", "WAITING", "FOR"], rows))
     return GOOD
 
 
 def why(start: dict[str, Any]) -> str:
-    """What a start waits for that no node has taken."""
+    """Return what a start that no node has accepted waits for."""
     if start["nodes"]:
         return f"a node with this definition: {', '.join(start['nodes'])} has another one"
     return "its turn" if start["fits"] else "a node with this saga"
 
 
-def init(path: str, words: argparse.Namespace) -> int:
+def init(path: str, options: argparse.Namespace) -> int:
     """Create the tables of a PostgreSQL store."""
-    print(nodes_module.init(path, words.role))
+    print(nodes_module.init(path, options.role))
     return GOOD
 
 
-def migrate(path: str, words: argparse.Namespace) -> int:
-    """Change the tables to the version of this release, as opening the store does."""
+def migrate(path: str, options: argparse.Namespace) -> int:
+    """Migrate the tables to the version of this release, as opening the store does."""
     print(
         nodes_module.init(path, None)
         if path.startswith(factory.SCHEMES)

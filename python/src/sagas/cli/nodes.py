@@ -1,8 +1,4 @@
-"""Nodes, tables and grants of a PostgreSQL store.
-
-The part of the operators' command that a store in PostgreSQL alone has: its nodes, its tables and
-who may use them.
-"""
+"""Nodes, tables and grants of a PostgreSQL store."""
 
 from __future__ import annotations
 
@@ -35,7 +31,7 @@ FROM shards l LEFT JOIN sagas s ON {OPEN}
 WHERE l.closed = 0 AND NOT EXISTS (SELECT 1 FROM nodes n WHERE n.node = l.owner AND n.lease > now())
 GROUP BY l.shard, l.name HAVING count(s.id) > 0 ORDER BY l.shard
 """
-"""What has no open saga needs no node: whoever comes closes it."""
+"""Shards without a live node. A shard without open sagas is not listed: the next node closes it."""
 DAMAGED = f"""
 SELECT l.shard, l.name, count(s.id), l.audit FROM shards l LEFT JOIN sagas s ON {OPEN}
 WHERE l.closed = 0 AND l.audit IS NOT NULL GROUP BY l.shard, l.name, l.audit ORDER BY l.shard
@@ -51,15 +47,14 @@ GROUP BY saga, version, digest, fits, others ORDER BY saga, version, digest
 
 
 def is_database(name: str) -> None:
-    """Raises `Trouble` where it is a file."""
+    """Raise `Trouble` if the store is a file."""
     factory.check_name(name)
     if not factory.is_url(name):
         raise Trouble(f"{name} is a SQLite file. This command needs a PostgreSQL store", 2)
 
 
 def read(name: str) -> dict[str, Any]:
-    """The nodes, the logs and the starts of clients that none of them has, and the logs that none
-    can open."""
+    """Return the nodes, and the shards and starts that no node has."""
     is_database(name)
     link = DatabaseSource(name, "ro")
     try:
@@ -77,14 +72,14 @@ def read(name: str) -> dict[str, Any]:
             for node, run, version, since, lease, logs, open in link.ask(NODES)
         ]
         left = []
-        for log, word, open, texts in link.ask(LEFT):
+        for log, log_name, open, texts in link.ask(LEFT):
             kinds = sorted(
                 {
                     f"{name_of(text)} (version {version_of(text)})"
                     for text in json.loads(texts or "[]")
                 }
             )
-            left.append({"shard": log, "name": word, "sagas": kinds, "open": open})
+            left.append({"shard": log, "name": log_name, "sagas": kinds, "open": open})
         damaged = [dict(zip(("shard", "name", "open", "reason"), row)) for row in link.ask(DAMAGED)]
         return {
             "nodes": nodes,
@@ -97,8 +92,11 @@ def read(name: str) -> dict[str, Any]:
 
 
 def _starts(link: DatabaseSource) -> list[dict[str, Any]]:
-    """The starts that no node has taken, by definition. `nodes`: those that leave them, since they
-    have another definition of that saga and version."""
+    """Return the starts that no node has accepted, by definition.
+
+    `nodes`: those that skip them, because they have another definition of that saga and
+    version.
+    """
     rows = link.ask(STARTS)
     return [
         {
@@ -114,32 +112,32 @@ def _starts(link: DatabaseSource) -> list[dict[str, Any]]:
 
 
 def init(name: str, role: str | None) -> str:
-    """Makes the tables, and gives a role what a node and a client need."""
+    """Create the tables, and grant a role what a node and a client need."""
     is_database(name)
     try:
         from sagas.storage.postgresql import connections, schema
     except ImportError as error:
         raise factory.missing(error) from error
-    where = connections.named(name)
-    with connections.translate_errors(where):
+    database = connections.named(name)
+    with connections.translate_errors(database):
         link = connections.connect_now(name)
         try:
-            before = schema.migrate(link, where)
+            before = schema.migrate(link, database)
             if role:
                 schema.allow(link, role)
         finally:
             link.close()
     now = schema.VERSION
-    told = (
+    message = (
         f"tables of version {now}"
         if before == now
         else f"tables of version {now}, {before or 'none'} before"
     )
-    return f"{where}: {told}{f'; {role} may use them' if role else ''}"
+    return f"{database}: {message}{f'; {role} may use them' if role else ''}"
 
 
-def words_of_role(part: argparse.ArgumentParser) -> None:
-    """The option for least rights."""
+def add_role_option(part: argparse.ArgumentParser) -> None:
+    """Add the option that names the role."""
     part.add_argument(
         "--role", metavar="NAME", help="grant this role what a node and a client need, and no more"
     )

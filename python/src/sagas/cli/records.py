@@ -1,4 +1,4 @@
-"""`record`: checks what programs recorded of a store, with what its database has."""
+"""`record`: verifies the records of nodes and clients against the database."""
 
 from __future__ import annotations
 
@@ -31,9 +31,17 @@ EVENT = re.compile(r'"saga":(\d+)')
 
 
 @dataclasses.dataclass
-class Judged:
-    """A shard: how many events its record has, what the program says of it, where its event log
-    has gaps, and what was lost. It is good if the program says yes and there is no gap."""
+class ShardCheck:
+    """The check of a shard.
+
+    Attributes:
+        events: How many events its record has.
+        good: Whether the program accepts the record, and the event log has no gap.
+        answer: What the program prints.
+        gaps: Gaps in its event log.
+        losses: Acknowledged commits that are missing.
+        ends_lost: Sagas whose acknowledged end is missing.
+    """
 
     shard: int
     name: str
@@ -46,30 +54,31 @@ class Judged:
 
     @property
     def is_whole(self) -> bool:
-        """Whether it is allowed, and nothing that was acknowledged is missing."""
+        """Return whether it is accepted and nothing acknowledged is missing."""
         return self.good and not self.losses and not self.ends_lost
 
 
 def read(paths: list[str]) -> Records:
-    """The records of programs. A last line that is not whole is left out: its program may be
-    writing it. Raises `Trouble`.
+    """Read the records of programs. Raises `Trouble`.
+
+    An incomplete last line is skipped, because its program may be writing it.
     """
-    found = Records()
+    records = Records()
     for path in paths:
         try:
             text = pathlib.Path(path).read_text(encoding="utf-8", errors="replace")
         except OSError as error:
-            raise Trouble(f"{path}: {error.strerror}. Name the file of a record", CANNOT) from error
-        for place, line in enumerate(text[: text.rfind("\n") + 1].splitlines(), 1):
+            raise Trouble(f"{path}: {error.strerror}. Pass the file of a record", CANNOT) from error
+        for number_of_line, line in enumerate(text[: text.rfind("\n") + 1].splitlines(), 1):
             try:
-                found.add(line)
+                records.add(line)
             except BadLine as error:
                 raise Trouble(
-                    f"{path}, line {place}: {error}. Name a file that a program wrote by "
+                    f"{path}, line {number_of_line}: {error}. Pass a file that a program wrote for "
                     "SAGAS_RECORD",
                     CANNOT,
                 ) from error
-    return found
+    return records
 
 
 def save(path: pathlib.Path, text: str) -> None:
@@ -78,11 +87,13 @@ def save(path: pathlib.Path, text: str) -> None:
         path.parent.mkdir(parents=True, exist_ok=True)
         path.write_text(text)
     except OSError as error:
-        raise Trouble(f"{path}: {error.strerror}. Name a folder by --save", CANNOT) from error
+        raise Trouble(
+            f"{path}: {error.strerror}. Pass a writable folder to --save", CANNOT
+        ) from error
 
 
-class Judge:
-    """Judges the shards of a store, as of one moment."""
+class RecordChecker:
+    """Checks the shards of a store, as of one moment."""
 
     def __init__(
         self,
@@ -92,22 +103,22 @@ class Judge:
         folder: str | None = None,
         judge: Callable[[str], tuple[bool, str]] | None = None,
     ) -> None:
-        self._store, self._records, self._judge = store, records, judge or judged
+        self._store, self._records, self._judge = store, records, judge or audit_record
         self._is_synchronous, self._folder = is_synchronous, folder
         ((self._timeline,),) = store.rows(LINE)
 
-    def all(self) -> list[Judged]:
-        """Each shard of the store, and each one that was recorded."""
+    def all(self) -> list[ShardCheck]:
+        """Check each shard of the store, and each one that was recorded."""
         names: dict[int, str] = {shard: name for shard, name in self._store.rows(SHARDS)}
         numbers = sorted({*names, *self._records.shards()})
-        progress, found = Progress("shards", len(numbers)), []
+        progress, checked = Progress("shards", len(numbers)), []
         for done, shard in enumerate(numbers, 1):
             if shard in names or not self._records.is_closed(shard):  # else it was deleted
-                found.append(self._shard(shard, names.get(shard, "")))
+                checked.append(self._shard(shard, names.get(shard, "")))
             progress.at(done)
-        return found
+        return checked
 
-    def _shard(self, shard: int, name: str) -> Judged:
+    def _shard(self, shard: int, name: str) -> ShardCheck:
         takeovers = [
             Takeover(epoch, node.rpartition("/")[2], last, timeline)
             for epoch, node, last, timeline in self._store.rows(TAKEOVERS, shard)
@@ -125,92 +136,96 @@ class Judge:
         gaps = gaps_of(chunks)
         good = is_allowed and not gaps
         lost = sorted({id for id, _ in seen if id not in over})
-        return Judged(shard, name, record.events, good, answer, gaps, record.losses, lost)
+        return ShardCheck(shard, name, record.events, good, answer, gaps, record.losses, lost)
 
     def _chunks(self, shard: int) -> tuple[list[Chunk], dict[int, int]]:
-        """Return the chunks of a shard, and for each of its sagas the number of events of the shard
-        up to the last one of that saga.
+        """Return the chunks of a shard.
+
+        Also returns, for each saga, the number of events of the shard up to the saga's last
+        one.
         """
-        found, at, events, digest = list[Chunk](), dict[int, int](), 0, 0
+        chunks, at, events, digest = list[Chunk](), dict[int, int](), 0, 0
         for epoch, first, text in self._store.rows(CHUNKS, shard):
             digest = zlib.crc32(text.encode(), digest)
             for line in text.splitlines():
                 events += 1
-                if told := EVENT.search(line):
-                    at[int(told[1])] = events
-            found.append(Chunk(epoch, first, first + text.count("\n"), number(digest)))
-        return found, at
+                if match := EVENT.search(line):
+                    at[int(match[1])] = events
+            chunks.append(Chunk(epoch, first, first + text.count("\n"), number(digest)))
+        return chunks, at
 
 
 def gaps_of(chunks: Sequence[Chunk]) -> list[str]:
-    """Return where a commit does not follow the one before it. A record has the number of chunks
-    alone, so the program cannot tell."""
+    """Return where a commit does not follow the previous one.
+
+    A record has only the number of chunks, so the program cannot detect this.
+    """
     gaps, events = [], 0
     for chunk in chunks:
         if chunk.first != events:
-            before = f"the one before ends at {events}"
+            before = f"the previous one ends at {events}"
             gaps.append(f"a commit follows event {chunk.first}, and {before}")
         events = chunk.end
     return gaps
 
 
-def judged(text: str) -> tuple[bool, str]:
-    """What `sagas audit --fleet` says of a record, and whether it is yes. Raises `Trouble` where
-    it gives no answer.
+def audit_record(text: str) -> tuple[bool, str]:
+    """Return whether `sagas audit --fleet` accepts a record, and what it prints.
+
+    Raises `Trouble` if it fails.
     """
     done = program.run("audit", [text], options=["--fleet"])
-    said = (done.stdout or done.stderr).strip()
+    answer = (done.stdout or done.stderr).strip()
     if done.returncode not in (GOOD, NO):
-        raise Trouble(f"sagas audit --fleet: {said}", CANNOT)
-    return done.returncode == GOOD, said
+        raise Trouble(f"sagas audit --fleet: {answer}", CANNOT)
+    return done.returncode == GOOD, answer
 
 
-def record(path: str, words: argparse.Namespace) -> int:
-    """Check what nodes and clients recorded, with the commits and takeovers of the database.
+def record(path: str, options: argparse.Namespace) -> int:
+    """Verify records of nodes and clients against commits and takeovers in the database.
 
-    Without files, only commits and takeovers are checked.
+    Without files, only commits and takeovers are verified.
     """
     is_database(path)
-    records = read(words.files)  # before the store is read, which has all of it by then
+    records = read(options.files)  # before the store is read, which has all of it by then
     with Snapshot(path) as store:
-        found = Judge(store, records, words.sync, words.save).all()
-    if words.json:
-        show_json([shown(one) for one in found])
+        checked = RecordChecker(store, records, options.sync, options.save).all()
+    if options.json:
+        show_json([shown(shard) for shard in checked])
     else:
         heads = ["SHARD", "NAME", "EVENTS", "GOOD", "AUDIT"]
-        print(table(heads, [cells(one) for one in found]))
-        for line in [line for one in found for line in lost(one)]:
+        print(table(heads, [cells(shard) for shard in checked]))
+        for line in [line for shard in checked for line in lost(shard)]:
             print(escaped(line))
-    return GOOD if all(one.is_whole for one in found) else NO
+    return GOOD if all(shard.is_whole for shard in checked) else NO
 
 
-def cells(one: Judged) -> tuple[object, ...]:
-    """A row of the table."""
-    return one.shard, one.name, one.events, "yes" if one.good else "NO", one.answer
+def cells(shard: ShardCheck) -> tuple[object, ...]:
+    """Return the table row of a shard."""
+    return shard.shard, shard.name, shard.events, "yes" if shard.good else "NO", shard.answer
 
 
-def shown(one: Judged) -> dict[str, Any]:
-    """A shard for programs."""
-    told: dict[str, Any] = json.loads(json.dumps(dataclasses.asdict(one)))
-    told["losses"] = [
+def shown(shard: ShardCheck) -> dict[str, Any]:
+    """Return a shard as JSON."""
+    fields: dict[str, Any] = json.loads(json.dumps(dataclasses.asdict(shard)))
+    fields["losses"] = [
         {"chunks": loss.had, "told": [telling._asdict() for telling in loss.told]}
-        for loss in one.losses
+        for loss in shard.losses
     ]
-    return told
+    return fields
 
 
-def lost(one: Judged) -> list[str]:
-    """Return where a shard has gaps, and what of it was acknowledged and does not exist any
-    more."""
-    found = [f"shard {one.shard}: gap: {gap}" for gap in one.gaps]
-    for loss in one.losses:
+def lost(shard: ShardCheck) -> list[str]:
+    """Return the gaps of a shard, and what was acknowledged and no longer exists."""
+    lines = [f"shard {shard.shard}: gap: {gap}" for gap in shard.gaps]
+    for loss in shard.losses:
         last = max(telling.chunks for telling in loss.told)
         edges = ", ".join(sorted({telling.edge for telling in loss.told}))
-        found.append(
-            f"shard {one.shard}: lost: a server took over with {loss.had} commits, and what was "
-            f"acknowledged ({edges}) rests on {last}"
+        lines.append(
+            f"shard {shard.shard}: lost: a server took over with {loss.had} commits, but "
+            f"acknowledged results ({edges}) need {last}"
         )
-    if one.ends_lost:
-        ids = ", ".join(map(str, one.ends_lost[:8]))
-        found.append(f"shard {one.shard}: lost: the acknowledged ends of the sagas {ids}")
-    return found
+    if shard.ends_lost:
+        ids = ", ".join(map(str, shard.ends_lost[:8]))
+        lines.append(f"shard {shard.shard}: lost: the acknowledged ends of the sagas {ids}")
+    return lines

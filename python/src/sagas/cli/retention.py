@@ -1,4 +1,4 @@
-"""`prune`."""
+"""`prune`: deletes ended sagas."""
 
 from __future__ import annotations
 
@@ -12,8 +12,8 @@ from sagas.runtime import retention
 from sagas.storage.admin import Trouble
 
 
-def words_of_prune(part: argparse.ArgumentParser) -> None:
-    """Its options."""
+def add_prune_options(part: argparse.ArgumentParser) -> None:
+    """Add the options of `prune`."""
     either = part.add_mutually_exclusive_group(required=True)
     either.add_argument(
         "--older-than",
@@ -34,38 +34,38 @@ def words_of_prune(part: argparse.ArgumentParser) -> None:
     )
 
 
-def prune(path: str, words: argparse.Namespace) -> int:
+def prune(path: str, options: argparse.Namespace) -> int:
     """Delete sagas that ended before a cutoff, by whole closed shards.
 
-    Their keys are free again. One run deletes at most 100,000 sagas.
+    Their keys can be used again. One run deletes at most 100,000 sagas.
     """
     try:
-        if words.damaged_shard is not None:
-            return delete(path, words)
-        gone = retention.prune(path, words.older_than, words.export)
+        if options.damaged_shard is not None:
+            return delete(path, options)
+        deleted = retention.prune(path, options.older_than, options.export)
     except OSError as error:
-        raise Trouble(f"cannot write to {words.export}: {error}", CANNOT) from error
-    if gone.other:
+        raise Trouble(f"cannot write to {options.export}: {error}", CANNOT) from error
+    if deleted.other:
         raise Trouble("another program is deleting ended sagas of this store. Try again later")
-    if words.json:
-        told = {"shards": gone.logs, "sagas": gone.sagas, "refused_starts": gone.starts}
-        show_json(told | {"more": gone.more})
+    if options.json:
+        fields = {"shards": deleted.logs, "sagas": deleted.sagas, "refused_starts": deleted.starts}
+        show_json(fields | {"more": deleted.more})
         return GOOD
-    starts = f" and {number(gone.starts, 'refused start')}" if gone.starts else ""
-    where = f", exported to {words.export}" if words.export and gone.logs else ""
-    shards = number(len(gone.logs), "shard")
-    print(f"deleted {number(gone.sagas, 'saga')} ({shards}){starts}{where}")
-    if gone.more:
+    starts = f" and {number(deleted.starts, 'refused start')}" if deleted.starts else ""
+    destination = f", exported to {options.export}" if options.export and deleted.logs else ""
+    shards = number(len(deleted.logs), "shard")
+    print(f"deleted {number(deleted.sagas, 'saga')} ({shards}){starts}{destination}")
+    if deleted.more:
         print("more sagas are due: run the command again", file=sys.stderr)
     return GOOD
 
 
-def delete(path: str, words: argparse.Namespace) -> int:
+def delete(path: str, options: argparse.Namespace) -> int:
     """Delete the sagas of a damaged shard."""
-    count = retention.delete_damaged(path, words.damaged_shard, words.export)
-    if words.json:
-        show_json({"shard": words.damaged_shard, "sagas": count})
+    count = retention.delete_damaged(path, options.damaged_shard, options.export)
+    if options.json:
+        show_json({"shard": options.damaged_shard, "sagas": count})
         return GOOD
-    where = f", exported to {words.export}" if words.export else ""
-    print(f"deleted {number(count, 'saga')} of shard {words.damaged_shard}{where}")
+    destination = f", exported to {options.export}" if options.export else ""
+    print(f"deleted {number(count, 'saga')} of shard {options.damaged_shard}{destination}")
     return GOOD

@@ -9,7 +9,7 @@ import time
 from collections.abc import Callable
 
 from sagas.base.errors import NoSuchSchedule
-from sagas.cli.app_option import read_by, words_of_app
+from sagas.cli.app_option import read_by, add_app_option
 from sagas.cli.formatting import GOOD, complain, moment, show_json, table
 from sagas.cli.snapshot import Snapshot
 from sagas.definition.serialization import write as written
@@ -25,46 +25,54 @@ CHANGES: dict[str, tuple[str, Callable[[Schedules, str], str | None]]] = {
 }
 
 
-def words_of_schedules(part: argparse.ArgumentParser) -> None:
-    """The options of `schedules`."""
+def add_schedules_options(part: argparse.ArgumentParser) -> None:
+    """Add the options of `schedules`."""
     part.add_argument("change", nargs="?", choices=[*CHANGES], help="what to do with NAME")
     part.add_argument("name", metavar="NAME", nargs="?", help="the schedule's name")
-    words_of_app(part)
+    add_app_option(part)
 
 
-def schedules(path: str, words: argparse.Namespace) -> int:
+def schedules(path: str, options: argparse.Namespace) -> int:
     """List the schedules, or pause, resume or remove one."""
-    if (words.change is None) != (words.name is None):
-        raise Trouble(f"schedules {words.change}: give the name of the schedule", 2)
-    if words.change:
-        done, change = CHANGES[words.change]
+    if (options.change is None) != (options.name is None):
+        raise Trouble(f"schedules {options.change}: pass the name of the schedule", 2)
+    if options.change:
+        done, change = CHANGES[options.change]
         with contextlib.closing(admin.connect(path, "rw")) as link:
             try:
-                said = change(Schedules(link), words.name)
+                warning = change(Schedules(link), options.name)
             except NoSuchSchedule as error:
                 raise Trouble(str(error)) from error
-        if said is not None:
-            complain(f"{words.name}: {said}")
-        told = {"name": words.name, "done": done}
-        show_json(told) if words.json else print(f"{words.name}: {done}")
+        if warning is not None:
+            complain(f"{options.name}: {warning}")
+        change_made = {"name": options.name, "done": done}
+        show_json(change_made) if options.json else print(f"{options.name}: {done}")
         return GOOD
     with Snapshot(path) as store:
-        found = store.ask(lists.schedules())
-    if words.json:
-        read = read_by(words)
-        found = [dataclasses.replace(one, input=read(written(one.input))) for one in found]
-        show_json([dataclasses.asdict(one) for one in found])
+        listed = store.ask(lists.schedules())
+    if options.json:
+        read = read_by(options)
+        listed = [
+            dataclasses.replace(schedule, input=read(written(schedule.input)))
+            for schedule in listed
+        ]
+        show_json([dataclasses.asdict(schedule) for schedule in listed])
     else:
-        rows = [(one.name, one.saga, when(one), *times(one), one.error or "") for one in found]
+        rows = [
+            (schedule.name, schedule.saga, when(schedule), *times(schedule), schedule.error or "")
+            for schedule in listed
+        ]
         print(table(["NAME", "SAGA", "TIMES", "LAST", "NEXT", "ERROR"], rows))
     return GOOD
 
 
-def when(one: Schedule) -> str:
-    """The times of a schedule as a person reads them."""
-    return f"{one.cron} {one.timezone}" if one.cron else f"every {one.every:g} s"
+def when(schedule: Schedule) -> str:
+    """Return the times of a schedule in words."""
+    return (
+        f"{schedule.cron} {schedule.timezone}" if schedule.cron else f"every {schedule.every:g} s"
+    )
 
 
-def times(one: Schedule) -> tuple[str, str]:
-    """The last and the next time of a schedule."""
-    return moment(one.last_at), "paused" if one.paused else moment(one.next_at)
+def times(schedule: Schedule) -> tuple[str, str]:
+    """Return the last and the next time of a schedule."""
+    return moment(schedule.last_at), "paused" if schedule.paused else moment(schedule.next_at)

@@ -13,15 +13,15 @@ from sagas.storage import admin
 
 
 def shown(text: str) -> Any:
-    """A value for a command that prints none of them."""
+    """Return a stored value for a command that does not print values."""
     return json.loads(unescaped(text))
 
 
 class Snapshot(StoreReader):
-    """Answers questions to a store. All answers are of one moment."""
+    """Answers questions to a store. All answers are as of one moment."""
 
     def __init__(self, path: str, read: saga.Read = shown) -> None:
-        """`read`: how values are read (default: as they are stored)."""
+        """`read`: decodes stored values. Default: they are not encoded."""
         super().__init__(self)
         self.link, self.read = admin.connect(path), read
 
@@ -32,16 +32,16 @@ class Snapshot(StoreReader):
     def __exit__(self, *_: object) -> None:
         self.close()
 
-    def rows(self, query: str, *words: Any) -> list[Row]:
-        """The rows of a query."""
-        return self.link.ask(query, *words)
+    def rows(self, query: str, *parameters: Any) -> list[Row]:
+        """Return the rows of a query."""
+        return self.link.ask(query, *parameters)
 
     def saga(self, key: str) -> SagaView:
-        """All of a saga. Raises `Trouble` where no saga has the key."""
-        found = self.ask(saga.view(key, self.read))
-        if found is None:
+        """Return the view of a saga. Raises `Trouble` if no saga has the key."""
+        view = self.ask(saga.view(key, self.read))
+        if view is None:
             raise self.link.missing_saga_error(key)
-        return found
+        return view
 
     def close(self) -> None:
         self.link.close()

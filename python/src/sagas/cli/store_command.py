@@ -1,8 +1,8 @@
-"""`sagas store STORE ..`: its words and its errors.
+"""`sagas store STORE COMMAND`: its arguments and its errors.
 
-What only looks changes nothing. `abort`, `complete`, `fail`, `retry` and `compensate` leave a
-request in the store, which the program that has it open (or the next one that opens it) takes up;
-`resolve` marks sagas as seen to by a person.
+Commands that only inspect the store change nothing. `abort`, `complete`, `fail`, `retry` and
+`compensate` store a request. The program that has the store open handles it, or the next one
+that opens it. `resolve` marks sagas as resolved by an operator.
 """
 
 from __future__ import annotations
@@ -16,18 +16,18 @@ from sagas.base.errors import SagasError
 from sagas.base.option_values import not_negative
 from sagas.cli import nodes as nodes_module
 from sagas.cli.actions import abort, compensate, complete, fail, retry
-from sagas.cli.app_option import words_of_app
+from sagas.cli.app_option import add_app_option
 from sagas.cli.audits import audit
-from sagas.cli.blobs import own_blobs, words_of_blobs
+from sagas.cli.blobs import own_blobs, add_blobs_option
 from sagas.cli.backlog import attention, definitions, pending, stats, stuck
-from sagas.cli.batches import resolve, words_of_filter, words_of_limit
-from sagas.cli.deliveries import deliveries, words_of_deliveries
+from sagas.cli.batches import resolve, add_filter_options, add_limit_option
+from sagas.cli.deliveries import deliveries, add_deliveries_options
 from sagas.cli.formatting import CANNOT, INTERRUPTED, complain, drop_output, escape
 from sagas.cli.inspect import draw, export, list_sagas, log, plan, show
 from sagas.cli.maintenance import init, migrate, nodes
 from sagas.cli.records import record
-from sagas.cli.retention import prune, words_of_prune
-from sagas.cli.schedules import schedules, words_of_schedules
+from sagas.cli.retention import prune, add_prune_options
+from sagas.cli.schedules import schedules, add_schedules_options
 from sagas.storage.admin import Trouble
 from sagas.storage.queries import PHASES
 
@@ -56,7 +56,7 @@ EXAMPLES = {
     "own-blobs": "own-blobs --blobs /var/lib/shop/blobs",
     "record": "record node-1.record node-2.record",
 }
-"""The words of an example; of other commands just their names."""
+"""The arguments of an example. For other commands, the name is enough."""
 REFUSED = {
     "list": "no saga has the key of --after",
     **dict.fromkeys(("show", "log", "draw", "export"), "no saga has the key"),
@@ -74,61 +74,61 @@ REFUSED = {
     "deliveries": "no delivery has the id",
     "prune": "another program is deleting ended sagas of this store",
 }
-"""What status 1 means of a command that has it."""
+"""The meaning of status 1, for each command that can return it."""
 
 
 def ending(name: str) -> str:
-    """An example of a command, and each exit status that it can have."""
+    """Return an example of a command, and its exit statuses."""
     store = "postgresql:///shop" if name in ("init", "nodes", "record") else "shop.db"
     usage = "invalid arguments" + ("" if store == "shop.db" else ", or the store is a file")
-    told = {0: "done", 1: REFUSED.get(name), 2: usage, 4: CANNOT_USE, 130: "interrupted"}
-    lines = [f"  {status:<3}  {what}" for status, what in told.items() if what]
+    statuses = {0: "done", 1: REFUSED.get(name), 2: usage, 4: CANNOT_USE, 130: "interrupted"}
+    lines = [f"  {status:<3}  {meaning}" for status, meaning in statuses.items() if meaning]
     example = f"Example:\n  sagas store {store} {EXAMPLES.get(name, name)}"
     return "\n".join([example, "", "Exit status:", *lines])
 
 
 def parser() -> argparse.ArgumentParser:
-    """The words of the command."""
-    told = (
-        "Look at the sagas of a store, and change them, also while a program has it "
-        "open. Times are in UTC."
+    """Return the parser of the command."""
+    description = (
+        "Inspect and change the sagas of a store, even while a program has it open. "
+        "Times are in UTC."
     )
-    top = argparse.ArgumentParser(prog="sagas store", description=told)
+    top = argparse.ArgumentParser(prog="sagas store", description=description)
     top.add_argument("path", metavar="STORE", help="the store's file, or the URL of its database")
     parts = top.add_subparsers(dest="command", required=True, metavar="COMMAND")
 
     def add(name: str, command: Command, key: bool = False) -> argparse.ArgumentParser:
-        told = inspect.getdoc(command) or ""
+        description = inspect.getdoc(command) or ""
         part = parts.add_parser(
             name,
-            help=told.partition("\n")[0].rstrip("."),
-            description=told,
+            help=description.partition("\n")[0].rstrip("."),
+            description=description,
             epilog=ending(name),
             formatter_class=argparse.RawDescriptionHelpFormatter,
         )
         part.set_defaults(do=command)
-        part.add_argument("--json", action="store_true", help="print JSON, for programs")
+        part.add_argument("--json", action="store_true", help="print JSON")
         if key:
             part.add_argument("key", metavar="KEY", help="the saga's key")
         return part
 
     add_looks(add)
     add_asks(add)
-    words_of_schedules(add("schedules", schedules))
-    words_of_deliveries(add("deliveries", deliveries))
+    add_schedules_options(add("schedules", schedules))
+    add_deliveries_options(add("deliveries", deliveries))
     add("audit", audit)
     add_files(add("record", record))
     add("nodes", nodes)
     add("migrate", migrate)
-    nodes_module.words_of_role(add("init", init))
-    words_of_app(add("export", export, key=True))
-    words_of_prune(add("prune", prune))
-    words_of_blobs(add("own-blobs", own_blobs))
+    nodes_module.add_role_option(add("init", init))
+    add_app_option(add("export", export, key=True))
+    add_prune_options(add("prune", prune))
+    add_blobs_option(add("own-blobs", own_blobs))
     return top
 
 
 def add_looks(add: Add) -> None:
-    """What only looks."""
+    """Add the commands that only inspect the store."""
     part = add("list", list_sagas)
     part.add_argument(
         "--phase",
@@ -138,14 +138,14 @@ def add_looks(add: Add) -> None:
             "failed compensation"
         ),
     )
-    words_of_filter(part, "")
+    add_filter_options(part, "")
     part.add_argument("--after", metavar="KEY", help="continue after the saga with this key")
     part.add_argument("--newest", action="store_true", help="list the newest first")
-    words_of_limit(part, "sagas")
-    words_of_app(add("show", show, key=True))
-    words_of_app(add("log", log, key=True))
+    add_limit_option(part, "sagas")
+    add_app_option(add("show", show, key=True))
+    add_app_option(add("log", log, key=True))
     add("plan", plan, key=True).add_argument(
-        "--text", action="store_true", help="print it in the form that `sagas` reads to check it"
+        "--text", action="store_true", help="print it in the format that `sagas check` reads"
     )
     part = add("draw", draw, key=True)
     part.add_argument(
@@ -166,22 +166,22 @@ def add_looks(add: Add) -> None:
     add("stats", stats)
     add("definitions", definitions)
     add("stuck", stuck)
-    words_of_limit(add("attention", attention), "entries")
+    add_limit_option(add("attention", attention), "entries")
     add("pending", pending)
 
 
 def add_asks(add: Add) -> None:
-    """What changes something."""
+    """Add the commands that change sagas."""
     part = add("abort", abort)
     part.add_argument("key", metavar="KEY", nargs="?", help="the saga's key")
     part.add_argument("--all", action="store_true", help="every open saga, instead of KEY")
-    words_of_filter(part, "with --all: ")
+    add_filter_options(part, "with --all: ")
     part.add_argument(
         "--yes", action="store_true", help="with --all: abort them (default: only count them)"
     )
     add_note(part)
     add_timeout(part)
-    part = words_of_app(add("complete", complete))
+    part = add_app_option(add("complete", complete))
     add_steps(part, "complete")
     add_early(part)
     part.add_argument(
@@ -204,40 +204,41 @@ def add_asks(add: Add) -> None:
     add_timeout(part)
     part = add("resolve", resolve)
     part.add_argument("key", metavar="KEY", nargs="*", help="the sagas' keys")
-    part.add_argument(
-        "--all", action="store_true", help="every saga that nobody has resolved, instead of KEYs"
-    )
-    words_of_filter(part, "with --all: ")
+    part.add_argument("--all", action="store_true", help="every unresolved saga, instead of KEYs")
+    add_filter_options(part, "with --all: ")
     part.add_argument("--count", action="store_true", help="with --all: only count them")
-    part.add_argument("--note", required=True, metavar="TEXT", help="what was done about it")
+    part.add_argument("--note", required=True, metavar="TEXT", help="what was done")
 
 
-def add_steps(part: argparse.ArgumentParser, what: str) -> None:
-    """The step that is meant, or all of a filter, and the options of a report."""
+def add_steps(part: argparse.ArgumentParser, verb: str) -> None:
+    """Add the step or the filter that a report is for, and the options of a report."""
     part.add_argument("key", metavar="KEY", nargs="?", help="the saga's key")
     part.add_argument("step", metavar="STEP", nargs="?", help="the step's name")
     part.add_argument(
         "--all", action="store_true", help="each step whose attempts are used up, without KEY"
     )
-    words_of_filter(part, "with --all: ")
+    add_filter_options(part, "with --all: ")
     part.add_argument("--step", metavar="NAME", dest="only", help="with --all: only this step")
     part.add_argument(
-        "--yes", action="store_true", help=f"with --all: {what} them (default: only count them)"
+        "--yes", action="store_true", help=f"with --all: {verb} them (default: only count them)"
     )
-    part.add_argument("--undo", action="store_true", help="mean the step's compensation")
+    part.add_argument("--undo", action="store_true", help="apply to the step's compensation")
     add_note(part)
     add_timeout(part)
 
 
 def add_files(part: argparse.ArgumentParser) -> None:
-    """The files of a record, and what is claimed of the standby."""
+    """Add the files of records, and the options of `record`."""
     part.add_argument(
-        "files", nargs="*", metavar="FILE", help="what a node or a client wrote by SAGAS_RECORD"
+        "files",
+        nargs="*",
+        metavar="FILE",
+        help="a file that a node or client wrote for SAGAS_RECORD",
     )
     part.add_argument(
         "--sync",
         action="store_true",
-        help="claim that each server that may take over has each answered commit",
+        help="assume that each standby that may take over has every acknowledged commit",
     )
     part.add_argument(
         "--save", metavar="DIR", help="write the record of each shard into this folder"
@@ -245,7 +246,7 @@ def add_files(part: argparse.ArgumentParser) -> None:
 
 
 def add_early(part: argparse.ArgumentParser) -> None:
-    """The option that a report is only of a step that waits."""
+    """Add the option that rejects reports of steps that have not begun."""
     part.add_argument(
         "--no-early",
         dest="early",
@@ -255,12 +256,12 @@ def add_early(part: argparse.ArgumentParser) -> None:
 
 
 def add_note(part: argparse.ArgumentParser) -> None:
-    """The option why."""
-    part.add_argument("--note", metavar="TEXT", help="why; stored with the time")
+    """Add the option for a note."""
+    part.add_argument("--note", metavar="TEXT", help="the reason, stored with the time")
 
 
 def add_timeout(part: argparse.ArgumentParser) -> None:
-    """The option how long to wait for the program's answer."""
+    """Add the option for the time to wait for an answer."""
     part.add_argument(
         "--timeout",
         type=not_negative,
@@ -270,31 +271,33 @@ def add_timeout(part: argparse.ArgumentParser) -> None:
     )
 
 
-def main(words: list[str] | None = None) -> int:
-    """Runs `sagas store` with the words behind it, and gives the status: 0 good, 1 no, 2 usage,
-    4 a file, 130 interrupted.
+def main(arguments: list[str] | None = None) -> int:
+    """Run `sagas store` and return its exit status.
+
+    0: done, 1: refused, 2: invalid arguments, 4: the store or the output cannot be used, 130:
+    interrupted.
     """
     escape()
-    given = parser().parse_args(words)
+    options = parser().parse_args(arguments)
     try:
-        status = status_of(given)
-        sys.stdout.flush()  # at exit, nobody would say that it failed
+        status = status_of(options)
+        sys.stdout.flush()  # at exit, an error would not be reported
         return status
     except BrokenPipeError:  # as of `| head`, which has what it wants
         drop_output()
         return CANNOT
     except OSError as error:
         drop_output()
-        what = error.filename or "cannot write the output or a temporary file"
-        complain(f"{what}: {error.strerror or error}")
+        location = error.filename or "cannot write the output or a temporary file"
+        complain(f"{location}: {error.strerror or error}")
         return CANNOT
 
 
-def status_of(given: argparse.Namespace) -> int:
-    """Runs the command, and says why it was refused. Raises `OSError`."""
-    command: Command = given.do
+def status_of(options: argparse.Namespace) -> int:
+    """Run the command, and print why it was refused. Raises `OSError`."""
+    command: Command = options.do
     try:
-        return command(given.path, given)
+        return command(options.path, options)
     except Trouble as trouble:
         complain(str(trouble))
         return trouble.status
@@ -302,5 +305,5 @@ def status_of(given: argparse.Namespace) -> int:
         complain(str(error))
         return CANNOT
     except KeyboardInterrupt:
-        complain("interrupted; what was done before is kept")
+        complain("interrupted; changes made before are kept")
         return INTERRUPTED

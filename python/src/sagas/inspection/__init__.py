@@ -1,4 +1,4 @@
-"""Questions to a store, for the API, the CLI and the dashboard alike.
+"""Read-only questions to a store, for the API, the command line and the dashboard.
 
 reader = sagas.inspection.StoreReader(store.reader())
 reader.ask(sagas.inspection.lists.counts())

@@ -1,7 +1,7 @@
 """Active attempts of a saga, merged with its stored state.
 
-What has begun of a saga, as its node knows it, beside what the store has: what runs, and for what
-the others wait.
+The node that executes a saga knows which attempts run and what the others wait for. The store
+has only the part of this that must survive a restart.
 """
 
 from __future__ import annotations
@@ -14,58 +14,63 @@ from sagas.core.states import known_state
 from sagas.inspection.views import SagaView, StepView, Waits
 
 BEGUN = ("running", "undoing")
-"""The states of a step of which an attempt has begun."""
+"""The states of a step that has an active attempt."""
 
 
-def known(view: SagaView, told: Iterable[ActiveAttempt], now: float) -> SagaView:
-    """A saga with what its node says of what has begun. A worker whose lease has run out has
-    nothing any more.
+def with_active_attempts(view: SagaView, active: Iterable[ActiveAttempt], now: float) -> SagaView:
+    """Return a saga's view with the active attempts that its node reports.
+
+    A worker whose lease has expired no longer has the task.
     """
-    begun = {(one.step, one.undo): one for one in view.stretches if one.ended is None}
-    found: dict[tuple[str, bool], Waits] = {
-        (one.step, one.undo): one
-        for one in view.held
-        if one.why != "external" or (one.until or 0.0) > now
+    begun = {(entry.step, entry.undo): entry for entry in view.stretches if entry.ended is None}
+    waiting: dict[tuple[str, bool], Waits] = {
+        (entry.step, entry.undo): entry
+        for entry in view.held
+        if entry.why != "external" or (entry.until or 0.0) > now
     }
     gone: dict[tuple[str, bool], Waits] = {
-        (one.step, one.undo): one for one in view.held if (one.step, one.undo) not in found
+        (entry.step, entry.undo): entry
+        for entry in view.held
+        if (entry.step, entry.undo) not in waiting
     }
-    running = {at for at, one in found.items() if one.why == "external"}
-    for one in told:
-        at = one.step, one.undo
+    running = {at for at, entry in waiting.items() if entry.why == "external"}
+    for entry in active:
+        at = entry.step, entry.undo
         stretch = begun.get(at)
-        if stretch is None or stretch.attempt != one.attempt:  # it went on meanwhile
+        if stretch is None or stretch.attempt != entry.attempt:  # it has changed since
             continue
-        if not one.waits:
+        if not entry.waits:
             running.add(at)
-            found.pop(at, None)  # for what it waited before
-        elif at in found and found[at].why == "external" and one.waits in ("external", "worker"):
-            pass  # another node gave it out
-        elif one.waits != "external" and (at not in found or found[at].why != one.waits):
-            found[at] = _waits(view, one, stretch.began, gone.pop(at, None))
+            waiting.pop(at, None)  # its previous wait
+        elif (
+            at in waiting
+            and waiting[at].why == "external"
+            and entry.waits in ("external", "worker")
+        ):
+            pass  # another node offered it
+        elif entry.waits != "external" and (at not in waiting or waiting[at].why != entry.waits):
+            waiting[at] = _waits(view, entry, stretch.began, gone.pop(at, None))
     for at, lease in gone.items():
-        found[at] = dataclasses.replace(lease, why="worker", until=None, said=_lease_of(lease))
-    held = sorted(found.values(), key=lambda one: float(one.since))
+        waiting[at] = dataclasses.replace(lease, why="worker", until=None, said=_lease_of(lease))
+    held = sorted(waiting.values(), key=lambda entry: float(entry.since))
     return dataclasses.replace(view, held=held, running=frozenset(running))
 
 
-def _waits(view: SagaView, one: ActiveAttempt, since: float, lease: Waits | None) -> Waits:
-    """An attempt that waits, of which the store has no row, or the row of a lease that has run
-    out.
-    """
-    said, count = (_lease_of(lease), lease.count) if lease else (None, 0)
+def _waits(view: SagaView, attempt: ActiveAttempt, since: float, lease: Waits | None) -> Waits:
+    """Return a waiting attempt for which the store has no row, or only an expired lease."""
+    detail, count = (_lease_of(lease), lease.count) if lease else (None, 0)
     return Waits(
         view.id,
         view.key,
         view.saga,
-        one.step,
-        one.undo,
-        one.attempt,
-        one.waits,
+        attempt.step,
+        attempt.undo,
+        attempt.attempt,
+        attempt.waits,
         count,
         since,
-        one.until,
-        said,
+        attempt.until,
+        detail,
     )
 
 
@@ -74,5 +79,5 @@ def _lease_of(held: Waits) -> str:
 
 
 def state_of(view: SagaView, step: StepView) -> str:
-    """A step's state: `running` where somebody knows that it runs, else `begun`."""
+    """Return a step's state: `running` if its attempt is known to run, else `begun`."""
     return step.state if (step.name, False) in view.running else known_state(step.state)

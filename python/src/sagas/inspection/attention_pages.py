@@ -18,13 +18,13 @@ from sagas.inspection.question import Query, Question
 from sagas.storage.filters import Filter
 from sagas.storage.queries import DAMAGED, DAMAGED_SINCE, PHASES
 
-Place = Optional[tuple[float, int, int]]
-"""The last entry of the page before: the start of its saga, that, and its step, or -1."""
+EntryPosition = Optional[tuple[float, int, int]]
+"""The last entry of the previous page: its saga's start and id, and its step's index or -1."""
 APPROVAL = "approval"
 KINDS = (*(reason.value for reason in AttentionReason), APPROVAL)
 CAUSE = """(SELECT x.value FROM attempts x WHERE x.id = s.id AND x.event = 'fail'
   ORDER BY x.at DESC, x.step LIMIT 1)"""
-"""What the step raised that failed last."""
+"""Selects the error of the step that failed last."""
 STUCK = f"""
 SELECT s.at AS started, s.id, -1 AS place, s.key, s.saga, d.definition, '' AS action,
   s.outcome, {CAUSE}, s.ended, NULL
@@ -63,21 +63,25 @@ BY_KIND = {
 }
 NOTHING = Filter()
 NUMBERS = re.compile(r"[0-9a-f]{8,}(?:-[0-9a-f]{4,})*|\d+")
-"""What differs between errors of one cause: numbers, and names that are made of them."""
+"""The parts that differ between errors of one cause: numbers and hexadecimal identifiers."""
 MOST_GROUPED = 20_000
 
 
 @dataclasses.dataclass(frozen=True, slots=True)
 class Entry:
-    """Something that needs a person. `step` is None of a saga that is stuck: `blocking` has the
-    steps because of which it is; and of one whose shard is damaged. `detail`: what was raised, or
-    what cannot be read; of a report that was not used its result, as it is stored. `by`: who
-    reported that."""
+    """An item that needs an operator.
+
+    Attributes:
+        step: The step's name. None if the saga is stuck or its shard is damaged.
+        blocking: The steps that make every plan infeasible, if the saga is stuck.
+        detail: The error, or what cannot be read. For an unused report, its result as stored.
+        by: Who sent the unused report.
+    """
 
     kind: str
     started: float
     id: int
-    place: int
+    step_index: int
     key: str
     saga: str
     step: str | None
@@ -90,10 +94,10 @@ class Entry:
 
     @property
     def cause(self) -> str:
-        """What is meant, and its detail without numbers: the same for all of one cause."""
+        """Return the step and its error without numbers: equal for all entries of one cause."""
         of = " and ".join(self.blocking) or self.step or ""
         of = f"undoing {of}" if self.undo else of
-        if self.kind == AttentionReason.UNUSED_REPORT:  # each has another result
+        if self.kind == AttentionReason.UNUSED_REPORT:  # results differ
             return of
         detail = NUMBERS.sub("…", self.detail) if self.detail else ""
         return ": ".join(part for part in (of, detail) if part)
@@ -110,47 +114,55 @@ class Group:
 
 def entries(
     kind: str,
-    of: Filter = NOTHING,
+    sagas: Filter = NOTHING,
     step: str | None = None,
     undo: bool | None = None,
     *,
-    after: Place = None,
+    after: EntryPosition = None,
     newest: bool = False,
-    most: int = 100,
+    limit: int = 100,
 ) -> Question[list[Entry]]:
-    """A page of one of `KINDS`, by the starts of the sagas. `of`: without a phase; `step`: of the
-    steps with this name, or that are declared with it; `undo`: of a `step`, whether its
-    compensation is meant; None: both are."""
-    text, place = BY_KIND[kind]
-    wheres, words = _among(of)
+    """Return a page of entries of one of `KINDS`, ordered by the starts of the sagas.
+
+    Args:
+        kind: The kind of entries.
+        sagas: The filter of sagas, without a phase.
+        step: The name or the declared name of a step. Default: entries of all steps.
+        undo: Whether to return compensations (True) or actions (False) of `step`. Default: both.
+        after: The last entry of the previous page.
+        newest: Whether the newest sagas come first.
+        most: The maximum number of entries.
+    """
+    text, step_column = BY_KIND[kind]
+    conditions, parameters = _among(sagas)
     if after is not None:
         sign, (at, id, _) = "<" if newest else ">", after
-        wheres.append(f"(+s.at, s.id) {sign}= (?, ?) AND (s.id <> ? OR {place} > ?)")
-        words += [at, id, *after[1:]]
+        conditions.append(f"(+s.at, s.id) {sign}= (?, ?) AND (s.id <> ? OR {step_column} > ?)")
+        parameters += [at, id, *after[1:]]
     down = " DESC" if newest else ""  # few are sorted: a + keeps from the index of all
-    order = f"ORDER BY +s.at{down}, s.id{down}{'' if place == '-1' else ', ' + place}"
-    wanted = most if step is None else MOST_GROUPED
-    query = " AND ".join([text, *wheres]) + f" {order} LIMIT ?"
-    rows = yield Query(query, (*words, wanted))
+    order = f"ORDER BY +s.at{down}, s.id{down}{'' if step_column == '-1' else ', ' + step_column}"
+    wanted = limit if step is None else MOST_GROUPED
+    query = " AND ".join([text, *conditions]) + f" {order} LIMIT ?"
+    rows = yield Query(query, (*parameters, wanted))
     names = yield from names_module.of_digests(row[5] for row in rows)
-    is_whole = kind == AttentionReason.DAMAGED  # a step has no part in it
-    some = [row for row in rows if is_whole or row[5] in names]
+    is_whole = kind == AttentionReason.DAMAGED  # it has no step
+    listed = [row for row in rows if is_whole or row[5] in names]
     if step is not None:
-        some = [row for row in some if row[2] >= 0 and names.is_of(step, row[5], row[2])]
-    found = [_entry(kind, names, *row) for row in some]
+        listed = [row for row in listed if row[2] >= 0 and names.is_of(step, row[5], row[2])]
+    result = [_entry(kind, names, *row) for row in listed]
     if kind == AttentionReason.UNUSED_REPORT:
-        by = yield from unused_reports.reporters(one.key for one in found)
-        told = ((one, by.get((one.key, one.step or ""))) for one in found)
-        found = [dataclasses.replace(one, by=who) for one, who in told]
+        by = yield from unused_reports.reporters(entry.key for entry in result)
+        reported = ((entry, by.get((entry.key, entry.step or ""))) for entry in result)
+        result = [dataclasses.replace(entry, by=reporter) for entry, reporter in reported]
     if step is None:
-        return found
-    return [one for one in found if undo in (None, one.undo)][:most]
+        return result
+    return [entry for entry in result if undo in (None, entry.undo)][:limit]
 
 
-def _among(of: Filter) -> tuple[list[str], list[Any]]:
-    """A condition on the sagas of a filter, and its words. Few sagas need a person."""
-    where, words = of.where(of_few=True)
-    return [where], words
+def _among(sagas: Filter) -> tuple[list[str], list[Any]]:
+    """Return the condition of a filter and its parameters, for a small result."""
+    condition, parameters = sagas.where(of_few=True)
+    return [condition], parameters
 
 
 def _entry(
@@ -158,7 +170,7 @@ def _entry(
     names: Names,
     started: float,
     id: int,
-    place: int,
+    step_index: int,
     key: str,
     saga: str,
     digest: str,
@@ -173,33 +185,33 @@ def _entry(
         detail = str((json.loads(detail) or {}).get("error", ""))
     if detail is not None and kind == AttentionReason.UNUSED_REPORT:
         detail = unescaped(detail)
-    step = None if place < 0 else steps[place]
+    step = None if step_index < 0 else steps[step_index]
     undo = action == "undo"
-    return Entry(kind, started, id, place, key, saga, step, undo, blocking, detail, *times)
+    return Entry(kind, started, id, step_index, key, saga, step, undo, blocking, detail, *times)
 
 
 def count(
     kind: str,
-    of: Filter = NOTHING,
+    sagas: Filter = NOTHING,
     step: str | None = None,
     undo: bool | None = None,
     *,
     by_saga: bool = False,
 ) -> Question[int]:
-    """How many there are of a kind; `undo`: as of `entries`; `by_saga`: of how many sagas."""
+    """Count the entries of a kind. With `by_saga`, count each saga once."""
     if step is not None:
-        return len((yield from entries(kind, of, step, undo, most=MOST_GROUPED)))
-    wheres, words = _among(of)
-    text = " AND ".join([BY_KIND[kind][0], *wheres])
-    what = "DISTINCT c.id" if by_saga else "*"
-    rows = yield Query(f"SELECT count({what}) FROM ({text}) c", (*words,))
+        return len((yield from entries(kind, sagas, step, undo, limit=MOST_GROUPED)))
+    conditions, parameters = _among(sagas)
+    text = " AND ".join([BY_KIND[kind][0], *conditions])
+    counted = "DISTINCT c.id" if by_saga else "*"
+    rows = yield Query(f"SELECT count({counted}) FROM ({text}) c", (*parameters,))
     return int(rows[0][0])
 
 
-def groups(some: Iterable[Entry]) -> list[Group]:
-    """Entries by definition and cause: in the order of the first of each."""
-    found: dict[tuple[str, str], Group] = {}
-    for one in some:
-        at = one.saga, one.cause
-        found.setdefault(at, Group(*at, [])).entries.append(one)
-    return list(found.values())
+def groups(listed: Iterable[Entry]) -> list[Group]:
+    """Group entries by definition and cause, in the order of the first entry of each group."""
+    result: dict[tuple[str, str], Group] = {}
+    for entry in listed:
+        at = entry.saga, entry.cause
+        result.setdefault(at, Group(*at, [])).entries.append(entry)
+    return list(result.values())

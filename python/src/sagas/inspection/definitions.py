@@ -1,4 +1,4 @@
-"""Questions about the sagas of one definition: where they are, and what recoveries cost."""
+"""Questions about the sagas of one definition: their steps and their costs."""
 
 from __future__ import annotations
 
@@ -13,8 +13,8 @@ from sagas.inspection.question import Query, Question
 from sagas.storage.filters import Scope
 from sagas.storage.queries import PHASES
 
-MOST, MOST_FAILED = 5000, 2000
-"""Sagas that were recovered last: of so many the costs are added, and the failures looked up."""
+MOST_COSTS, MOST_FAILED = 5000, 2000
+"""How many of the latest recovered sagas are used for the costs and for the failures."""
 DAY = 86400.0
 DAYS = 14
 AT = "d.definition"
@@ -40,7 +40,7 @@ WITH_FAILURES = (
     FAILED.format(PHASES["stuck"]),
     FAILED.format(PHASES["recovered"]),
 )
-"""The sagas in which a step has failed, by the indexes of their phases."""
+"""Queries for failed steps, one for each phase, so that each uses the index of that phase."""
 COSTS = """
 SELECT ended, outcome FROM sagas s WHERE saga = ? AND {scope} AND recovered AND ended >= ?
 ORDER BY id DESC LIMIT ?
@@ -49,9 +49,15 @@ ORDER BY id DESC LIMIT ?
 
 @dataclasses.dataclass(frozen=True, slots=True)
 class AtStep:
-    """What is at a step: attempts that wait for a person, that a worker has, and that wait for
-    something else; and how often the step or its compensation failed permanently: of open and stuck
-    sagas, and of those recovered last, as far as nobody resolved them."""
+    """Counts of attempts at one step.
+
+    Attributes:
+        person: Attempts that wait for an operator.
+        worker: Attempts that workers have claimed.
+        waits: Attempts that wait for something else.
+        failed: Permanent failures of the step or its compensation, in sagas that are open or
+            stuck, or among the latest recovered ones, and that no operator has resolved.
+    """
 
     person: int = 0
     worker: int = 0
@@ -60,29 +66,29 @@ class AtStep:
 
     @property
     def open(self) -> int:
-        """Attempts of the step that are not over."""
+        """Return the number of active attempts of the step."""
         return self.person + self.worker + self.waits
 
 
 def at_steps(name: str, scope: Scope) -> Question[dict[str, AtStep]]:
-    """By the names with which the steps were declared."""
-    rows, (where, words) = [], scope.where()
+    """Count the attempts at each step of a definition, by declared step name."""
+    rows, (condition, parameters) = [], scope.where()
     for text in (HELD, OFFERED, *WITH_FAILURES):
-        rows += yield Query(text.format(scope=where), (name, *words))
+        rows += yield Query(text.format(scope=condition), (name, *parameters))
     names = yield from names_module.of_digests(digest for digest, *_ in rows)
-    found = dict[str, Counter[str]]()
-    for digest, step, what, count in rows:
-        if digest in names:  # else it was let go meanwhile
+    tallies = dict[str, Counter[str]]()
+    for digest, step, category, count in rows:
+        if digest in names:  # else it was deleted concurrently
             named = names.declared(digest)[step]
-            found.setdefault(named, Counter())[what] += count
-    return {step: AtStep(**counts) for step, counts in found.items()}
+            tallies.setdefault(named, Counter())[category] += count
+    return {step: AtStep(**counts) for step, counts in tallies.items()}
 
 
 def costs(name: str, now: float, scope: Scope) -> Question[list[tuple[float, int, int]]]:
-    """What recoveries cost lately: of each day its begin, how many ended, and their cost."""
+    """Return the costs of recoveries of the last 14 days: day, count and total cost of each."""
     first = (now // DAY - DAYS + 1) * DAY
-    where, words = scope.where()
-    rows = yield Query(COSTS.format(scope=where), (name, *words, first, MOST))
+    condition, parameters = scope.where()
+    rows = yield Query(COSTS.format(scope=condition), (name, *parameters, first, MOST_COSTS))
     counts, sums = Counter[float](), Counter[float]()
     known: dict[str | None, int] = {}  # most ended in one of a few ways
     for ended, outcome in rows:

@@ -12,19 +12,19 @@ COLUMNS = "id, webhook, type, key, at, state, attempts, status, error, due"
 
 @dataclasses.dataclass(frozen=True, slots=True)
 class Delivery:
-    """One thing that one webhook is told.
+    """One event that is posted to one webhook.
 
     Attributes:
         id: The same for all attempts.
-        webhook: Its name.
-        type: What is told.
+        webhook: The webhook's name.
+        type: The type of the event.
         key: The saga's key.
-        at: When it happened, in seconds since 1970.
+        at: When the event happened, in seconds since 1970.
         state: `pending`, `delivered` or `failed`.
-        attempts: How many posts were begun.
+        attempts: How many attempts were started.
         status: The status of the last answer, or None.
         error: Why there was no answer, or None.
-        due: When it is posted next, or None.
+        due: When the next attempt is due, or None.
     """
 
     id: str
@@ -39,24 +39,26 @@ class Delivery:
     due: float | None
 
 
-def listed(state: str | None, webhook: str | None, most: int) -> Question[list[Delivery]]:
-    """The latest, the newest first."""
-    wheres, words = ["1 = 1"], list[object]()
-    for name, word in (("state", state), ("webhook", webhook)):
-        if word is not None:
-            wheres.append(f"{name} = ?")
-            words.append(word)
-    text = f"SELECT {COLUMNS} FROM webhook_deliveries WHERE {' AND '.join(wheres)}"
-    rows = yield Query(f"{text} ORDER BY at DESC, id LIMIT ?", (*words, most))
+def listed(state: str | None, webhook: str | None, limit: int) -> Question[list[Delivery]]:
+    """Return the latest deliveries, newest first."""
+    conditions, parameters = ["1 = 1"], list[object]()
+    for name, wanted in (("state", state), ("webhook", webhook)):
+        if wanted is not None:
+            conditions.append(f"{name} = ?")
+            parameters.append(wanted)
+    text = f"SELECT {COLUMNS} FROM webhook_deliveries WHERE {' AND '.join(conditions)}"
+    rows = yield Query(f"{text} ORDER BY at DESC, id LIMIT ?", (*parameters, limit))
     return [_of(*row) for row in rows]
 
 
 def _of(*row: Any) -> Delivery:
-    one = Delivery(*row)
-    return dataclasses.replace(one, due=(one.due or one.at) if one.state == "pending" else None)
+    delivery = Delivery(*row)
+    return dataclasses.replace(
+        delivery, due=(delivery.due or delivery.at) if delivery.state == "pending" else None
+    )
 
 
 def one(id: str) -> Question[Delivery | None]:
-    """The delivery with this id."""
+    """Return the delivery with this id, or None."""
     rows = yield Query(f"SELECT {COLUMNS} FROM webhook_deliveries WHERE id = ?", (id,))
     return _of(*rows[0]) if rows else None

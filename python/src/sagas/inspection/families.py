@@ -17,13 +17,13 @@ CHILDREN = f"""
 SELECT s.key, s.saga, {PHASE} FROM children c JOIN sagas s ON s.id = c.id
 WHERE c.parent = ? ORDER BY s.at, s.id LIMIT {{most}}
 """
-MOST = 1024
-"""Children of a saga that are listed."""
+MOST_CHILDREN = 1024
+"""How many children of a saga are listed."""
 
 
 def seen_by(view: SagaView, scope: Scope) -> SagaView:
-    """Return a saga with those of its relatives that are in a scope."""
-    children = [one for one in view.children if scope.has_saga(one.saga, one.key)]
+    """Return a saga's view with only the relatives that are in a scope."""
+    children = [child for child in view.children if scope.has_saga(child.saga, child.key)]
     parent = view.parent
     if parent and not scope.has_saga(parent.saga, parent.key):
         parent = None
@@ -31,9 +31,15 @@ def seen_by(view: SagaView, scope: Scope) -> SagaView:
 
 
 def of(id: int, key: str) -> Question[tuple[Relative | None, list[Relative]]]:
-    """The parent of a saga, if it has one, and its children in the order of their starts."""
+    """Return the parent of a saga, or None, and its children in the order of their starts."""
     above = yield Query(PARENT, (id,))
-    below = yield Query(CHILDREN.format(most=MOST), (id,))
-    parent = [Relative(one, saga, phase, key[len(one + BELOW) :]) for one, saga, phase in above]
-    children = [Relative(one, saga, phase, one[len(key + BELOW) :]) for one, saga, phase in below]
+    below = yield Query(CHILDREN.format(most=MOST_CHILDREN), (id,))
+    parent = [
+        Relative(relative, saga, phase, key[len(relative + BELOW) :])
+        for relative, saga, phase in above
+    ]
+    children = [
+        Relative(relative, saga, phase, relative[len(key + BELOW) :])
+        for relative, saga, phase in below
+    ]
     return parent[0] if parent else None, children

@@ -6,28 +6,32 @@ import dataclasses
 from collections.abc import Hashable, Sequence
 
 FEW = 6
-"""So many equal steps are drawn as one."""
+"""From this number on, equal steps are drawn as one box."""
 
 
 @dataclasses.dataclass(frozen=True, slots=True)
 class Folded:
-    """A box: the numbers of its steps in the order of the definition, and what it needs, by the
-    places of other boxes."""
+    """A box: the numbers of its steps in the order of the definition, and the indexes of the boxes
+    that it needs.
+    """
 
     steps: list[int]
     needs: list[int]
 
 
 def folded(needs: Sequence[Sequence[int]], looks: Sequence[Hashable]) -> list[Folded]:
-    """The boxes of steps, by what each needs and how each looks. Equal are steps that look the
-    same, need the same, and are needed by the same."""
+    """Return the boxes of steps.
+
+    Steps are equal if they have the same needs, are needed by the same steps, and look the
+    same.
+    """
     needed_by: list[list[int]] = [[] for _ in needs]
-    for step, some in enumerate(needs):
-        for need in some:
+    for step, needed in enumerate(needs):
+        for need in needed:
             needed_by[need].append(step)
     groups: dict[Hashable, list[int]] = {}
-    for step, some in enumerate(needs):
-        at = (frozenset(some), frozenset(needed_by[step]), looks[step])
+    for step, needed in enumerate(needs):
+        at = (frozenset(needed), frozenset(needed_by[step]), looks[step])
         groups.setdefault(at, []).append(step)
     boxes: dict[int, list[int]] = {}
     for steps in groups.values():
@@ -36,8 +40,8 @@ def folded(needs: Sequence[Sequence[int]], looks: Sequence[Hashable]) -> list[Fo
         else:
             boxes |= {step: [step] for step in steps}
     ordered = [boxes[first] for first in sorted(boxes)]
-    place = {step: number for number, steps in enumerate(ordered) for step in steps}
+    box_of = {step: number for number, steps in enumerate(ordered) for step in steps}
     return [
-        Folded(steps, list(dict.fromkeys(place[need] for need in needs[steps[0]])))
+        Folded(steps, list(dict.fromkeys(box_of[need] for need in needs[steps[0]])))
         for steps in ordered
     ]

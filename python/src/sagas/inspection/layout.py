@@ -16,13 +16,13 @@ Point = tuple[float, float]
 
 @dataclasses.dataclass(slots=True)
 class Item:
-    """A step in its layer, or a line that passes it. `y` is its middle."""
+    """A step in its layer, or a line that passes the layer. `y` is its vertical center."""
 
     step: int | None
     layer: int
     left: list[int] = dataclasses.field(default_factory=list)
     right: list[int] = dataclasses.field(default_factory=list)
-    place: float = 0.0
+    lay_out: float = 0.0
     y: float = 0.0
 
     @property
@@ -32,8 +32,9 @@ class Item:
 
 @dataclasses.dataclass(frozen=True, slots=True)
 class Placed:
-    """The upper left corner of each step, and for each need (step, the place in its needs) the
-    points that its line passes.
+    """The upper left corner of each step, and the points of each line.
+
+    The key of a line is the step and the index in its needs.
     """
 
     corners: Sequence[Point]
@@ -43,19 +44,19 @@ class Placed:
 
 
 def layers_of(needs: Sequence[Sequence[int]]) -> list[int]:
-    """The layer of each step: one more than the last of those that it needs."""
-    found: dict[int, int] = {}
+    """Return the layer of each step: one more than the last layer among its needs."""
+    layers: dict[int, int] = {}
     for first in range(len(needs)):
         stack = [first]
         while stack:
             step = stack[-1]
-            open = [need for need in needs[step] if need not in found]
-            if step in found or not open:
-                found.setdefault(step, 1 + max((found[need] for need in needs[step]), default=-1))
+            missing = [need for need in needs[step] if need not in layers]
+            if step in layers or not missing:
+                layers.setdefault(step, 1 + max((layers[need] for need in needs[step]), default=-1))
                 stack.pop()
             else:
-                stack += open
-    return [found[step] for step in range(len(needs))]
+                stack += missing
+    return [layers[step] for step in range(len(needs))]
 
 
 class Layout:
@@ -67,16 +68,18 @@ class Layout:
         self.items = [Item(step, layer) for step, layer in enumerate(self.of)]
         self.chains: dict[tuple[int, int], list[int]] = {}
         passing = sum(
-            self.of[step] - self.of[need] - 1 for step, some in enumerate(needs) for need in some
+            self.of[step] - self.of[need] - 1
+            for step, needed in enumerate(needs)
+            for need in needed
         )
-        for step, some in enumerate(needs):
-            for place, need in enumerate(some):
-                self._link(step, place, need, passing <= MOST_PASSING)
+        for step, needed in enumerate(needs):
+            for index, need in enumerate(needed):
+                self._link(step, index, need, passing <= MOST_PASSING)
         self.layers: list[list[int]] = [[] for _ in range(max(self.of) + 1)]
         for number, item in enumerate(self.items):
             self.layers[item.layer].append(number)
 
-    def _link(self, step: int, place: int, need: int, passes: bool) -> None:
+    def _link(self, step: int, index: int, need: int, passes: bool) -> None:
         chain = [need]
         if passes:
             for layer in range(self.of[need] + 1, self.of[step]):
@@ -86,10 +89,10 @@ class Layout:
         for left, right in zip(chain, chain[1:]):
             self.items[left].right.append(right)
             self.items[right].left.append(left)
-        self.chains[step, place] = chain
+        self.chains[step, index] = chain
 
     def _order(self) -> None:
-        """Each item near the middle of its neighbours, from left to right and back."""
+        """Move each item near the mean of its neighbors, in alternating sweeps."""
         for layer in self.layers:
             self._number(layer)
         for sweep in range(SWEEPS):
@@ -98,7 +101,7 @@ class Layout:
                 wanted = {
                     number: self._middle(
                         self.items[number].left if forward else self.items[number].right,
-                        self.items[number].place,
+                        self.items[number].lay_out,
                     )
                     for number in layer
                 }
@@ -106,18 +109,18 @@ class Layout:
                 self._number(layer)
 
     def _number(self, layer: list[int]) -> None:
-        for place, number in enumerate(layer):
-            self.items[number].place = (place + 0.5) / len(layer)
+        for position, number in enumerate(layer):
+            self.items[number].lay_out = (position + 0.5) / len(layer)
 
-    def _middle(self, neighbours: list[int], default: float) -> float:
+    def _middle(self, neighbors: list[int], default: float) -> float:
         return (
-            sum(self.items[number].place for number in neighbours) / len(neighbours)
-            if neighbours
+            sum(self.items[number].lay_out for number in neighbors) / len(neighbors)
+            if neighbors
             else default
         )
 
     def _stack(self) -> None:
-        """Gives each item its height, as near to its neighbours as the order allows."""
+        """Give each item its vertical position, as near to its neighbors as the order allows."""
         for layer in self.layers:
             self._put(layer, [0.0] * len(layer))
         for sweep in range(SWEEPS):
@@ -126,9 +129,11 @@ class Layout:
                 wanted = []
                 for number in layer:
                     item = self.items[number]
-                    some = item.left if forward else item.right
+                    neighbors = item.left if forward else item.right
                     wanted.append(
-                        sum(self.items[one].y for one in some) / len(some) if some else item.y
+                        sum(self.items[neighbor].y for neighbor in neighbors) / len(neighbors)
+                        if neighbors
+                        else item.y
                     )
                 self._put(layer, wanted)
 
@@ -143,7 +148,7 @@ class Layout:
             self.items[number].y += off
 
     def placed(self) -> Placed:
-        """All corners and lines."""
+        """Return all corners and lines."""
         self._order()
         self._stack()
         top = min(item.y - item.height / 2 for item in self.items)
@@ -165,6 +170,6 @@ class Layout:
         return item.layer * (WIDTH + GAP_X), item.y
 
 
-def place(needs: Sequence[Sequence[int]]) -> Placed:
-    """The layout of steps by what each needs."""
+def lay_out(needs: Sequence[Sequence[int]]) -> Placed:
+    """Return the layout of steps, given what each needs."""
     return Layout(needs).placed()

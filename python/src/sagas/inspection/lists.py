@@ -1,4 +1,4 @@
-"""Questions about many sagas: counts, pages, what waits for an operator."""
+"""Questions about many sagas: counts, lists, and what waits for an operator."""
 
 from __future__ import annotations
 
@@ -48,8 +48,7 @@ SUMMARY = (
     f"{LABELS}"
 )
 HELD_BADLY = "((reason = 'unknown' AND until IS NULL) OR reason IN ('exhausted', 'cannot_decode'))"
-"""The rows of attempts that need a person to say something, or another program. An approval is
-asked for, and no trouble."""
+"""Rows of attempts that need an operator, or another program. Approvals are not among them."""
 SAME = (
     "{0}.id = {1}.id AND {0}.step = {1}.step AND {0}.action = {1}.action AND {0}.number = "
     "{1}.number"
@@ -62,18 +61,21 @@ SUSPENDED = f"""(
     e.worker
   FROM external_attempts e
   WHERE e.outcome IS NULL AND e.worker IS NOT NULL AND e.until IS NOT NULL{{e}}{{unclaimed}})"""
-"""What is suspended, and what a worker has; of what is offered again nobody waits for a time, and
-no worker has it, though its row says who had it last. With a further condition of each."""
+"""Suspended attempts and claimed tasks, with room for a further condition on each.
+
+A task that is offered again is not listed, although its row still names the last worker.
+"""
 UNCLAIMED = """
   UNION ALL SELECT e.id, e.step, e.action, e.number, 'worker', 0, e.offered_at, NULL, NULL
   FROM external_attempts e
   WHERE e.outcome IS NULL AND e.task > '' AND e.worker IS NULL AND e.offered_at < ?"""
-"""What is offered to workers since an earlier time, and none has claimed."""
+"""Tasks that were offered to workers before a given time, and that no worker has claimed."""
 OF_KEY = " AND {}.id = (SELECT id FROM sagas WHERE key = ?)"
 PERSON = f"(reason = 'approval' OR {HELD_BADLY})"
 WAITS = "NOT (reason = 'wait' AND until = 0) AND number > 0"
-"""The row of a wait stays behind its time, so that nobody waits once more. Of attempt 0 are the
-reports of steps that have not begun."""
+"""Excludes timers that have expired, whose rows remain, and reports of steps that have not begun
+(attempt 0).
+"""
 COUNTS = f"""
 SELECT saga, 'completed', count(*) FROM sagas s WHERE {{0}} GROUP BY saga
 UNION ALL SELECT saga, 'open', count(*) FROM sagas s WHERE {PHASES["open"]} AND {{0}} GROUP BY saga
@@ -82,39 +84,44 @@ UNION ALL SELECT saga, CASE WHEN note IS NULL THEN 'stuck' ELSE 'resolved' END, 
 UNION ALL SELECT saga, CASE WHEN note IS NULL THEN 'recovered' ELSE 'resolved' END, count(*)
   FROM sagas s WHERE recovered AND {{0}} GROUP BY 1, 2
 """
-"""All sagas of each definition, and those of the phases that have an index: so nothing is sorted
-but names."""
+"""All sagas of each definition, and those of each phase that has an index. So the query sorts only
+names.
+"""
 UNASKED = """NOT EXISTS (SELECT 1 FROM operator_commands r WHERE r.key = s.key
   AND r.command = 'abort' AND (r.answer IS NULL OR r.answer IN ('true', 'false')))"""
-"""Nobody has asked to abort a saga `s`. Where that was refused, it always is."""
+"""No operator has requested to abort saga `s`. A request that was refused counts: it would be
+refused again.
+"""
 OLDEST = "ORDER BY +s.at, s.id"
-"""The oldest first, of few sagas: a + keeps the databases from the index of all."""
+"""Oldest first, for small results. The + keeps the databases from using the index of all sagas."""
 MOST, ALL = 100, 1 << 60
 
 
 def summary_of(row: Row) -> Summary:
-    """A line of a list, by the columns of `SUMMARY`."""
+    """Return a saga summary from the columns of `SUMMARY`."""
     id, key, saga, phase, at, ended, note, recovered, undo_failed, deadline, labels = row
     phase = states.saga_phase(phase, bool(recovered), note).value
-    told = labels_of(labels)
-    return Summary(id, key, saga, phase, at, ended, note, bool(undo_failed), told, deadline)
+    label_values = labels_of(labels)
+    return Summary(id, key, saga, phase, at, ended, note, bool(undo_failed), label_values, deadline)
 
 
 def counts(scope: Scope = EVERYTHING) -> Question[Counts]:
-    """How many sagas there are, by name and phase."""
-    found: Counts = {}
-    where, words = scope.where()
-    rows = yield Query(COUNTS.format(where), (*words, *words, *words, *words))
+    """Count sagas by name and phase."""
+    result: Counts = {}
+    condition, parameters = scope.where()
+    rows = yield Query(
+        COUNTS.format(condition), (*parameters, *parameters, *parameters, *parameters)
+    )
     for saga, phase, count in sorted(rows, key=lambda row: str(row[1]) != "completed"):
-        of = found.setdefault(saga, dict.fromkeys(COUNTED, 0))
-        of[phase] += count
-        if phase != "completed":  # so far these are all
-            of["completed"] -= count
-    return dict(sorted(found.items()))
+        phases = result.setdefault(saga, dict.fromkeys(COUNTED, 0))
+        phases[phase] += count
+        if phase != "completed":  # includes all phases so far
+            phases["completed"] -= count
+    return dict(sorted(result.items()))
 
 
 HEADS = "SELECT definition, substr(text, 1, 40) FROM definitions"
-"""Of each definition as much as its version stands in."""
+"""The beginning of each definition, which contains its version."""
 
 
 OpenByToken = dict[str, tuple[int, int]]
@@ -125,17 +132,19 @@ WHERE {PHASES["open"]}
 
 
 def open_by_token() -> Question[OpenByToken]:
-    """How many open sagas each token started by a service, and the bytes of their inputs."""
-    found: OpenByToken = {}
+    """Return, by token name, how many open sagas a service started for it, and the bytes of their
+    inputs.
+    """
+    result: OpenByToken = {}
     for (text,) in (yield Query(OPEN_BY_TOKEN, is_long=True)):
         size, _, name = text.partition(" ")
-        count, total = found.get(name, (0, 0))
-        found[name] = count + 1, total + int(size)
-    return found
+        count, total = result.get(name, (0, 0))
+        result[name] = count + 1, total + int(size)
+    return result
 
 
 def definitions() -> Question[list[DefinitionCount]]:
-    """How many sagas there are of each version of each definition, by name and version."""
+    """Count the sagas of each version of each definition, ordered by name and version."""
     rows = yield Query(
         f"""
         SELECT d.definition, s.saga, count(*), count(CASE WHEN s.phase IS NULL THEN 1 END)
@@ -145,69 +154,75 @@ def definitions() -> Question[list[DefinitionCount]]:
     )
     heads: dict[str, str] = {digest: head for digest, head in (yield Query(HEADS, is_long=True))}
     undoable = {row[:2]: row[2] for row in (yield Query(UNDOABLE, is_long=True))}
-    found = dict[tuple[str, int], tuple[int, int, int]]()
+    result = dict[tuple[str, int], tuple[int, int, int]]()
     for digest, saga, total, open in rows:
-        if digest in heads:  # else it was let go meanwhile
+        if digest in heads:  # else it was deleted concurrently
             name = saga, version_of(heads[digest])
-            before, held = found.get(name, (0, 0, 0)), undoable.get((digest, saga), 0)
-            found[name] = open + before[0], total + before[1], held + before[2]
-    return [DefinitionCount(*name, *counts) for name, counts in sorted(found.items())]
+            before, held = result.get(name, (0, 0, 0)), undoable.get((digest, saga), 0)
+            result[name] = open + before[0], total + before[1], held + before[2]
+    return [DefinitionCount(*name, *counts) for name, counts in sorted(result.items())]
 
 
 def schedules() -> Question[list[Schedule]]:
-    """The schedules, by name."""
+    """Return the schedules, ordered by name."""
     rows = yield Query(schedules_module.ALL)
     return [schedules_module.of_row(row) for row in rows]
 
 
 def count(filter: Filter) -> Question[int]:
-    """How many sagas there are of a filter."""
-    where, words = filter.where()
-    rows = yield Query(f"SELECT count(*) FROM sagas s WHERE {where}", (*words,))
+    """Count the sagas that a filter selects."""
+    condition, parameters = filter.where()
+    rows = yield Query(f"SELECT count(*) FROM sagas s WHERE {condition}", (*parameters,))
     return int(rows[0][0])
 
 
-def to_abort(of: Filter, most: int) -> Question[tuple[int, list[str]]]:
-    """How many sagas of a filter nobody has asked to abort, and the keys of the oldest of them.
-    Those that undo children are left out.
+def to_abort(sagas: Filter, limit: int) -> Question[tuple[int, list[str]]]:
+    """Count the sagas of a filter without an abort request, and return the keys of the oldest.
+
+    Sagas that undo children are left out.
     """
-    where, words = of.where()
-    some = f"FROM sagas s WHERE {where} AND {UNASKED} AND NOT {UNDOES_CHILD}"
-    rows = yield Query(f"SELECT count(*) {some}", (*words, UNDOING_KEYS))
-    keys = yield Query(f"SELECT s.key {some} {OLDEST} LIMIT ?", (*words, UNDOING_KEYS, most))
+    condition, parameters = sagas.where()
+    source = f"FROM sagas s WHERE {condition} AND {UNASKED} AND NOT {UNDOES_CHILD}"
+    rows = yield Query(f"SELECT count(*) {source}", (*parameters, UNDOING_KEYS))
+    keys = yield Query(
+        f"SELECT s.key {source} {OLDEST} LIMIT ?", (*parameters, UNDOING_KEYS, limit)
+    )
     return int(rows[0][0]), [str(key) for key, in keys]
 
 
-def undoing(of: Filter) -> Question[int]:
-    """How many sagas of a filter undo children."""
-    where, words = of.where()
-    query = f"SELECT count(*) FROM sagas s WHERE {where} AND {UNDOES_CHILD}"
-    rows = yield Query(query, (*words, UNDOING_KEYS))
+def undoing(sagas: Filter) -> Question[int]:
+    """Count the sagas of a filter that undo children."""
+    condition, parameters = sagas.where()
+    query = f"SELECT count(*) FROM sagas s WHERE {condition} AND {UNDOES_CHILD}"
+    rows = yield Query(query, (*parameters, UNDOING_KEYS))
     return int(rows[0][0])
 
 
-def asked(scope: Scope = EVERYTHING) -> Question[dict[str, int]]:
-    """How many things wait for a person: stuck sagas, sagas of which a compensation failed
-    permanently, reports that were not used, approvals, attempts that are exhausted, whose outcome
-    is unknown, or whose stored values cannot be read, and open sagas whose shard is damaged."""
-    (where, words), within = scope.where(), ""
+def attention_counts(scope: Scope = EVERYTHING) -> Question[dict[str, int]]:
+    """Count what waits for an operator, by reason.
+
+    The reasons are: stuck sagas, permanently failed compensations, unused reports, approvals,
+    exhausted attempts, unknown outcomes, stored values that cannot be read, and open sagas of
+    damaged shards.
+    """
+    (condition, parameters), within = scope.where(), ""
     if scope != EVERYTHING:
-        within = f" AND id IN (SELECT id FROM sagas s WHERE {where})"
+        within = f" AND id IN (SELECT id FROM sagas s WHERE {condition})"
     query = f"SELECT reason, count(*) FROM suspensions WHERE {PERSON}{within} GROUP BY reason"
-    rows = yield Query(query, (*words,))
+    rows = yield Query(query, (*parameters,))
     held = {reason: count for reason, count in rows}
     asks = ("unknown", "exhausted", "cannot_decode", "approval")
-    told = {word: held.get(word, 0) for word in asks}
+    held_counts = {reason: held.get(reason, 0) for reason in asks}
     stuck = yield from count(Filter("stuck", scope=scope))
     undo_failed = yield from count(Filter("undo_failed", scope=scope))
-    damaged = yield Query(f"SELECT count(*) {DAMAGED} AND {where}", (*words,))
+    damaged = yield Query(f"SELECT count(*) {DAMAGED} AND {condition}", (*parameters,))
     unused = yield from unused_reports.count(scope)
     ends = {"stuck": stuck, "undo_failed": undo_failed, "unused_report": unused}
-    return {**ends, **told, "damaged": int(damaged[0][0])}
+    return {**ends, **held_counts, "damaged": int(damaged[0][0])}
 
 
 def waits(
-    most: int = MOST,
+    limit: int = MOST,
     *,
     person: bool = True,
     why: str | None = None,
@@ -217,44 +232,52 @@ def waits(
     offered_before: float | None = None,
     step: str | None = None,
 ) -> Question[list[Waits]]:
-    """What is held, the oldest first; by default what a person has to say something about. `why`:
-    of this reason alone; `key`: of one saga alone; `within`: of those sagas alone;
-    `offered_before`: of all sagas also the tasks that were offered to workers before then, and
-    that none has claimed (`worker`); `step`: of the steps with this name, or that are declared
-    with it."""
-    seen, words = scope.where()
-    wheres = [WAITS, seen]
+    """Return suspended attempts, the oldest first.
+
+    Args:
+        most: The maximum number of attempts.
+        person: Whether to return only attempts that wait for an operator.
+        why: Only attempts with this reason.
+        key: Only attempts of the saga with this key.
+        scope: Only attempts of sagas in this scope.
+        within: Only attempts of sagas that this filter selects.
+        offered_before: Also return tasks offered to workers before this time that none has claimed,
+            with the reason `worker`.
+        step: Only attempts of steps with this name or declared name.
+    """
+    visible, parameters = scope.where()
+    conditions = [WAITS, visible]
     if within is not None:
         condition, more = within.where()
-        wheres.append(condition)
-        words += more
+        conditions.append(condition)
+        parameters += more
     if person:
-        wheres.append(PERSON)
+        conditions.append(PERSON)
     if why is not None:
-        wheres.append("reason = ?")
-        words.append(why)
+        conditions.append("reason = ?")
+        parameters.append(why)
     held, keys = "suspensions", list[Any]()
     if key is not None and person:
-        wheres.append(f"h.id = h.id{OF_KEY.format('h')}")
-        words.append(key)
+        conditions.append(f"h.id = h.id{OF_KEY.format('h')}")
+        parameters.append(key)
     elif not person:
-        of = {part: OF_KEY.format(part) if key is not None else "" for part in ("u", "e")}
+        of_key = {part: OF_KEY.format(part) if key is not None else "" for part in ("u", "e")}
         unclaimed = "" if offered_before is None else UNCLAIMED
-        held, keys = SUSPENDED.format(**of, unclaimed=unclaimed), [key, key] if key else []
+        held, keys = SUSPENDED.format(**of_key, unclaimed=unclaimed), [key, key] if key else []
         keys += [offered_before] if unclaimed else []
     rows = yield Query(
         f"""
         SELECT s.key, s.saga, d.definition, {HELD}
         FROM {held} h JOIN sagas s ON s.id = h.id {OF_SHARD}
-        WHERE {' AND '.join(wheres)} ORDER BY h.since LIMIT ?
+        WHERE {' AND '.join(conditions)} ORDER BY h.since LIMIT ?
         """,
-        (*keys, *words, most if step is None else ALL),  # the rows have no names of steps
+        (*keys, *parameters, limit if step is None else ALL),  # the rows have no names of steps
     )
     names = yield from names_module.of_digests(row[2] for row in rows)
-    found = (row for row in rows if row[2] in names)
+    known = (row for row in rows if row[2] in names)
     return [
-        _waits(names, *row) for row in found if step is None or names.is_of(step, row[2], row[4])
-    ][:most]
+        _waits(names, *row) for row in known if step is None or names.is_of(step, row[2], row[4])
+    ][:limit]
 
 
 def _waits(
@@ -274,19 +297,21 @@ def _waits(
     name = names.of(digest)[step]
     if why in FAILED_BEFORE:  # its row counts on from the engine's last attempt, or from a retry
         count += number - 1
-    told = why, max(0, count), since, until, detail
-    return Waits(id, key, saga, name, action == "undo", number, *told)
+    rest = why, max(0, count), since, until, detail
+    return Waits(id, key, saga, name, action == "undo", number, *rest)
 
 
-def stuck(most: int = MOST, scope: Scope = EVERYTHING) -> Question[list[tuple[Summary, list[str]]]]:
-    """The stuck sagas that nobody has resolved, with the chain of each, the oldest first."""
-    where, words = scope.where()
+def stuck(
+    limit: int = MOST, scope: Scope = EVERYTHING
+) -> Question[list[tuple[Summary, list[str]]]]:
+    """Return the unresolved stuck sagas with their blocking steps, the oldest first."""
+    condition, parameters = scope.where()
     rows = yield Query(
         f"""
         SELECT {SUMMARY}, d.definition, s.outcome FROM sagas s {OF_SHARD}
-        WHERE {PHASES["stuck"]} AND {where} {OLDEST} LIMIT ?
+        WHERE {PHASES["stuck"]} AND {condition} {OLDEST} LIMIT ?
         """,
-        (*words, most),
+        (*parameters, limit),
     )
     names = yield from names_module.of_digests(row[-2] for row in rows)
     return [
@@ -297,34 +322,32 @@ def stuck(most: int = MOST, scope: Scope = EVERYTHING) -> Question[list[tuple[Su
 
 
 def chain_of(names: list[str], end: str | None) -> list[str]:
-    """The steps because of which a saga is stuck, by what is kept of its end."""
+    """Return the names of the steps that block a stuck saga, from its stored outcome."""
     answer = (json.loads(end).get("answer") if end else None) or {}
     return [names[step] for step in answer.get("chain", ())]
 
 
-def stuck_results(
-    kind_of: Callable[[str], CompiledDefinition], most: int
-) -> Question[list[SagaResult]]:
-    """As `stuck`, with all that is kept of the end of each."""
+def stuck_results(kind_of: Callable[[str], CompiledDefinition], limit: int) -> Question[list[SagaResult]]:
+    """Return the full results of the unresolved stuck sagas, the oldest first."""
     rows = yield Query(
         f"""
         SELECT {SAGA}, d.definition FROM sagas s {OF_SHARD}
         WHERE {PHASES["stuck"]} {OLDEST} LIMIT ?
         """,
-        (most,),
+        (limit,),
     )
     names = yield from names_module.of_digests(row[-1] for row in rows)
-    found = []
+    results = []
     for *columns, digest in rows:
         row = SagaRow(*columns)
         attempts = yield Query(RESULTS, (row.id,))
         if digest in names:
-            found.append(end_of(kind_of(names.text(digest)), row, attempts))
-    return found
+            results.append(end_of(kind_of(names.text(digest)), row, attempts))
+    return results
 
 
-def unknown(most: int) -> Question[list[UnknownAttempt]]:
-    """The attempts with an unknown outcome; first those that a person has to report."""
+def unknown(limit: int) -> Question[list[UnknownAttempt]]:
+    """Return attempts with an unknown outcome, those that an operator must report first."""
     rows = yield Query(
         f"""
         SELECT s.key, s.saga, d.definition, l.name, {HELD}
@@ -332,18 +355,18 @@ def unknown(most: int) -> Question[list[UnknownAttempt]]:
         JOIN shards l ON l.shard = d.shard WHERE h.reason = 'unknown'
         ORDER BY h.until IS NOT NULL, h.since LIMIT ?
         """,
-        (most,),
+        (limit,),
     )
     names = yield from names_module.of_digests(row[2] for row in rows)
-    found = []
-    for key_of, saga, digest, log, id, step, action, number, _, *told in rows:
+    result = []
+    for key_of, saga, digest, log, id, step, action, number, _, *rest in rows:
         if digest not in names:
             continue
         name = names.of(digest)[step]
         key = tokens.idempotency_key(tokens.saga_token(log, id % SHARD_CAPACITY), name, action)
         token = tokens.attempt_id(key, number)
-        found.append(UnknownAttempt(key_of, saga, name, action == "undo", number, token, *told))
-    return found
+        result.append(UnknownAttempt(key_of, saga, name, action == "undo", number, token, *rest))
+    return result
 
 
 IN_DAMAGED = f"""
@@ -353,9 +376,9 @@ SELECT s.key, s.saga, coalesce(d.definition, ''), 'damaged', NULL, '', l.audit, 
 
 
 def attention(
-    most: int = MOST, decode: Callable[[str], str] = unescaped
+    limit: int = MOST, decode: Callable[[str], str] = unescaped
 ) -> Question[list[Attention]]:
-    """What needs a person, the oldest first. `decode`: reads a stored result."""
+    """Return what needs an operator, the oldest first. `decode` reads a stored result."""
     stuck_sagas = f"""
         SELECT s.key, s.saga, d.definition, 'stuck', NULL, NULL, s.outcome,
           s.ended
@@ -373,76 +396,78 @@ def attention(
           SELECT s.id FROM sagas s WHERE {PHASES["stuck"]} ORDER BY s.ended, s.id LIMIT ?)
         ORDER BY r.at, r.number
         """
-    rows = yield Query(stuck_sagas, (most,))
+    rows = yield Query(stuck_sagas, (limit,))
     errors = {
         (key, step): (event.startswith("undo"), value.get("error", ""))
-        for key, step, event, text in (yield Query(raised, (most,)))
+        for key, step, event, text in (yield Query(raised, (limit,)))
         if was_called(event, value := json.loads(text or "null") or {})
     }
-    rows = rows + (yield undone_query(most))
-    rows = rows + (yield Query(attempts, (most,)))
-    rows = rows + (yield Query(IN_DAMAGED, (most,)))
-    unused = yield Query(unused_reports.ROWS, (most,))
+    rows = rows + (yield undone_query(limit))
+    rows = rows + (yield Query(attempts, (limit,)))
+    rows = rows + (yield Query(IN_DAMAGED, (limit,)))
+    unused = yield Query(unused_reports.ROWS, (limit,))
     reporters = yield from unused_reports.reporters(row[0] for row in unused)
-    found = yield from _entries(rows + unused, most, errors)
-    return [_reported(one, reporters, decode) for one in found]
+    entries = yield from _entries(rows + unused, limit, errors)
+    return [_reported(entry, reporters, decode) for entry in entries]
 
 
 def _reported(
-    one: Attention, reporters: unused_reports.Reporters, decode: Callable[[str], str]
+    entry: Attention, reporters: unused_reports.Reporters, decode: Callable[[str], str]
 ) -> Attention:
-    """Of a report that was not used who reported what."""
-    if one.why is not AttentionReason.UNUSED_REPORT or one.step is None:
-        return one
+    """Return an entry for an unused report with its result and the reporter's name."""
+    if entry.why is not AttentionReason.UNUSED_REPORT or entry.step is None:
+        return entry
     try:
-        detail = decode(one.detail or "null")
+        detail = decode(entry.detail or "null")
     except CannotDecode:
         detail = None
-    return dataclasses.replace(one, detail=detail, by=reporters.get((one.key, one.step)))
+    return dataclasses.replace(entry, detail=detail, by=reporters.get((entry.key, entry.step)))
 
 
-def undone(most: int = MOST, scope: Scope = EVERYTHING) -> Question[list[Attention]]:
-    """The compensations that failed permanently of sagas that have ended and that nobody has
-    resolved, the oldest first."""
-    rows = yield undone_query(most, scope)
-    return (yield from _entries(rows, most))
+def undone(limit: int = MOST, scope: Scope = EVERYTHING) -> Question[list[Attention]]:
+    """Return permanently failed compensations of unresolved sagas that have ended, oldest first."""
+    rows = yield undone_query(limit, scope)
+    return (yield from _entries(rows, limit))
 
 
-def undone_query(most: int, scope: Scope = EVERYTHING) -> Query:
-    """Asks for compensations that failed permanently."""
-    where, words = scope.where()
+def undone_query(limit: int, scope: Scope = EVERYTHING) -> Query:
+    """Return the query for permanently failed compensations."""
+    condition, parameters = scope.where()
     return Query(
         f"""
         SELECT s.key, s.saga, d.definition,
           'undo_failed', r.step, 'undo', r.value, r.at
         FROM sagas s CROSS JOIN attempts r {OF_SHARD}
         WHERE r.id = s.id AND r.event = 'undo_fail' AND {PHASES["undo_failed"]}
-          AND {where} ORDER BY r.at, s.id, r.step LIMIT ?
+          AND {condition} ORDER BY r.at, s.id, r.step LIMIT ?
         """,
-        (*words, most),
+        (*parameters, limit),
     )
 
 
 def _entries(
-    rows: list[Row], most: int, errors: Mapping[tuple[str, int], tuple[bool, str]] = {}
+    rows: list[Row], limit: int, errors: Mapping[tuple[str, int], tuple[bool, str]] = {}
 ) -> Question[list[Attention]]:
-    """`errors`: by the key of a stuck saga and a step, what that raised last, and whether its
-    compensation did."""
+    """Return entries from rows.
+
+    `errors` maps the key of a stuck saga and a step to the last error, and to whether its
+    compensation raised it.
+    """
     names = yield from names_module.of_digests(row[2] for row in rows)
-    found = []
-    for key, saga, digest, word, step, action, told, since in rows:
-        why = AttentionReason(word)
+    entries = []
+    for key, saga, digest, reason, step, action, text, since in rows:
+        why = AttentionReason(reason)
         if digest not in names and why is not AttentionReason.DAMAGED:
             continue
         steps = names.of(digest) if digest in names else []
-        name, detail, undo = None if step is None else steps[step], told, action == "undo"
+        name, detail, undo = None if step is None else steps[step], text, action == "undo"
         if why is AttentionReason.STUCK:
-            chain = chain_of(steps, told)
+            chain = chain_of(steps, text)
             name = chain[-1] if chain else None
             undo, error = errors.get((key, steps.index(name)), (False, "")) if name else (False, "")
             because = f"because of {' and '.join(chain)}" if chain else ""
             detail = ": ".join(filter(None, [because, error])) or None
-        elif why is AttentionReason.UNDO_FAILED and told is not None:
-            detail = str(json.loads(told).get("error", ""))
-        found.append(Attention(key, saga, why, name, undo, detail, since))
-    return sorted(found, key=lambda one: one.since)[:most]
+        elif why is AttentionReason.UNDO_FAILED and text is not None:
+            detail = str(json.loads(text).get("error", ""))
+        entries.append(Attention(key, saga, why, name, undo, detail, since))
+    return sorted(entries, key=lambda entry: entry.since)[:limit]

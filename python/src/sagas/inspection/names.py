@@ -1,4 +1,4 @@
-"""Definitions of sagas in lists: each text is sent and read once, and not once a row."""
+"""Names of steps in lists: each definition is fetched and parsed once, and not once a row."""
 
 from __future__ import annotations
 
@@ -10,13 +10,14 @@ from sagas.inspection.question import Query, Question
 from sagas.storage.queries import OF_SHARD as OF_SHARD
 
 MANY = 500
-"""Definitions that are asked for at once."""
+"""How many definitions one query fetches."""
 
 
 class Names:
     """The names of steps, by the digest of a definition.
 
-    One that was let go meanwhile has none: its sagas are gone with it."""
+    A definition that was deleted concurrently has no names: its sagas are deleted too.
+    """
 
     def __init__(self, texts: dict[str, str]) -> None:
         self._texts = texts
@@ -27,21 +28,21 @@ class Names:
         return digest in self._texts
 
     def text(self, digest: str) -> str:
-        """A definition."""
+        """Return the text of a definition."""
         return self._texts[digest]
 
     def of(self, digest: str) -> list[str]:
-        """The names of a definition's steps. A text is read once."""
+        """Return the names of a definition's steps. Each text is parsed once."""
         if digest not in self._names:
             self._names[digest] = step_names(self.text(digest))
         return self._names[digest]
 
-    def is_of(self, step: str, digest: str, place: int) -> bool:
-        """Whether the step at a place of a definition has a name, or is declared with it."""
-        return step in (self.of(digest)[place], self.declared(digest)[place])
+    def is_of(self, step: str, digest: str, index: int) -> bool:
+        """Return whether the step at an index has this name or this declared name."""
+        return step in (self.of(digest)[index], self.declared(digest)[index])
 
     def declared(self, digest: str) -> list[str]:
-        """The names with which a definition's steps were declared: `hotel/room`."""
+        """Return the declared names of a definition's steps, such as `hotel/room`."""
         if digest not in self._declared:
             spots = Groups.read(self.text(digest)).origins
             self._declared[digest] = [spot.declared for spot in spots] or self.of(digest)
@@ -49,17 +50,17 @@ class Names:
 
 
 def step_names(definition: str) -> list[str]:
-    """The names of a definition's steps."""
+    """Return the names of a definition's steps."""
     return [step.name for step in listed_steps.of(definition)]
 
 
 def of_digests(digests: Iterable[str]) -> Question[Names]:
-    """The definitions with these digests."""
-    some, found = sorted(set(digests)), dict[str, str]()
-    for place in range(0, len(some), MANY):
-        lot = some[place : place + MANY]
-        marks = ", ".join("?" * len(lot))
+    """Return the names for the definitions with these digests."""
+    wanted, texts = sorted(set(digests)), dict[str, str]()
+    for start in range(0, len(wanted), MANY):
+        batch = wanted[start : start + MANY]
+        marks = ", ".join("?" * len(batch))
         text = f"SELECT definition, text FROM definitions WHERE definition IN ({marks})"
-        rows = yield Query(text, (*lot,))
-        found |= dict(rows)  # type: ignore[arg-type]
-    return Names(found)
+        rows = yield Query(text, (*batch,))
+        texts |= dict(rows)  # type: ignore[arg-type]
+    return Names(texts)

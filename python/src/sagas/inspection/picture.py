@@ -13,8 +13,8 @@ from sagas.engine.plan import Choice
 from sagas.inspection import wording
 from sagas.inspection.activity import state_of
 from sagas.inspection.folding import folded
-from sagas.inspection.group_boxes import Box, Link, Told, blocks_of, boxes_of, urgency
-from sagas.inspection.layout import GAP_X, HEIGHT, WIDTH, Placed, Point, place
+from sagas.inspection.group_boxes import Box, Link, StepDisplay, blocks_of, boxes_of, urgency
+from sagas.inspection.layout import GAP_X, HEIGHT, WIDTH, Placed, Point, lay_out
 from sagas.inspection.views import SagaView, Waits
 
 MARGIN = 6
@@ -51,12 +51,13 @@ color-scheme:light dark;
 """
 
 
-def cut(text: str, most: int) -> str:
+def shorten(text: str, most: int) -> str:
+    """Return a text, cut off after `most` characters."""
     return text if len(text) <= most else text[: most - 1] + "…"
 
 
-def named(text: str, most: int) -> str:
-    """A name, without its middle where it is longer: names often differ in their ends."""
+def shorten_name(text: str, most: int) -> str:
+    """Return a name, shortened in its middle, because names often differ in their ends."""
     return (
         text
         if len(text) <= most
@@ -64,22 +65,22 @@ def named(text: str, most: int) -> str:
     )
 
 
-def told_of(view: SagaView) -> list[Told]:
-    """What the boxes say, by step."""
+def displays_of(view: SagaView) -> list[StepDisplay]:
+    """Return how each step of a saga is shown."""
     choices = (
         {choice.step: choice for choice in view.plan.choices}
         if view.plan and view.plan.cost is not None
         else {}
     )
     chain = set(view.plan.blocking_steps) if view.plan and view.plan.cost is None else set()
-    held = {one.step: one for one in view.held}
-    found = []
+    held = {waits_of_step.step: waits_of_step for waits_of_step in view.held}
+    result = []
     for step in view.steps:
-        waits, choice = held.get(step.name), choices.get(step.name)
+        wait, choice = held.get(step.name), choices.get(step.name)
         over = view.phase != "open"
         why = (
-            waiting(waits)
-            if waits
+            waiting(wait)
+            if wait
             else "why it is stuck"
             if step.name in chain
             else decided(choice)
@@ -97,28 +98,28 @@ def told_of(view: SagaView) -> list[Told]:
             else wording.STATES[state_of(view, step)]
         )
         tone = icon = step.state
-        if waits and waits.asks:
-            state, tone = ASKED.get(waits.why, "waits"), "person"
-        elif waits and waits.why == "worker":
+        if wait and wait.asks:
+            state, tone = QUESTION_STATES.get(wait.why, "waits"), "person"
+        elif wait and wait.why == "worker":
             state, icon, why = (
                 "waits for a worker",
                 "waiting",
                 why or (tried(step.attempts, "") if step.state == "running" else ""),
             )
-        elif waits and waits.why not in ("external", "ordered"):
+        elif wait and wait.why not in ("external", "ordered"):
             state, icon = "waits", "waiting"
-        found.append(Told(state, why, left, tone, icon))
-    return found
+        result.append(StepDisplay(state, why, left, tone, icon))
+    return result
 
 
 EARLY = {"complete": "its success is reported", "fail": "its failure is reported"}
-ASKED = {
+QUESTION_STATES = {
     "approval": "to approve",
     "unknown": "unknown",
     "exhausted": "exhausted",
     "cannot_decode": "unreadable",
 }
-"""The state of a step that waits for a person's word."""
+"""The state of a step that waits for an operator."""
 TURNS = {
     "ordered": "in its queue",
     "unknown": "unknown; retried soon",
@@ -128,11 +129,11 @@ TURNS = {
 }
 """What some attempts wait for, in a few words."""
 SLOTS = ("concurrency", "fleet_concurrency", "rate_limit", "slot")
-"""What others wait for, as `WAITS_FOR` says it."""
+"""Reasons that are described by `WAITS_FOR`."""
 
 
 def waiting(held: Waits) -> str:
-    """What a held attempt waits for, in a few words."""
+    """Describe in a few words what a suspended attempt waits for."""
     if held.why == "external":
         return f"at {held.said}" if held.said else "claimed by a worker"
     if held.why == "worker":
@@ -147,68 +148,71 @@ def waiting(held: Waits) -> str:
 
 
 def decided(choice: Choice) -> str:
-    """What the plan decided of a step, and what that costs."""
+    """Describe what the plan decided about a step, and the cost of that."""
     cost = choice.cost_to_keep if choice.kept else choice.cost_to_drop
     text = f", costs {cost:,}" if cost else ""
     return f"plan: {wording.DECISIONS[choice.decision]}{text}"
 
 
 def tried(attempts: int, state: str) -> str:
+    """Describe the number of an attempt, if it is worth mentioning."""
     return f"attempt {attempts}" if attempts > 1 or state == "running" else ""
 
 
 def line(points: list[Point]) -> str:
-    """The path of a need, from a step to the one that needs it: level where it enters and leaves
+    """Return the SVG path from a step to one that needs it. It is level where it enters and leaves
     a layer.
     """
-    found = []
-    for place, ((x, y), (to, below)) in enumerate(zip(points, points[1:])):
+    path = []
+    for index, ((x, y), (to, below)) in enumerate(zip(points, points[1:])):
         start = x + WIDTH
-        if place:
-            found.append(f"H{start:.0f}")
+        if index:
+            path.append(f"H{start:.0f}")
         else:
-            found.append(f"M{start:.0f} {y:.1f}")
-        end = to - (8 if place == len(points) - 2 else 0)
+            path.append(f"M{start:.0f} {y:.1f}")
+        end = to - (8 if index == len(points) - 2 else 0)
         middle = (start + end) / 2 if to - start <= GAP_X + 1 else start + GAP_X / 2
-        found.append(f"C{middle:.0f} {y:.1f} {middle:.0f} {below:.1f} {end:.0f} {below:.1f}")
-    return " ".join(found)
+        path.append(f"C{middle:.0f} {y:.1f} {middle:.0f} {below:.1f} {end:.0f} {below:.1f}")
+    return " ".join(path)
 
 
 def boxes(shown: list[Box], placed: Placed) -> list[str]:
-    """Draw the steps. The table next to the picture has the same links, so a box's own is skipped
-    by the keyboard.
+    """Draw the steps.
+
+    The keyboard skips the links of boxes, because the table next to the picture has the same
+    links.
     """
-    found = []
-    for (step, told, _, href, _), (x, y) in zip(shown, placed.corners):
-        spoken = escape(f"{step}: {told.state}{', ' + told.why if told.why else ''}")
-        left, is_long = " left" if told.left else "", len(step) > 20
-        name = escape(named(step, 22 if is_long else 20))
-        before, behind = (f'<a href="{escape(href)}" tabindex="-1">', "</a>") if href else ("", "")
-        found.append(
-            f'{before}<g class="step {told.tone}{left}" transform="translate({x:.0f} {y:.1f})">'
+    result = []
+    for (step, display, _, href, _), (x, y) in zip(shown, placed.corners):
+        spoken = escape(f"{step}: {display.state}{', ' + display.why if display.why else ''}")
+        left, is_long = " left" if display.left else "", len(step) > 20
+        name = escape(shorten_name(step, 22 if is_long else 20))
+        before, after = (f'<a href="{escape(href)}" tabindex="-1">', "</a>") if href else ("", "")
+        result.append(
+            f'{before}<g class="step {display.tone}{left}" transform="translate({x:.0f} {y:.1f})">'
             f"<title>{spoken}</title>"
             f'<rect class="box" width="{WIDTH}" height="{HEIGHT}" rx="9"/>'
             f'<rect class="bar" x="0" y="12" width="4" height="{HEIGHT - 24}" rx="2"/>'
             f'<text class="name{" long" if is_long else ""}" x="15" y="24">{name}</text>'
-            f'<g class="icon" transform="translate(21 41) scale(.95)">{ICONS[told.icon]}</g>'
-            f'<text class="state" x="33" y="45">{escape(told.state)}</text>'
-            f'<text class="why" x="15" y="62">{escape(cut(told.why, 28))}</text></g>{behind}'
+            f'<g class="icon" transform="translate(21 41) scale(.95)">{ICONS[display.icon]}</g>'
+            f'<text class="state" x="33" y="45">{escape(display.state)}</text>'
+            f'<text class="why" x="15" y="62">{escape(shorten(display.why, 28))}</text></g>{after}'
         )
-    return found
+    return result
 
 
-def titled(some: list[Box]) -> Box:
-    """A box; of several equal ones their number and the first."""
-    first = some[0]
-    if len(some) == 1:
+def titled(equal: list[Box]) -> Box:
+    """Return one box for several equal ones, titled with their number and the first title."""
+    first = equal[0]
+    if len(equal) == 1:
         return first
-    return first._replace(title=f"{len(some)} × {first.title} …")
+    return first._replace(title=f"{len(equal)} × {first.title} …")
 
 
 def spoken(view: SagaView, shown: list[Box]) -> str:
-    """The picture in words."""
+    """Describe the picture in words."""
     steps = "; ".join(
-        f"{box.title} {box.told.state}{' (' + box.told.why + ')' if box.told.why else ''}"
+        f"{box.title} {box.display.state}{' (' + box.display.why + ')' if box.display.why else ''}"
         for box in shown
     )
     return f"{view.saga} {view.key}, {view.phase}: {steps}"
@@ -218,57 +222,66 @@ def svg(
     view: SagaView,
     style: str = "",
     *,
-    tolds: list[Told] | None = None,
+    displays: list[StepDisplay] | None = None,
     groups: Groups | None = None,
     unfold: Collection[str] = (),
     link: Link | None = None,
 ) -> str:
-    """The picture; without a style it is for the page, whose style sheet has the same classes.
+    """Return the picture of a saga.
 
-    `unfold`: the groups whose parts are drawn; `link`: where a click on a group leads.
+    Args:
+        view: The saga.
+        style: A style sheet. Default: none, for a page whose style sheet has the same classes.
+        displays: How the steps are shown, if this is known already.
+        groups: The groups of steps, if these are known already.
+        unfold: The groups whose parts are drawn.
+        link: Returns the target of a click on a group.
     """
-    tolds = told_of(view) if tolds is None else tolds
+    displays = displays_of(view) if displays is None else displays
     groups = Groups.read(view.definition) if groups is None else groups
     steps = [(step.name, step.needs) for step in view.steps]
     shown = boxes_of(
-        blocks_of(groups, len(steps), unfold), [step.name for step in view.steps], tolds, link
+        blocks_of(groups, len(steps), unfold), [step.name for step in view.steps], displays, link
     )
     return drawn(steps, shown, spoken(view, shown), style)
 
 
-def ordered(needs: list[list[int]], tolds: list[Told]) -> Placed:
-    """The places of boxes, the urgent ones of a layer above the others as far as lines allow."""
-    order = sorted(range(len(needs)), key=lambda box: urgency(tolds[box]))
+def ordered(needs: list[list[int]], displays: list[StepDisplay]) -> Placed:
+    """Return the layout of boxes: urgent ones are above others if lines allow it."""
+    order = sorted(range(len(needs)), key=lambda box: urgency(displays[box]))
     number = {box: count for count, box in enumerate(order)}
-    found = place([[number[need] for need in needs[box]] for box in order])
-    corners = [found.corners[number[box]] for box in range(len(needs))]
-    return dataclasses.replace(found, corners=corners)
+    layout = lay_out([[number[need] for need in needs[box]] for box in order])
+    corners = [layout.corners[number[box]] for box in range(len(needs))]
+    return dataclasses.replace(layout, corners=corners)
 
 
-def plain_boxes(steps: list[tuple[str, list[str]]], tolds: list[Told]) -> list[Box]:
-    """A box for each step."""
-    return [Box(name, told, [place]) for place, ((name, _), told) in enumerate(zip(steps, tolds))]
+def plain_boxes(steps: list[tuple[str, list[str]]], displays: list[StepDisplay]) -> list[Box]:
+    """Return a box for each step."""
+    return [
+        Box(name, display, [index])
+        for index, ((name, _), display) in enumerate(zip(steps, displays))
+    ]
 
 
 def needs_of(steps: list[tuple[str, list[str]]], shown: list[Box]) -> list[list[int]]:
-    """The boxes that each box needs, by their places."""
-    number = {name: place for place, (name, _) in enumerate(steps)}
-    at = {step: place for place, box in enumerate(shown) for step in box.steps}
-    found = []
-    for place, box in enumerate(shown):
+    """Return the indexes of the boxes that each box needs."""
+    number = {name: index for index, (name, _) in enumerate(steps)}
+    at = {step: index for index, box in enumerate(shown) for step in box.steps}
+    result = []
+    for index, box in enumerate(shown):
         needed = (at[number[need]] for step in box.steps for need in steps[step][1])
-        found.append([one for one in dict.fromkeys(needed) if one != place])
-    return found
+        result.append([other for other in dict.fromkeys(needed) if other != index])
+    return result
 
 
-def drawn(steps: list[tuple[str, list[str]]], shown: list[Box], words: str, style: str = "") -> str:
-    """Boxes of steps with their needs, and the picture in words. Many equal ones are one box, but
-    for those that stand alone.
-    """
-    looks = [object() if box.alone else box.told for box in shown]
-    some = folded(needs_of(steps, shown), looks)
-    joined = [titled([shown[place] for place in one.steps]) for one in some]
-    placed = ordered([one.needs for one in some], [box.told for box in joined])
+def drawn(
+    steps: list[tuple[str, list[str]]], shown: list[Box], description: str, style: str = ""
+) -> str:
+    """Draw boxes of steps and their needs. Equal boxes are folded, except those that stay alone."""
+    looks = [object() if box.alone else box.display for box in shown]
+    groups = folded(needs_of(steps, shown), looks)
+    joined = [titled([shown[index] for index in group.steps]) for group in groups]
+    placed = ordered([group.needs for group in groups], [box.display for box in joined])
     needs = [
         f'<path class="need" marker-end="url(#to)" d="{line(points)}"/>'
         for points in placed.lines.values()
@@ -283,11 +296,11 @@ def drawn(steps: list[tuple[str, list[str]]], shown: list[Box], words: str, styl
         'markerHeight="7" orient="auto"><path class="arrow" d="M0 0 L8 4 L0 8 z"/></marker></defs>'
     )
     inside = f"<style>{style}</style>" if style else ""
-    label = escape(cut(words, 2000))
+    label = escape(shorten(description, 2000))
     parts = [inside, arrow, *needs, *boxes(joined, placed)]
     return f'{head} aria-label="{label}">{"".join(parts)}</svg>'
 
 
 def document(view: SagaView, unfold: Collection[str] = ()) -> str:
-    """The picture as a file of its own."""
+    """Return the picture as a self-contained file."""
     return svg(view, STYLE, unfold=unfold)

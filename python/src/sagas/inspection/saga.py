@@ -48,7 +48,7 @@ ELSEWHERE = """
 SELECT step, action, number, offered_at, since, worker, lease FROM external_attempts WHERE id = ?
 """
 EARLY = "SELECT step, reason FROM suspensions WHERE id = ? AND number = 0"
-SAID = {
+EARLY_COMMANDS = {
     EarlyReason.RESULT: "complete",
     EarlyReason.ERROR: "fail",
     EarlyReason.UNDONE: "complete",
@@ -59,13 +59,13 @@ NOTES = (
 
 
 def find(key: str) -> Question[SagaRow | None]:
-    """The saga with this key."""
+    """Return the row of the saga with this key, or None."""
     rows = yield Query(queries.FIND, (key,))
     return SagaRow(*rows[0]) if rows and rows[0][1] == key else None
 
 
 def there(key: str) -> Question[SagaRow]:
-    """The saga with this key. Raises `NoSuchSaga`."""
+    """Return the row of the saga with this key. Raises `NoSuchSaga`."""
     row = yield from find(key)
     if row is None:
         raise NoSuchSaga(f"no saga has the key {key!r}")
@@ -73,29 +73,32 @@ def there(key: str) -> Question[SagaRow]:
 
 
 def definition(id: int) -> Question[str]:
-    """The text of a saga's definition. Raises `NoSuchSaga` where it was let go meanwhile."""
+    """Return the text of a saga's definition.
+
+    Raises `NoSuchSaga` if the saga was deleted concurrently.
+    """
     rows = yield Query(queries.DEFINITION, (id,))
     if not rows:
-        raise NoSuchSaga(f"the saga {id} is not kept any more")
+        raise NoSuchSaga(f"saga {id} is no longer stored")
     return str(rows[0][0])
 
 
 def _token(id: int) -> Question[str]:
     rows = yield Query("SELECT name FROM shards WHERE shard = ?", (id // SHARD_CAPACITY,))
     if not rows:
-        raise NoSuchSaga(f"the saga {id} is not kept any more")
+        raise NoSuchSaga(f"saga {id} is no longer stored")
     return tokens.saga_token(rows[0][0], id % SHARD_CAPACITY)
 
 
 class _Kept:
-    """What the store has of a saga, read: its definition, attempts and events."""
+    """The stored parts of a saga, parsed: its definition, attempts and events."""
 
     def __init__(self, row: SagaRow, rows: list[tuple[Any, ...]], read: Read) -> None:
-        known = queries.known(rows, row.key)
-        self.row, self.definition, self.shape = row, known.definition, known.shape
-        self.names = step_names(known.definition)
-        self.lines = lines_of(known.chunks, row.id % SHARD_CAPACITY)
-        self.attempts = attempts_of(self.names, known.results, read)
+        stored = queries.known(rows, row.key)
+        self.row, self.definition, self.shape = row, stored.definition, stored.shape
+        self.names = step_names(stored.definition)
+        self.lines = lines_of(stored.chunks, row.id % SHARD_CAPACITY)
+        self.attempts = attempts_of(self.names, stored.results, read)
         self.history = Projection(self.names, self.lines)
 
     @property
@@ -110,53 +113,57 @@ class _Kept:
 
 
 def _kept(row: SagaRow, read: Read = json.loads) -> Question[_Kept]:
-    """Raises `NoSuchSaga` where it was let go since its row was read."""
-    text, *words = queries.known_query(row.id, history=True)
-    return _Kept(row, (yield Query(text, (*words,), is_long=True)), read)
+    """Read the stored parts of a saga.
+
+    Raises `NoSuchSaga` if the saga was deleted after its row was read.
+    """
+    text, *parameters = queries.known_query(row.id, history=True)
+    return _Kept(row, (yield Query(text, (*parameters,), is_long=True)), read)
 
 
 def plan(row: SagaRow) -> Question[Plan | None]:
-    """The last plan that a saga adopted, with the states that this found."""
+    """Return the last plan that a saga adopted, with the states at that time."""
     return (yield from _kept(row)).plan
 
 
 def log(row: SagaRow, read: Read) -> Question[list[HistoryEvent]]:
-    """The events of a saga, each with what came of it. `read`: as of `view`."""
+    """Return the events of a saga, each with its result or error. `read` is as in `view`."""
     return (yield from _kept(row, read)).events
 
 
 def notes(key: str, read: Read = json.loads) -> Question[list[Note]]:
-    """What people did to a saga, in the order of time. `read`: as of `view`."""
+    """Return the operator commands for a saga, in the order of time. `read` is as in `view`."""
     rows = yield Query(NOTES, (key,))
     return [
-        Note(key, what, at, _told(value, read), answer and json.loads(answer))
-        for key, what, at, value, answer in rows
+        Note(key, command, at, _command_details(value, read), answer and json.loads(answer))
+        for key, command, at, value, answer in rows
     ]
 
 
-def _told(value: str | None, read: Read) -> dict[str, Any]:
-    """What is kept of a command, with the result that it reports."""
-    told: dict[str, Any] = json.loads(value or "null") or {}
-    if "result" in told:
-        told["result"] = read(json.dumps(told["result"], separators=(",", ":")))
-    return told
+def _command_details(value: str | None, read: Read) -> dict[str, Any]:
+    """Return the details of a command, with the reported result decoded."""
+    details: dict[str, Any] = json.loads(value or "null") or {}
+    if "result" in details:
+        details["result"] = read(json.dumps(details["result"], separators=(",", ":")))
+    return details
 
 
 def view(key: str, read: Read = json.loads) -> Question[SagaView | None]:
-    """All of a saga, if there is one with this key. `read`: of the JSON of its input and of its
-    results."""
+    """Return the saga with this key, or None. `read` decodes the JSON of its input and results."""
     while rows := (yield Query(SAGA, (key,))):
         (*columns, recovered, undo_failed, labels, deadline) = rows[0]
         row = SagaRow(*columns)
         try:
             labels = queries.labels_of(labels)
-            found = yield from _view(
+            result = yield from _view(
                 row, bool(recovered), bool(undo_failed), labels, deadline, read
             )
-        except NoSuchSaga:  # it was let go: another may have the key
+        except NoSuchSaga:  # it was deleted: another saga may have the key
             continue
-        if (yield Query("SELECT 1 FROM sagas WHERE id = ?", (row.id,))):  # so all is of it
-            return found
+        if (
+            yield Query("SELECT 1 FROM sagas WHERE id = ?", (row.id,))
+        ):  # so all parts belong to it
+            return result
     return None
 
 
@@ -168,7 +175,7 @@ def _view(
     deadline: float | None,
     read: Read,
 ) -> Question[SagaView]:
-    """All of a saga that is there. Raises `NoSuchSaga` where it was let go meanwhile."""
+    """Return a saga's view. Raises `NoSuchSaga` if the saga is deleted concurrently."""
     kept = yield from _kept(row, read)
     held = yield from waits(MOST_HELD, person=False, key=row.key)
     done = yield from notes(row.key, read)
@@ -177,9 +184,11 @@ def _view(
     progress = {row[:3]: Progress(*row[3:]) for row in (yield Query(PROGRESS, (row.id,)))}
     spans = yield Query(SPANS, (row.id,))
     elsewhere = yield Query(ELSEWHERE, (row.id,))
-    found = yield Query(EARLY, (row.id,))
-    early = {step: SAID[EarlyReason(why)] for step, why in found if row.phase is None}
-    left = sorted(step for step, why in found if row.phase and why == EarlyReason.RESULT)
+    early_rows = yield Query(EARLY, (row.id,))
+    early = {
+        step: EARLY_COMMANDS[EarlyReason(why)] for step, why in early_rows if row.phase is None
+    }
+    left = sorted(step for step, why in early_rows if row.phase and why == EarlyReason.RESULT)
     states = zip(kept.names, history.states)
     parent, children = yield from families.of(row.id, row.key)
     return SagaView(
@@ -224,30 +233,37 @@ def steps_of(
     progress: Mapping[tuple[Any, ...], Progress],
     early: Mapping[int, str],
 ) -> list[StepView]:
-    """The steps of a saga as they stand. `progress`: by step, action and attempt; `early`: what was
-    reported of steps before they have begun.
+    """Return the steps of a saga in their current states.
+
+    `progress` is by step, action and attempt. `early` are reports of steps that have not begun.
     """
-    now = {(one.step, one.undo): one.attempt for one in history.stretches() if one.ended is None}
+    now = {
+        (entry.step, entry.undo): entry.attempt
+        for entry in history.stretches()
+        if entry.ended is None
+    }
     last, done, errors = last_values(attempts), results_of(attempts), errors_of(attempts)
     skipped = Counter(
-        one.step for one in attempts if not one.undo and not was_called(one.outcome, one.value)
+        entry.step
+        for entry in attempts
+        if not entry.undo and not was_called(entry.outcome, entry.value)
     )
-    found = []
-    for place, step in enumerate(listed_steps.of(definition)):
-        name, state = step.name, history.states[place].value
-        found.append(
+    steps = []
+    for index, step in enumerate(listed_steps.of(definition)):
+        name, state = step.name, history.states[index].value
+        steps.append(
             StepView(
                 name,
                 list(step.needs),
                 state,
-                history.attempts[place] - skipped[name],
+                history.attempts[index] - skipped[name],
                 (done if state in STANDS else last).get(name),
-                history.began.get(place),
-                history.ended.get(place),
+                history.began.get(index),
+                history.ended.get(index),
                 errors.get(name) if state in FAILED else None,
-                progress.get((place, "run", now.get((name, False), 0)))
-                or progress.get((place, "undo", now.get((name, True), 0))),
-                early.get(place) if state == StepState.WAITING else None,
+                progress.get((index, "run", now.get((name, False), 0)))
+                or progress.get((index, "undo", now.get((name, True), 0))),
+                early.get(index) if state == StepState.WAITING else None,
             )
         )
-    return found
+    return steps

@@ -1,4 +1,4 @@
-"""Which item a step is of, in words."""
+"""Describes which item a step belongs to."""
 
 from __future__ import annotations
 
@@ -9,19 +9,20 @@ from sagas.definition.shape_values import ShapeValues
 
 
 def of(spots: Sequence[StepOrigin], names: Sequence[str], shape: str | None) -> dict[str, str]:
-    """Return, by the names of steps of items, the index of the item, and its key if it came from a
-    dict. `shape`: as it is stored. If it is encoded, the keys are not known.
+    """Describe, by step name, the index of the step's item, and its key if it came from a dict.
+
+    `shape` is the stored shape. If it is encoded, the keys are unknown.
     """
     values = ShapeValues() if shape is None else ShapeValues.read(shape)
-    told = ((name, [*_parts(spot, values)]) for name, spot in zip(names, spots))
-    return {name: "; ".join(parts) for name, parts in told if parts}
+    described = ((name, [*_parts(spot, values)]) for name, spot in zip(names, spots))
+    return {name: "; ".join(parts) for name, parts in described if parts}
 
 
 def _parts(spot: StepOrigin, values: ShapeValues) -> Iterator[str]:
-    """The item of each inclusion, and that of the step."""
+    """Yield the item of each enclosing inclusion, and then that of the step."""
     for depth, (name, number) in enumerate((*spot.scope, (spot.name, spot.number))):
         if number is None:
             continue
         keys = values.keys_of(spot.scope[:depth], name)
-        of = f"{name} " if depth < len(spot.scope) else ""
-        yield f"{of}index {number}" + (f", key {keys[number]}" if keys else "")
+        prefix = f"{name} " if depth < len(spot.scope) else ""
+        yield f"{prefix}index {number}" + (f", key {keys[number]}" if keys else "")

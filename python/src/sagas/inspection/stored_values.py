@@ -1,4 +1,4 @@
-"""Large values as they are stored, for those who may not need all of them."""
+"""Large values that stay in their stored form until a caller needs them."""
 
 from __future__ import annotations
 
@@ -9,16 +9,17 @@ from typing import Any
 from sagas.definition.payloads import unescaped
 
 LARGE = 10_000
-"""Characters from which on a value is not read at once: of 1 MiB that takes 20 ms."""
+"""Characters from which a value is not parsed at once: 1 MiB takes about 20 ms."""
 TOKENS = re.compile(r'("(?:[^"\\]|\\u[0-9a-f]{4}|\\[^u])*)("?)|[,:]')
-"""Of JSON without blanks what is written otherwise for people: texts, which may be cut off, and
-what is between two values."""
+"""The parts of compact JSON that look different when shown: strings, which may be cut off, and
+separators.
+"""
 LONGEST = len("\\ud83d\\ude00")
-"""Characters by which one is written."""
+"""The maximum number of characters that encode one character."""
 
 
 class StoredValue:
-    """A result or an input that is read when somebody asks for it.
+    """A result or an input that is parsed only on demand.
 
     Attributes:
         text: Its JSON.
@@ -33,12 +34,15 @@ class StoredValue:
         return self.text
 
     def read(self) -> Any:
-        """The value."""
+        """Return the parsed value."""
         return json.loads(self.text)
 
     def beginning(self, most: int) -> str:
-        """At least the first characters: of a text as it is, of others as JSON for people, with
-        blanks between values."""
+        """Return at least the first `most` characters.
+
+        A string is returned unquoted. Other values are returned as JSON with blanks between
+        values.
+        """
         if self.text.startswith('"'):
             return str(self.read())
         return TOKENS.sub(_shown, self.text[: most * LONGEST])
@@ -52,13 +56,15 @@ def _shown(token: re.Match[str]) -> str:
 
 
 def stored(text: str) -> Any:
-    """A value; a large one as it is stored, and so one that is encoded."""
+    """Return a parsed value, or a `StoredValue` if it is large. Unescapes encoded values."""
     text = unescaped(text)
     return json.loads(text) if len(text) < LARGE else StoredValue(text)
 
 
 def whole(value: Any) -> Any:
-    """What the encoder of JSON makes of it. Raises `TypeError` as it does."""
+    """Return a serializable form of a value, for the JSON encoder. Raises `TypeError` if there is
+    none.
+    """
     if isinstance(value, StoredValue):
         return value.read()
     raise TypeError(f"{type(value).__name__} is not JSON")

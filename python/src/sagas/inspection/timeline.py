@@ -14,7 +14,7 @@ from sagas.definition import listed_steps
 from sagas.inspection.views import Note, SagaView, Waits
 
 Key = tuple[str, bool, int]
-"""A step, whether its compensation is meant, and the attempt."""
+"""A step, whether the attempt is a compensation, and the attempt's number."""
 STATES: dict[str, tuple[str, str | None]] = {
     QUEUED_WORD: ("queued", "slot"),
     "slot": ("queued", "slot"),
@@ -39,7 +39,9 @@ STATES: dict[str, tuple[str, str | None]] = {
     Suspension.APPROVAL.value: ("waiting", "approval"),
     Suspension.CHILD.value: ("waiting", "child"),
 }
-"""The state and the reason by what was noted (`core.spans`), and by what its node says of it."""
+"""State and reason of a span, by the recorded word (`core.spans`) or the reason that the node
+reports.
+"""
 OUTCOMES = {
     "commit": "succeeded",
     "undone": "succeeded",
@@ -57,27 +59,26 @@ FIRST = {
     ("queued", "concurrency"),
     ("queued", "fleet_limit"),
 }
-"""What an attempt does from its begin on, where it is the first that was noted: the others follow a
-call."""
-AGAIN = "called again: the program that called it before has ended"
+"""First spans that can begin an attempt. All other recorded spans follow a call."""
+CALLED_AGAIN = "called again: the program that called it before has ended"
 UNKNOWNS = (Suspension.UNKNOWN.value, PERSON_WORD)
 DECIDED = ("complete", "fail", "retry")
 
 
 @dataclasses.dataclass(frozen=True, slots=True)
 class Span:
-    """A part of an attempt. They follow one another without gaps.
+    """A part of an attempt. Spans follow one another without gaps.
 
     Attributes:
         state: `queued`, `running`, `waiting` or `backoff`.
-        why: For what it was queued (`slot`, `concurrency`, `fleet_limit`), or waits (`approval`,
-            `wait`, `child`, `worker`, `unknown`, `person`, `exhausted`, `cannot_decode`); of one
-            that runs `worker`, where one has it.
+        why: The reason: of a queued attempt `slot`, `concurrency` or `fleet_limit`; of a waiting
+            one `approval`, `wait`, `child`, `worker`, `unknown`, `person`, `exhausted` or
+            `cannot_decode`; of a running one `worker` if a worker has it.
         began: Wall time, in seconds since 1970.
-        ended: The same; None while it lasts.
-        worker: Who had it, if it was done elsewhere.
+        ended: Wall time, or None if it has not ended.
+        worker: The worker that had the attempt, if any.
         lease: The number of that worker's lease.
-        detail: What was raised before.
+        detail: The error before this span.
     """
 
     state: str
@@ -91,21 +92,21 @@ class Span:
 
 @dataclasses.dataclass(frozen=True, slots=True)
 class AttemptTimes:
-    """What an attempt did.
+    """The times of one attempt.
 
     Attributes:
         step: The step's name.
-        undo: Whether its compensation is meant.
+        undo: Whether it is an attempt of the compensation.
         attempt: Its number, from 1.
-        ready: Since when it could begin, as far as the order of the steps is concerned.
+        ready: When the order of the steps first allowed it to begin.
         began: When it began.
-        ended: When it ended; None while it lasts.
-        outcome: `succeeded`, `failed` (no other attempt follows), `retried` (one follows),
-            `not_called` (it was given up before its function was called), or None.
-        error: What was raised.
+        ended: When it ended, or None.
+        outcome: `succeeded`, `failed` (no attempt follows), `retried` (one follows), `not_called`
+            (it was given up before its function was called), or None.
+        error: The error, if it failed.
         unknowns: How often its outcome was unknown.
         spans: Its parts, from `ready` on.
-        decision: What a person did by which it ended, or was called again last.
+        decision: The operator's command that ended it, or that last retried it.
     """
 
     step: str
@@ -121,104 +122,109 @@ class AttemptTimes:
     decision: Note | None
 
     def seconds(self, now: float) -> dict[str, float]:
-        """How long it was in each state."""
-        found: dict[str, float] = {}
-        for one in self.spans:
-            took = (now if one.ended is None else one.ended) - one.began
-            found[one.state] = found.get(one.state, 0.0) + max(0.0, took)
-        return found
+        """Return the time that it spent in each state."""
+        totals: dict[str, float] = {}
+        for span in self.spans:
+            duration = (now if span.ended is None else span.ended) - span.began
+            totals[span.state] = totals.get(span.state, 0.0) + max(0.0, duration)
+        return totals
 
 
 def of(view: SagaView, now: float) -> list[AttemptTimes]:
-    """The attempts of a saga, in the order in which they began."""
+    """Return the attempts of a saga, in the order in which they began."""
     ready, marks = _ready(view), _marks(view)
-    ends = {(one.step, one.undo, one.attempt): one for one in view.attempts}
-    held = {(one.step, one.undo, one.attempt): one for one in view.held}
+    ends = {(entry.step, entry.undo, entry.attempt): entry for entry in view.attempts}
+    held = {(entry.step, entry.undo, entry.attempt): entry for entry in view.held}
     notes = [note for note in view.notes if note.what in DECIDED and note.answer is True]
-    found = []
-    for one in view.stretches:
-        at = one.step, one.undo, one.attempt
-        some = marks.get(at, [])
-        if one.ended is None:
-            some = some + _now(view, one, some, held.get(at), now)
-        begin = min(ready.get(at, one.began), one.began)
-        found.append(_times(one, begin, some, ends.get(at), notes, now))
-    return found
+    result = []
+    for entry in view.stretches:
+        at = entry.step, entry.undo, entry.attempt
+        spans = marks.get(at, [])
+        if entry.ended is None:
+            spans = spans + _now(view, entry, spans, held.get(at), now)
+        begin = min(ready.get(at, entry.began), entry.began)
+        result.append(_times(entry, begin, spans, ends.get(at), notes, now))
+    return result
 
 
 def _times(
-    one: Stretch,
+    stretch: Stretch,
     ready: float,
     marks: list[Span],
     end: Attempted | None,
     notes: list[Note],
     now: float,
 ) -> AttemptTimes:
-    """An attempt, by what was noted of it."""
-    outcome, error = OUTCOMES.get(one.outcome or ""), None
+    """Return the times of an attempt from its recorded spans."""
+    outcome, error = OUTCOMES.get(stretch.outcome or ""), None
     if end is not None and end.outcome in MISSES:
         error = str((end.value or {}).get("error", ""))
         if not was_called(end.outcome, end.value):
             outcome = "not_called"
-    last = now if one.ended is None else one.ended
-    mine = [note for note in notes if _is_of(note, one) and note.at <= last + 1.0]
+    last = now if stretch.ended is None else stretch.ended
+    decisions_of_attempt = [
+        note for note in notes if _is_of(note, stretch) and note.at <= last + 1.0
+    ]
     return AttemptTimes(
-        one.step,
-        one.undo,
-        one.attempt,
+        stretch.step,
+        stretch.undo,
+        stretch.attempt,
         ready,
-        one.began,
-        one.ended,
+        stretch.began,
+        stretch.ended,
         outcome,
         error,
         sum(mark.why in ("unknown", "person") for mark in marks),
-        _joined(ready, one, marks),
-        mine[-1] if mine else None,
+        _joined(ready, stretch, marks),
+        decisions_of_attempt[-1] if decisions_of_attempt else None,
     )
 
 
-def _is_of(note: Note, one: Stretch) -> bool:
-    """Whether it was said of this attempt; a report may come before its step begins."""
-    is_undo, is_early = note.told.get("kind") == "undo", note.what != "retry" and one.attempt == 1
-    is_same = (note.told.get("step"), is_undo) == (one.step, one.undo)
-    return is_same and (note.at >= one.began or is_early)
+def _is_of(note: Note, stretch: Stretch) -> bool:
+    """Return whether a command concerns this attempt. A report may come before its step begins."""
+    is_undo, is_early = (
+        note.told.get("kind") == "undo",
+        note.what != "retry" and stretch.attempt == 1,
+    )
+    is_same = (note.told.get("step"), is_undo) == (stretch.step, stretch.undo)
+    return is_same and (note.at >= stretch.began or is_early)
 
 
-def _joined(ready: float, one: Stretch, marks: list[Span]) -> list[Span]:
-    """The parts without gaps: each lasts until the next, or to the end."""
-    first = Span("running", None, one.began, None)
+def _joined(ready: float, stretch: Stretch, marks: list[Span]) -> list[Span]:
+    """Return spans without gaps: each lasts until the next one, or to the end."""
+    first = Span("running", None, stretch.began, None)
     is_first = bool(marks) and marks[0].detail is None  # else it was called, and that was raised
     if is_first and (marks[0].state, marks[0].why) in FIRST:
-        first = dataclasses.replace(marks[0], began=one.began)
+        first = dataclasses.replace(marks[0], began=stretch.began)
         marks = marks[1:]
-    found = [Span("queued", "slot", ready, one.began)] if ready < one.began else []
-    found.append(first)
+    spans = [Span("queued", "slot", ready, stretch.began)] if ready < stretch.began else []
+    spans.append(first)
     for mark in marks:
-        began = max(mark.began, found[-1].began)
-        if one.ended is not None:
-            began = min(began, one.ended)
-        found[-1] = dataclasses.replace(found[-1], ended=began)
-        found.append(dataclasses.replace(mark, began=began))
-    found[-1] = dataclasses.replace(found[-1], ended=one.ended)
+        began = max(mark.began, spans[-1].began)
+        if stretch.ended is not None:
+            began = min(began, stretch.ended)
+        spans[-1] = dataclasses.replace(spans[-1], ended=began)
+        spans.append(dataclasses.replace(mark, began=began))
+    spans[-1] = dataclasses.replace(spans[-1], ended=stretch.ended)
     return [
-        span for span in found if span.ended is None or span.ended > span.began or span is found[-1]
+        span for span in spans if span.ended is None or span.ended > span.began or span is spans[-1]
     ]
 
 
 def _marks(view: SagaView) -> dict[Key, list[Span]]:
-    """What was noted of each attempt, in the order of time. A mark has no end yet."""
-    names, found = [step.name for step in view.steps], dict[Key, list[Span]]()
+    """Return the recorded marks of each attempt, in the order of time. A mark has no end yet."""
+    names, result = [step.name for step in view.steps], dict[Key, list[Span]]()
     for step, action, number, offered, since, worker, lease in view.noted.elsewhere:
-        some = found.setdefault((names[step], action == "undo", number), [])
-        some.append(_mark(Suspension.EXTERNAL.value, offered))
+        marks = result.setdefault((names[step], action == "undo", number), [])
+        marks.append(_mark(Suspension.EXTERNAL.value, offered))
         if since is not None:
-            some.append(_mark(LEASED_WORD, since, None, worker, lease))
+            marks.append(_mark(LEASED_WORD, since, None, worker, lease))
     for step, action, number, text in view.noted.spans:
-        some = found.setdefault((names[step], action == "undo", number), [])
-        some += [_mark(*told) for told in json.loads(text)]
-    for some in found.values():
-        some.sort(key=lambda mark: mark.began)
-    return found
+        marks = result.setdefault((names[step], action == "undo", number), [])
+        marks += [_mark(*mark) for mark in json.loads(text)]
+    for marks in result.values():
+        marks.sort(key=lambda mark: mark.began)
+    return result
 
 
 def _mark(
@@ -229,17 +235,17 @@ def _mark(
     lease: int | None = None,
 ) -> Span:
     state, why = STATES.get(word, ("waiting", word))
-    detail = AGAIN if word == AGAIN_WORD else raised
+    detail = CALLED_AGAIN if word == AGAIN_WORD else raised
     return Span(state, why, at, None, worker, lease, detail)
 
 
 def _now(
-    view: SagaView, one: Stretch, marks: list[Span], held: Waits | None, now: float
+    view: SagaView, stretch: Stretch, marks: list[Span], held: Waits | None, now: float
 ) -> list[Span]:
-    """What one does that is under way, where nothing was stored of that."""
+    """Return the current span of an active attempt, if the store has no mark for it."""
     last = (marks[-1].state, marks[-1].why) if marks else ("running", None)
     if held is None:
-        is_known = (one.step, one.undo) in view.running and last[0] != "running"
+        is_known = (stretch.step, stretch.undo) in view.running and last[0] != "running"
         return [_mark(RUNNING_WORD, now)] if is_known else []
     word = PERSON_WORD if held.why == "unknown" and held.until is None else held.why
     if word == "external":  # a worker has it
@@ -247,21 +253,24 @@ def _now(
     if STATES.get(word, ("", word)) == last or last == ("running", "worker") == STATES.get(word):
         return []
     worker = held.said if word == LEASED_WORD else None
-    return [_mark(word, max(held.since, one.began), None, worker)]
+    return [_mark(word, max(held.since, stretch.began), None, worker)]
 
 
 def _ready(view: SagaView) -> dict[Key, float]:
-    """Since when each attempt could begin: the needs of its step were committed, or what needed it
-    was undone; a plan was adopted; the attempt before it had ended."""
+    """Return when each attempt could begin.
+
+    That is when its needs were committed, or what needed it was undone; when the plan was
+    adopted; and when the previous attempt ended.
+    """
     names = [step.name for step in view.steps]
     needs = {step.name: [*step.needs] for step in listed_steps.of(view.definition)}
     above: dict[str, list[str]] = {}
-    for name, some in needs.items():
-        for need in some:
+    for name, needed in needs.items():
+        for need in needed:
             above.setdefault(need, []).append(name)
     done: dict[tuple[str, bool], float] = {}
     counts: dict[tuple[str, bool], int] = {}
-    found, planned = dict[Key, float](), view.started
+    ready, planned = dict[Key, float](), view.started
     for at, event in view.lines:
         word = event["event"]
         name = names[event["step"]] if "step" in event else ""
@@ -271,20 +280,24 @@ def _ready(view: SagaView) -> dict[Key, float]:
             undo = STARTS[word]
             number = counts[name, undo] = counts.get((name, undo), 0) + 1
             before = _before(name, undo, above if undo else needs)
-            found[name, undo, number] = max([planned, *(done.get(one, 0.0) for one in before)])
+            ready[name, undo, number] = max(
+                [planned, *(done.get(earlier, 0.0) for earlier in before)]
+            )
         elif word in OUTCOMES:
             done[name, word.startswith("undo")] = at
-    return found
+    return ready
 
 
 def _before(name: str, undo: bool, others: dict[str, list[str]]) -> Iterable[tuple[str, bool]]:
-    """What has to be over before an attempt: the one before it, too."""
+    """Return what must end before an attempt, including the previous attempt."""
     return [(name, undo), *((other, undo) for other in others.get(name, ()))]
 
 
 def decisions(view: SagaView) -> list[dict[str, Any]]:
-    """What people did, in the order of time: what, when, to which step, who, why, and whether it
-    was accepted (None: it has no answer yet)."""
+    """Return the operator commands in the order of time.
+
+    `accepted` is None if a command has no answer yet.
+    """
     return [
         {
             "command": note.what,

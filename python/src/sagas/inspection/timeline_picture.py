@@ -1,4 +1,4 @@
-"""The timeline of a saga as SVG: when attempts were queued, ran and waited."""
+"""The timeline of a saga as SVG: the states of its attempts."""
 
 from __future__ import annotations
 
@@ -9,13 +9,13 @@ from typing import NamedTuple
 
 from sagas.base.wording import number
 from sagas.inspection import wording
-from sagas.inspection.picture import named
+from sagas.inspection.picture import shorten_name
 from sagas.inspection.timeline import AttemptTimes, Span
 
 LONG, ROW, TOP = 900, 28, 24
 MOST_NAME = 20
 MOST_ROWS = 20
-"""Steps that are drawn; of more, those that failed or are not over, then the longest."""
+"""How many steps are drawn. Failed and active steps are preferred, then the longest."""
 TICKS = (
     *(0.01, 0.02, 0.05, 0.1, 0.2, 0.5, 1, 2, 5, 10, 15, 30),
     *(60, 120, 300, 600, 900, 1800, 3600, 7200, 14400, 43200),
@@ -24,25 +24,25 @@ TICKS = (
 TONES = {"retried": "missed", "not_called": "waiting", None: "running"}
 STATES = {"queued": "queued", "running": "ran", "waiting": "waited", "backoff": "backed off"}
 HIGH = {"running": 16, "waiting": 10, "queued": 4, "backoff": 2}
-"""How high the bar of each state is."""
+"""The height of the bar of each state."""
 PERSON = ("approval", "exhausted", "person", "cannot_decode")
-"""What an attempt waits for that a person has to say."""
+"""The reasons for which an attempt waits for an operator."""
 
 
 def ticks(long: float) -> list[float]:
-    """Some round moments of so many seconds."""
+    """Return round moments within a duration."""
     step = next((step for step in TICKS if long / step <= 6), TICKS[-1])
     return [count * step for count in range(int(long / step) + 1)]
 
 
 def rows_of(attempts: list[AttemptTimes], now: float, titles: Mapping[str, str]) -> list[str]:
-    """The steps and groups that are drawn, in the order in which they began."""
+    """Return the steps and groups that are drawn, in the order in which they began."""
     weights: dict[str, tuple[bool, float]] = {}
-    for one in attempts:
-        name = titles.get(one.step, one.step)
+    for attempt in attempts:
+        name = titles.get(attempt.step, attempt.step)
         is_bad, long = weights.get(name, (False, 0.0))
-        bad = one.outcome not in ("succeeded", "not_called")
-        weights[name] = is_bad or bad, long + (one.ended or now) - one.ready
+        attempt_is_bad = attempt.outcome not in ("succeeded", "not_called")
+        weights[name] = is_bad or attempt_is_bad, long + (attempt.ended or now) - attempt.ready
     kept = sorted(weights, key=lambda step: weights[step], reverse=True)[:MOST_ROWS]
     return [step for step in weights if step in set(kept)]
 
@@ -50,15 +50,17 @@ def rows_of(attempts: list[AttemptTimes], now: float, titles: Mapping[str, str])
 def drawn(
     attempts: list[AttemptTimes], started: float, now: float, titles: Mapping[str, str] = {}
 ) -> str:
-    """A row for each step, and in it a bar for each span of its attempts. `titles`: by the names of
-    steps, the groups that have a row in their place: there spans that overlap are one.
+    """Draw a row for each step, with a bar for each span of its attempts.
+
+    `titles` maps the names of steps to groups. A group has one row, in which overlapping spans
+    are merged.
     """
-    rows = {step: place for place, step in enumerate(rows_of(attempts, now, titles))}
-    some = [one for one in attempts if titles.get(one.step, one.step) in rows]
-    if not some:
+    rows = {step: row for row, step in enumerate(rows_of(attempts, now, titles))}
+    shown = [attempt for attempt in attempts if titles.get(attempt.step, attempt.step) in rows]
+    if not shown:
         return ""
-    first = min(started, *(one.ready for one in some))
-    last = max(first + 0.001, *(one.ended or now for one in some))
+    first = min(started, *(attempt.ready for attempt in shown))
+    last = max(first + 0.001, *(attempt.ended or now for attempt in shown))
     left = 14 + 7.8 * min(MOST_NAME, max(len(step) for step in rows))
     scale, high = LONG / (last - first), TOP + ROW * len(rows) + 6
     marks = "".join(
@@ -69,15 +71,17 @@ def drawn(
     )
     names = "".join(
         f'<text class="row" x="0" y="{TOP + ROW * row + 18}">'
-        f"{escape(named(name, MOST_NAME))}</text>"
+        f"{escape(shorten_name(name, MOST_NAME))}</text>"
         for name, row in rows.items()
     )
     at = Scale(first, now, left, scale)
     bars = "".join(
-        bar(one, at, TOP + ROW * rows[one.step]) for one in some if one.step not in titles
+        bar(attempt, at, TOP + ROW * rows[attempt.step])
+        for attempt in shown
+        if attempt.step not in titles
     )
-    for title, of in by_group(some, titles).items():
-        bars += group_bar(title, of, at, TOP + ROW * rows[title])
+    for title, members in by_group(shown, titles).items():
+        bars += group_bar(title, members, at, TOP + ROW * rows[title])
     label = (
         f"when the attempts of {len(rows)} steps were queued, ran, waited and backed off, over "
         f"{wording.span(last - first)}; the table of attempts has the same in words"
@@ -90,7 +94,7 @@ def drawn(
 
 
 class Scale(NamedTuple):
-    """Where a moment is: `left` is the place of the first one."""
+    """The horizontal scale. `left` is the position of the first moment."""
 
     first: float
     now: float
@@ -101,52 +105,53 @@ class Scale(NamedTuple):
 def by_group(
     attempts: Iterable[AttemptTimes], titles: Mapping[str, str]
 ) -> dict[str, list[AttemptTimes]]:
-    """The attempts of the groups that have a row of their own."""
-    found: dict[str, list[AttemptTimes]] = {}
-    for one in attempts:
-        if one.step in titles:
-            found.setdefault(titles[one.step], []).append(one)
-    return found
+    """Return the attempts of the groups that have a row."""
+    groups: dict[str, list[AttemptTimes]] = {}
+    for attempt in attempts:
+        if attempt.step in titles:
+            groups.setdefault(titles[attempt.step], []).append(attempt)
+    return groups
 
 
-def tone_of(one: AttemptTimes) -> str:
-    """The colour of an attempt."""
-    tone = TONES.get(one.outcome, one.outcome or "")
-    tone = {"succeeded": "undone" if one.undo else "committed"}.get(tone, tone)
-    return "undo_failed" if tone == "failed" and one.undo else tone
+def tone_of(attempt: AttemptTimes) -> str:
+    """Return the color of an attempt."""
+    tone = TONES.get(attempt.outcome, attempt.outcome or "")
+    tone = {"succeeded": "undone" if attempt.undo else "committed"}.get(tone, tone)
+    return "undo_failed" if tone == "failed" and attempt.undo else tone
 
 
-def bar(one: AttemptTimes, at: Scale, top: float) -> str:
-    """An attempt, a part for each of its spans."""
-    parts = "".join(part(span, at, top) for span in one.spans)
-    return f'<g class="run {tone_of(one)}"><title>{escape(told(one, at.now))}</title>{parts}</g>'
+def bar(attempt: AttemptTimes, at: Scale, top: float) -> str:
+    """Draw an attempt, with a part for each of its spans."""
+    parts = "".join(part(span, at, top) for span in attempt.spans)
+    title = escape(describe(attempt, at.now))
+    return f'<g class="run {tone_of(attempt)}"><title>{title}</title>{parts}</g>'
 
 
 ORDER = ("waiting", "committed", "undone", "running", "missed", "undo_failed", "failed")
-"""The colours of a group's bars: the later ones are above."""
+"""The colors of a group's bars. Later ones are drawn above earlier ones."""
 
 
 def group_bar(title: str, attempts: list[AttemptTimes], at: Scale, top: float) -> str:
-    """The attempts of a group: of each colour the spans of a state that overlap are one."""
-    found = []
+    """Draw the attempts of a group. Overlapping spans of one color and state are merged."""
+    result = []
     for tone in ORDER:
-        some = [one for one in attempts if tone_of(one) == tone]
-        kinds: dict[tuple[str, bool], list[Span]] = {}
-        for span in (span for one in some for span in one.spans):
-            kinds.setdefault((span.state, span.why in PERSON), []).append(span)
+        of_tone = [attempt for attempt in attempts if tone_of(attempt) == tone]
+        spans_by_state: dict[tuple[str, bool], list[Span]] = {}
+        for span in (span for attempt in of_tone for span in attempt.spans):
+            spans_by_state.setdefault((span.state, span.why in PERSON), []).append(span)
         parts = "".join(
             part(span, at, top)
             for state in STATES
             for is_person in (False, True)
-            for span in merged(kinds.get((state, is_person), []), at.now)
+            for span in merged(spans_by_state.get((state, is_person), []), at.now)
         )
         if parts:
-            words = escape(f"{title}: {number(len(some), 'attempt')}, {SAID[tone]}")
-            found.append(f'<g class="run {tone}"><title>{words}</title>{parts}</g>')
-    return "".join(found)
+            title_text = escape(f"{title}: {number(len(of_tone), 'attempt')}, {TONE_WORDS[tone]}")
+            result.append(f'<g class="run {tone}"><title>{title_text}</title>{parts}</g>')
+    return "".join(result)
 
 
-SAID = {
+TONE_WORDS = {
     "waiting": "not called",
     "committed": "succeeded",
     "undone": "undone",
@@ -158,42 +163,42 @@ SAID = {
 
 
 def merged(spans: list[Span], now: float) -> list[Span]:
-    """Spans of one kind, with those that overlap as one."""
-    found = list[Span]()
-    for span in sorted(spans, key=lambda one: one.began):
+    """Merge overlapping spans of one state."""
+    result = list[Span]()
+    for span in sorted(spans, key=lambda span_of_state: span_of_state.began):
         ended = now if span.ended is None else span.ended
-        last = found[-1] if found else None
+        last = result[-1] if result else None
         if last is not None and last.ended is not None and span.began <= last.ended:
-            found[-1] = dataclasses.replace(last, ended=max(last.ended, ended))
+            result[-1] = dataclasses.replace(last, ended=max(last.ended, ended))
         else:
-            found.append(dataclasses.replace(span, ended=ended))
-    return found
+            result.append(dataclasses.replace(span, ended=ended))
+    return result
 
 
 def part(span: Span, at: Scale, top: float) -> str:
-    """A span: the higher, the more is done in it."""
+    """Draw a span. Its height shows how active the state is."""
     high = HIGH[span.state]
     wide = ((span.ended or at.now) - span.began) * at.scale
     wide = max(wide, 3.0 if span.state == "running" else 0.0)
-    who = " person" if span.why in PERSON else ""
+    css_class = " person" if span.why in PERSON else ""
     return (
-        f'<rect class="in-{span.state}{who}" '
+        f'<rect class="in-{span.state}{css_class}" '
         f'x="{at.left + (span.began - at.first) * at.scale:.1f}" '
         f'y="{top + (ROW - high) / 2:.0f}" width="{wide:.1f}" height="{high}" '
         f'rx="{min(4, high / 2):.0f}"/>'
     )
 
 
-def told(one: AttemptTimes, now: float) -> str:
-    """An attempt in words."""
-    what = "compensation" if one.undo else "action"
-    said = wording.OUTCOMES.get(one.outcome or "", "under way")
-    took = f" after {wording.span((one.ended or now) - one.began)}"
-    seconds = one.seconds(now)
+def describe(attempt: AttemptTimes, now: float) -> str:
+    """Describe an attempt in words."""
+    action = "compensation" if attempt.undo else "action"
+    outcome = wording.OUTCOMES.get(attempt.outcome or "", "under way")
+    after = f" after {wording.span((attempt.ended or now) - attempt.began)}"
+    seconds = attempt.seconds(now)
     spans = [
-        f"{word} {wording.span(seconds[state])}"
-        for state, word in STATES.items()
+        f"{verb} {wording.span(seconds[state])}"
+        for state, verb in STATES.items()
         if seconds.get(state)
     ]
     more = f"; {', '.join(spans)}" if spans else ""
-    return f"{one.step}, {what}, attempt {one.attempt}: {said}{took}{more}"
+    return f"{attempt.step}, {action}, attempt {attempt.attempt}: {outcome}{after}{more}"

@@ -1,4 +1,4 @@
-"""Labels and steps that a filter names and nothing has: they may be misspelt."""
+"""Warnings about labels and steps of a filter that nothing has: they may be misspelled."""
 
 from __future__ import annotations
 
@@ -12,59 +12,62 @@ from sagas.inspection.question import Query, Question
 from sagas.storage.filters import EVERYTHING, Filter
 
 MOST_NAMES, MOST_DEFINITIONS = 256, 256
-"""Names of labels, and definitions, among which the one is looked for that may be meant."""
+"""How many label names and definitions are searched for a similar name."""
 
 
 def of(
     filter: Filter, step: str | None = None, declared: Iterable[str] = ()
 ) -> Question[list[str]]:
-    """What is said of a filter that selects nothing: of its labels that no saga of its scope has,
-    and of its step, if no definition has that. In a scope nothing is said of names that others may
-    use.
+    """Return warnings about a filter that selects nothing.
+
+    They name labels that no saga of the filter's scope has, and the step if no definition has
+    it. In a restricted scope, names that others may use are not revealed.
 
     Args:
         filter: The filter.
-        step: The name of a step, or its declared name, that is asked for beside it.
-        declared: Names of steps that the program's definitions have, beside those of the store.
+        step: The name or declared name of a step that was also requested.
+        declared: Names of steps of the program's definitions, in addition to those of the store.
     """
-    found, is_whole = list[str](), filter.scope == EVERYTHING
+    warnings, is_whole = list[str](), filter.scope == EVERYTHING
     if step is not None and is_whole and (why := (yield from _step(step, declared))):
-        found.append(why)
+        warnings.append(why)
     for name, value in filter.labels.items():
-        where, words = Filter(labels={name: value}, scope=filter.scope).where()
-        if (yield Query(f"SELECT 1 FROM sagas s WHERE {where} LIMIT 1", (*words,))):
+        condition, parameters = Filter(labels={name: value}, scope=filter.scope).where()
+        if (yield Query(f"SELECT 1 FROM sagas s WHERE {condition} LIMIT 1", (*parameters,))):
             continue
         names = (yield from _label_names()) if is_whole else [name]
         if name in names:
-            found.append(f"no saga has the label {name}={value!r}")
+            warnings.append(f"no saga has the label {name}={value!r}")
         else:
-            found.append(f"no saga has a label {name!r}{meant(name, names)}")
-    return found
+            warnings.append(f"no saga has a label {name!r}{meant(name, names)}")
+    return warnings
 
 
 def _label_names() -> Question[list[str]]:
-    """The names of labels, one after the other by their index: there may be millions of labels."""
-    found, last = list[str](), ""
-    while len(found) < MOST_NAMES:
+    """Return the names of labels. Uses the index for each, because there may be millions of
+    labels.
+    """
+    names, last = list[str](), ""
+    while len(names) < MOST_NAMES:
         ((name,),) = yield Query("SELECT min(name) FROM labels WHERE name > ?", (last,))
         if name is None:
             break
         last = str(name)
-        found.append(last)
-    return [name for name in found if name != TOKEN]
+        names.append(last)
+    return [name for name in names if name != TOKEN]
 
 
 def _step(name: str, declared: Iterable[str]) -> Question[str | None]:
-    """What is said of a step that no definition has; None if one has it."""
+    """Return a warning if no definition has a step, else None."""
     known = {*declared}
     if name in known:
         return None
-    words = f'"{name}"', f"{OF}{name}"
+    parameters = f'"{name}"', f"{OF}{name}"
     query = "SELECT 1 FROM definitions WHERE instr(text, ?) > 0 OR instr(text, ?) > 0 LIMIT 1"
-    if (yield Query(query, words)):
+    if (yield Query(query, parameters)):
         return None
-    some = yield Query(f"SELECT definition, text FROM definitions LIMIT {MOST_DEFINITIONS}")
-    texts: dict[str, str] = {digest: text for digest, text in some}
+    rows = yield Query(f"SELECT definition, text FROM definitions LIMIT {MOST_DEFINITIONS}")
+    texts: dict[str, str] = {digest: text for digest, text in rows}
     names = Names(texts)
     for digest in texts:
         known |= {*names.of(digest), *names.declared(digest)}

@@ -10,7 +10,7 @@ from sagas.inspection.question import Query, Question
 from sagas.storage.filters import EVERYTHING, Scope
 
 LEFT = "h.number = 0 AND h.reason = 'early_result' AND s.phase IS NOT NULL AND s.note IS NULL"
-"""The reports `h` of sagas `s` that nobody has seen to."""
+"""Selects the unresolved reports `h` of sagas `s`."""
 ROWS = f"""
 SELECT s.key, s.saga, d.definition, 'unused_report', h.step, h.action, h.detail, h.since
 FROM suspensions h JOIN sagas s ON s.id = h.id {OF_SHARD} WHERE {LEFT} ORDER BY h.since LIMIT ?
@@ -20,28 +20,28 @@ REPORTED = """
 SELECT key, value FROM operator_commands
 WHERE command = 'complete' AND answer = 'true' AND key IN ({}) ORDER BY id
 """
-MOST = 500
-"""Keys of one query."""
+MOST_KEYS = 500
+"""How many keys one query has."""
 Reporters = dict[tuple[str, str], str]
-"""Who reported a step of a saga first, by the saga's key and the step's name."""
+"""Who first reported a step, by the saga's key and the step's name."""
 
 
 def count(scope: Scope = EVERYTHING) -> Question[int]:
-    """How many there are that wait for a person."""
-    where, words = scope.where()
-    rows = yield Query(f"{COUNT}{where}", (*words,))
+    """Count the unused reports that wait for an operator."""
+    condition, parameters = scope.where()
+    rows = yield Query(f"{COUNT}{condition}", (*parameters,))
     return int(rows[0][0])
 
 
 def reporters(keys: Iterable[str]) -> Question[Reporters]:
-    """Who reported steps of sagas, as far as the store has that."""
-    found: Reporters = {}
+    """Return who reported steps of sagas, if the store has a name."""
+    result: Reporters = {}
     left = sorted(set(keys))
     while left:
-        some, left = left[:MOST], left[MOST:]
-        rows = yield Query(REPORTED.format(", ".join("?" * len(some))), (*some,))
+        batch, left = left[:MOST_KEYS], left[MOST_KEYS:]
+        rows = yield Query(REPORTED.format(", ".join("?" * len(batch))), (*batch,))
         for key, value in rows:
-            told = json.loads(value or "null") or {}
-            if told.get("by") and told.get("kind", "run") == "run":
-                found.setdefault((key, str(told.get("step"))), str(told["by"]))
-    return found
+            report = json.loads(value or "null") or {}
+            if report.get("by") and report.get("kind", "run") == "run":
+                result.setdefault((key, str(report.get("step"))), str(report["by"]))
+    return result

@@ -1,4 +1,4 @@
-"""The answers to questions."""
+"""Answers to questions about a saga."""
 
 from __future__ import annotations
 
@@ -19,12 +19,15 @@ Json = dict[str, Any]
 
 @dataclasses.dataclass(frozen=True, slots=True)
 class Waits:
-    """An attempt that is held. `why`: `unknown`, `retry`, `exhausted`, `cannot_decode`,
-    `approval`, `wait`, `child`, or `external` (a worker has it); a service adds what its memory
-    has (`sagas.ActiveAttempt`).
+    """A suspended attempt.
 
-    `until`: when that is over, in seconds of wall time, or None; `said`: what was raised last,
-    or the worker's name; `count`: how often nobody knew, or it failed, since a person retried it.
+    Attributes:
+        why: `unknown`, `retry`, `exhausted`, `cannot_decode`, `approval`, `wait`, `child`, or
+            `external` (a worker has it). A service adds reasons that only its memory has
+            (`sagas.ActiveAttempt`).
+        count: How often it failed or had an unknown outcome since an operator last retried it.
+        until: When the wait ends, in seconds of wall time, or None.
+        said: The last error, or the worker's name.
     """
 
     id: int
@@ -41,15 +44,19 @@ class Waits:
 
     @property
     def asks(self) -> bool:
-        """Whether a person has to say something."""
+        """Return whether an operator must decide or report something."""
         is_parked = self.why == AttentionReason.UNKNOWN and self.until is None
         return is_parked or self.why in ("approval", "exhausted", "cannot_decode")
 
 
 @dataclasses.dataclass(frozen=True, slots=True)
 class Note:
-    """What somebody did to a saga: `what` is the command; `told` has `by`, `note` and what was
-    said.
+    """An operator's command to a saga.
+
+    Attributes:
+        what: The command.
+        told: Its arguments, with `by` and `note`.
+        answer: The answer, or None.
     """
 
     key: str
@@ -60,15 +67,17 @@ class Note:
 
     @property
     def event(self) -> HistoryEvent:
-        """The same as an event."""
+        """Return the command as an event of the saga's history."""
         value = {"what": self.what, **self.told, "answer": self.answer}
         return HistoryEvent("note", self.at, self.told.get("step"), value)
 
 
 @dataclasses.dataclass(frozen=True, slots=True)
 class Relative:
-    """A saga that another one started, or that started it. `step`: what the child's key has behind
-    the parent's, the step's name first.
+    """A parent or a child of a saga.
+
+    `step` is the part of the child's key after the parent's key. It begins with the step's
+    name.
     """
 
     key: str
@@ -79,12 +88,14 @@ class Relative:
 
 @dataclasses.dataclass(frozen=True, slots=True)
 class StepView:
-    """A step as it stands: its state, its needs, how often its action began, its last result or
-    error, and when it began and ended.
+    """A step in its current state.
 
-    `raised`: what it raised last, where it failed, or its compensation did. `progress`: how far
-    its function was that is called now, as it told last. `early`: `complete` or `fail` where it
-    was reported so before it has begun.
+    Attributes:
+        attempts: How often its action was started.
+        said: Its last result or error.
+        raised: The last error, if it or its compensation failed.
+        progress: The progress that its function last reported, if it is running.
+        early: `complete` or `fail` if this was reported before the step began.
     """
 
     name: str
@@ -100,7 +111,9 @@ class StepView:
 
 
 class Noted(NamedTuple):
-    """`spans`: what attempts did that were not simply called; `elsewhere`: what others did."""
+    """Recorded times of attempts: `spans` of those that were not simply called, `elsewhere` of
+    those that workers executed.
+    """
 
     spans: Sequence[tuple[Any, ...]] = ()
     elsewhere: Sequence[tuple[Any, ...]] = ()
@@ -108,14 +121,19 @@ class Noted(NamedTuple):
 
 @dataclasses.dataclass(frozen=True, slots=True)
 class SagaView:
-    """All of a saga, of one moment. `plan` is the last one; `token`: of its shard's name and its
-    number there; `end`: what the store keeps of its end.
+    """All of a saga, at one moment.
 
-    `parent`: the saga that started it; `children`: those that it started. `running`: steps, and
-    whether their compensations, of which somebody knows that they are called now; of others that
-    have begun the store alone does not tell. `noted`: for `inspection.timeline`. `shape`: what is
-    kept of its shape, as it is stored, where its steps come from its input. `unused`: the steps of
-    which a success was reported, and without which it has ended.
+    Attributes:
+        plan: The last plan that it adopted.
+        token: Derived from its shard's name and its number in that shard.
+        end: Its stored outcome.
+        parent: The saga that started it.
+        children: The sagas that it started.
+        running: Steps, and whether their compensations, that are known to run now. The store alone
+            does not know it.
+        noted: Recorded times, for `inspection.timeline`.
+        shape: Its stored shape, if its steps depend on its input.
+        unused: The steps with a reported success that the saga did not use.
     """
 
     summary: Summary
@@ -154,7 +172,7 @@ class SagaView:
 
     @property
     def phase(self) -> str:
-        """open, completed, recovered, stuck or resolved."""
+        """Return open, completed, recovered, stuck or resolved."""
         return self.summary.phase
 
     @property
@@ -171,19 +189,19 @@ class SagaView:
 
     @property
     def history(self) -> list[HistoryEvent]:
-        """The events in the order of the log, and what people did before the first later one."""
-        found, notes = list[HistoryEvent](), deque(self.notes)
-        for one in self.events:
-            while notes and notes[0].at < one.at:
-                found.append(notes.popleft().event)
-            found.append(one)
-        return found + [note.event for note in notes]
+        """Return the events in the order of the log, with operator commands in between."""
+        result, notes = list[HistoryEvent](), deque(self.notes)
+        for event in self.events:
+            while notes and notes[0].at < event.at:
+                result.append(notes.popleft().event)
+            result.append(event)
+        return result + [note.event for note in notes]
 
     @property
     def resolution(self) -> Note | None:
-        """What the person did who resolved it."""
-        return next((one for one in self.notes if one.what == "resolve"), None)
+        """Return the command that resolved it, or None."""
+        return next((note for note in self.notes if note.what == "resolve"), None)
 
     def idempotency_key(self, step: str, undo: bool) -> str:
-        """The key that a step's action, or its compensation, hands to other services."""
+        """Return the key that a step's action, or its compensation, passes to other services."""
         return tokens.idempotency_key(self.token, step, "undo" if undo else "run")

@@ -1,4 +1,4 @@
-"""What a saga would come to if it were aborted now, or if one of its steps ended."""
+"""What an abort of a saga, or the end of one of its steps, would lead to now."""
 
 from __future__ import annotations
 
@@ -13,18 +13,21 @@ from sagas.inspection.views import SagaView, StepView
 
 MOST_LISTED = 8
 ENDS = {"running": "committed", "undoing": "undone"}
-"""How steps that are under way are taken to end."""
+"""The states in which active steps are assumed to end."""
 CALLED = ("external", "ordered", "unknown", "cannot_decode")
-"""What an attempt waits for that may have had its effect. Others are given up by an abort, and by
-a failure if the step may be attempted again."""
-TOLD = {"undo_failed": "fixed"}
-"""States that the program calls otherwise."""
+"""Reasons of suspended attempts that may have had their effect. Other attempts are given up by an
+abort, and by a failure if the step may be attempted again.
+"""
+PLANNER_STATES = {"undo_failed": "fixed"}
+"""States that have another name in the planner's format."""
 RECOVERS = ("failed", "undoing", "undone", "undo_failed")
 
 
 @dataclasses.dataclass(frozen=True, slots=True)
 class WhatIf:
-    """A plan that nobody goes by. `assumed`: how steps that are under way were taken to end."""
+    """A plan that is not executed. `assumed`: the states in which active steps were assumed to
+    end.
+    """
 
     plan: Plan
     assumed: dict[str, str]
@@ -33,17 +36,17 @@ class WhatIf:
 def of(
     view: SagaView, *, abort: bool = False, failed: str | None = None, done: str | None = None
 ) -> WhatIf:
-    """Plans for a saga as it stands, once it is aborted, or once a step has failed or is done.
+    """Compute the plan of a saga if it is aborted now, or if a step fails or succeeds.
 
-    Of a step that is being undone, `failed` and `done` mean its compensation.
+    If a step is being undone, `failed` and `done` are about its compensation.
 
     Raises:
         ValueError: The step has ended already, or there is no such step.
     """
     states = {step.name: step.state for step in view.steps}
     if failed is not None and states.get(failed) not in ("waiting", *ENDS):
-        there = states.get(failed)
-        raise ValueError(f"it is {there}" if there else "there is no such step")
+        state = states.get(failed)
+        raise ValueError(f"the step is {state}" if state else "the saga has no such step")
     aborted = abort or view.aborted
     assumed = _assumed(view, aborted)
     if failed is not None:
@@ -51,7 +54,9 @@ def of(
     if done is not None:
         assumed[done] = ENDS[states[done]]
     states |= _failed(view) | assumed
-    case: dict[str, object] = {"states": [TOLD.get(state, state) for state in states.values()]}
+    case: dict[str, object] = {
+        "states": [PLANNER_STATES.get(state, state) for state in states.values()]
+    }
     if aborted:
         case["aborted"] = True
     verdict = library.plan(view.definition, json.dumps(case))
@@ -60,13 +65,15 @@ def of(
 
 
 def _failed(view: SagaView) -> dict[str, str]:
-    """The steps of which a further attempt fails without a call, since an earlier one failed
-    permanently: for the engine they are still to be attempted.
+    """Return the steps whose next attempt fails without a call, because an earlier one failed
+    permanently.
+
+    For the engine, these are still to be attempted.
     """
     final = {
-        (one.step, one.undo)
-        for one in view.attempts
-        if one.outcome in MISSES and (one.value or {}).get("final")
+        (attempt.step, attempt.undo)
+        for attempt in view.attempts
+        if attempt.outcome in MISSES and (attempt.value or {}).get("final")
     }
     ends = {("waiting", False): "failed", ("committed", True): "undo_failed"}
     return {
@@ -78,65 +85,67 @@ def _failed(view: SagaView) -> dict[str, str]:
 
 
 def _assumed(view: SagaView, aborted: bool) -> dict[str, str]:
-    """How each step ends that is under way: one that waits and was not called is given up."""
-    waits = {one.step: one.why for one in view.held if not one.undo}
-    tries = {one.name: one.tries for one in listed_steps.of(view.definition)}
-    found = {}
+    """Return how each active step is assumed to end. One that waits and was not called is given
+    up.
+    """
+    waits = {entry.step: entry.why for entry in view.held if not entry.undo}
+    tries = {entry.name: entry.tries for entry in listed_steps.of(view.definition)}
+    assumed = {}
     for step in view.steps:
         if step.state not in ENDS:
             continue
         is_left = step.state == "running" and waits.get(step.name, CALLED[0]) not in CALLED
         may_wait = aborted or step.attempts < tries[step.name]
-        found[step.name] = "waiting" if is_left and may_wait else ENDS[step.state]
-    return found
+        assumed[step.name] = "waiting" if is_left and may_wait else ENDS[step.state]
+    return assumed
 
 
-def words(found: WhatIf) -> str:
-    """What would be done, for a person: "Undo car and hotel, keep flight: costs 15"."""
-    if found.plan.cost is None:
-        because = " and ".join(found.plan.blocking_steps)
+def describe(forecast: WhatIf) -> str:
+    """Describe a plan, for example "Undo car and hotel, keep flight: costs 15"."""
+    if forecast.plan.cost is None:
+        because = " and ".join(forecast.plan.blocking_steps)
         return f"It would be stuck, because of {because}"
     by: dict[str, list[str]] = {}
-    for choice in found.plan.choices:
+    for choice in forecast.plan.choices:
         by.setdefault(choice.decision, []).append(choice.step)
     verbs = {"is undone": "undo", "stands": "keep", "is run": "run"}
-    parts = [f"{verb} {listed(by[word])}" for word, verb in verbs.items() if word in by]
-    text = ", ".join(parts) or "nothing is to be undone"
-    assumed = [step for step, state in found.assumed.items() if state == "committed"]
+    parts = [f"{verb} {listed(by[decision])}" for decision, verb in verbs.items() if decision in by]
+    text = ", ".join(parts) or "nothing has to be undone"
+    assumed = [step for step, state in forecast.assumed.items() if state == "committed"]
     more = f" (if {listed(assumed)} succeeds)" if assumed else ""
-    return f"{text[0].upper()}{text[1:]}: costs {found.plan.cost:,}{more}"
+    return f"{text[0].upper()}{text[1:]}: costs {forecast.plan.cost:,}{more}"
 
 
-def aborted_words(view: SagaView) -> str:
-    """What an abort would do now."""
-    return words(of(view, abort=True))
+def describe_abort(view: SagaView) -> str:
+    """Describe what an abort would do now."""
+    return describe(of(view, abort=True))
 
 
-def failed_words(view: SagaView, step: str) -> str:
-    """What becomes of a saga once a step, or its compensation, has failed permanently."""
-    return words(of(view, failed=step))
+def describe_failure(view: SagaView, step: str) -> str:
+    """Describe what happens if a step, or its compensation, fails permanently."""
+    return describe(of(view, failed=step))
 
 
-def done_words(view: SagaView, step: str) -> str:
-    """What becomes of a saga once a step, or its compensation, is done."""
-    if view.aborted or any(one.state in RECOVERS for one in view.steps):
-        return words(of(view, done=step))
-    done = {one.name for one in view.steps if one.state == "committed"} | {step}
-    left = [one for one in view.steps if one.name not in done]
+def describe_completion(view: SagaView, step: str) -> str:
+    """Describe what happens if a step, or its compensation, succeeds."""
+    if view.aborted or any(other.state in RECOVERS for other in view.steps):
+        return describe(of(view, done=step))
+    done = {other.name for other in view.steps if other.state == "committed"} | {step}
+    left = [other for other in view.steps if other.name not in done]
     if not left:
         return "The saga is completed"
-    if begins := [one.name for one in left if begins_with(one, done, step)]:
+    if begins := [other.name for other in left if begins_with(other, done, step)]:
         return f"Start {listed(begins)}"
-    return f"Wait for {listed([one.name for one in left if one.state != 'waiting'])}"
+    return f"Wait for {listed([other.name for other in left if other.state != 'waiting'])}"
 
 
-def begins_with(one: StepView, done: set[str], step: str) -> bool:
-    """Whether a step begins now that one of its needs is the last to be done."""
-    return one.state == "waiting" and step in one.needs and done.issuperset(one.needs)
+def begins_with(waiting: StepView, done: set[str], step: str) -> bool:
+    """Return whether a step can begin because the last of its needs is done now."""
+    return waiting.state == "waiting" and step in waiting.needs and done.issuperset(waiting.needs)
 
 
 def listed(names: list[str]) -> str:
-    """Names in a sentence; of many the first."""
+    """Return names as part of a sentence; of many names only the first."""
     if len(names) > MOST_LISTED:
         return f"{', '.join(names[:MOST_LISTED])} and {len(names) - MOST_LISTED} more"
     return " and ".join([", ".join(names[:-1]), names[-1]] if len(names) > 1 else names)

@@ -62,40 +62,41 @@ OUTCOMES = {
 WAITS = {
     "approval": "waits for a decision",
     "worker": "waits for a worker",
-    "exhausted": "exhausted: a person decides",
-    "person": "unknown: a person reports it",
-    "unknown": "unknown: called again soon",
+    "exhausted": "exhausted: an operator decides",
+    "person": "unknown: an operator reports it",
+    "unknown": "unknown: will be called again",
     "cannot_decode": "unreadable",
-    "wait": "waits for its time",
+    "wait": "waits for its timer",
 }
-"""For what an attempt waits, by `Span.why`."""
+"""What an attempt waits for, by `Span.why`."""
 DECISIONS = {"stands": "keep", "is run": "run", "is undone": "undo", "is left out": "skip"}
-"""What a plan does with a step, by `Choice.decision`, in the words of a definition and of the
-planner page."""
+"""What a plan does with a step, by `Choice.decision`, in the words of definitions and of the
+planner page.
+"""
 ACTS = {
     "abort": "aborted the saga",
     "complete": "reported that a step succeeded",
     "fail": "reported that a step failed",
     "retry": "retried a step",
-    "compensate": "had a step compensated",
+    "compensate": "compensated a step",
     "resolve": "marked it as resolved",
 }
 
 
 def wait(why: str | None, state: str) -> str:
-    """What an attempt that is not over does now, by its last span."""
+    """Describe what an active attempt does now, by its last span."""
     if state == "waiting" and why in WAITS:
         return WAITS[why]
     return {"backoff": "backs off", "running": "runs", "queued": "is queued"}.get(state, "waits")
 
 
 def clock(at: float | None) -> str:
-    """A moment of wall time, in UTC, as the command has it."""
+    """Return a wall time in UTC, as the command line prints it."""
     return "" if at is None else moment(at).strftime("%Y-%m-%d %H:%M:%SZ")
 
 
 def iso(at: float | None) -> str:
-    """The same for programs."""
+    """Return a wall time as RFC 3339 text."""
     return (
         ""
         if at is None
@@ -108,50 +109,50 @@ def moment(at: float) -> datetime.datetime:
 
 
 def span(seconds: float) -> str:
-    """How long something took."""
+    """Return a duration in words."""
     seconds = max(0.0, seconds)
     if seconds < 1:
         return f"{seconds * 1000:.0f} ms"
     if seconds < 60:
         return f"{seconds:.1f} s".replace(".0 s", " s")
     parts = [(86400, "d"), (3600, "h"), (60, "min"), (1, "s")]
-    for place, (length, word) in enumerate(parts[:-1]):
+    for index, (length, unit) in enumerate(parts[:-1]):
         if seconds >= length:
             count, rest = divmod(seconds, length)
-            smaller, name = parts[place + 1]
+            smaller, name = parts[index + 1]
             more = int(rest // smaller)
-            return f"{count:.0f} {word}" + (f" {more} {name}" if more else "")
+            return f"{count:.0f} {unit}" + (f" {more} {name}" if more else "")
     return f"{seconds:.0f} s"
 
 
 def ago(seconds: float) -> str:
-    """How long ago, or in how long, in one unit."""
+    """Return a relative time in one unit: "5 min ago" or "in 2 h"."""
     long, form = (seconds, "{} {} ago") if seconds > -1 else (-seconds, "in {} {}")
-    for length, word in ((86400, "d"), (3600, "h"), (60, "min")):
+    for length, unit in ((86400, "d"), (3600, "h"), (60, "min")):
         if long >= length:
-            return form.format(int(long // length), word)
+            return form.format(int(long // length), unit)
     return form.format(int(max(0.0, long)), "s")
 
 
 LINES = json.JSONEncoder(indent=2, ensure_ascii=False, default=whole)
 LINE = json.JSONEncoder(ensure_ascii=False, default=whole)
 PIECE = 1000
-"""Characters of a long text that are looked at together."""
+"""How many characters of a long text are processed at once."""
 
 
 def pretty(value: Any, most: int = 20_000) -> str:
-    """A value as JSON over several lines. Of a large one only what is shown is written."""
-    found, count = list[str](), 0
+    """Return a value as indented JSON. Only the shown part of a large value is serialized."""
+    chunks, count = list[str](), 0
     for chunk in LINES.iterencode(value):
-        found.append(chunk)
+        chunks.append(chunk)
         count += len(chunk)
         if count > most:
-            return "".join(found)[:most] + "\n… (shortened; see the saga's log)"
-    return "".join(found)
+            return "".join(chunks)[:most] + "\n… (shortened; see the saga's log)"
+    return "".join(chunks)
 
 
 def one_line(value: Any) -> str:
-    """Return a value in one line: a text as it is, others as JSON."""
+    """Return a value on one line: a string unquoted, other values as JSON."""
     if value is None:
         return ""
     text = value if isinstance(value, str) else json.dumps(value, ensure_ascii=False)
@@ -159,7 +160,7 @@ def one_line(value: Any) -> str:
 
 
 def short(value: Any, most: int = 90) -> str:
-    """The beginning of `one_line`. Of a large value only what is shown is written."""
+    """Return the beginning of `one_line`. Only the shown part of a large value is serialized."""
     if isinstance(value, StoredValue):
         return _beginning([value.beginning(most)], most)[: most - 1] + "…"
     if isinstance(value, dict) and isinstance(value.get("error"), str):
@@ -171,14 +172,14 @@ def short(value: Any, most: int = 90) -> str:
 
 
 def _beginning(chunks: Iterable[str], most: int) -> str:
-    """A text in one line; of a longer one the beginning, with more than `most` characters."""
-    found, count = list[str](), 0
+    """Return a text on one line. A longer text is cut off after more than `most` characters."""
+    pieces, count = list[str](), 0
     for piece in _pieces(chunks):
-        found.append(piece)
+        pieces.append(piece)
         count += sum(map(len, piece.split()))
         if count > most:
             break
-    return " ".join("".join(found).split())
+    return " ".join("".join(pieces).split())
 
 
 def _pieces(chunks: Iterable[str]) -> Iterator[str]:

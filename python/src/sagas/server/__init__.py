@@ -1,8 +1,8 @@
 """The HTTP service and its dashboard.
 
-The coordinator as a service: callers and workers in any language over HTTP, and a page for
-whoever looks after it.
+The coordinator as a service: callers and workers use HTTP from any language, and operators use
+a dashboard.
 
-`sagas serve PATH --definitions DIR`; it needs the extra `sagas[server]`. docs/guides/service.md
-says how to use it.
+`sagas serve PATH --definitions DIR` starts it. It needs the extra `sagas[server]`. See
+docs/guides/service.md.
 """

@@ -1,4 +1,4 @@
-"""Shapes of what the API answers, as the OpenAPI document has them."""
+"""Shapes of the API's responses, as in the OpenAPI document."""
 
 from __future__ import annotations
 
@@ -41,7 +41,7 @@ KINDS = (
     "damaged",
     "approval",
 )
-"""What needs a person."""
+"""What needs an operator."""
 NAME = Text(most=32, pattern=DEFINITION.pattern)
 COUNT = Number(least=0, whole=True)
 SECONDS = Number()
@@ -49,13 +49,13 @@ COST = Nullable(COUNT)
 MAYBE = Nullable(Text())
 
 
-def time(name: str, told: str, nullable: bool = False) -> dict[str, Field]:
-    """A time in seconds, and beside it as text."""
+def time(name: str, description: str, nullable: bool = False) -> dict[str, Field]:
+    """Return two fields for a time: in seconds, and as text."""
     seconds: Shape = Nullable(SECONDS) if nullable else SECONDS
     text: Shape = Nullable(Text(form="date-time")) if nullable else Text(form="date-time")
     return {
-        name: Field(seconds, f"{told}, in seconds since 1970"),
-        f"{name}_at": Field(text, f"{told}, as RFC 3339"),
+        name: Field(seconds, f"{description}, in seconds since 1970"),
+        f"{name}_at": Field(text, f"{description}, as RFC 3339"),
     }
 
 
@@ -65,19 +65,19 @@ PROBLEM = Record(
     {
         "type": Field(
             Choice(tuple(problems.PREFIX + name for name in problems.PROBLEMS)),
-            "the name of the problem, which never changes",
+            "the stable name of the problem",
         ),
-        "title": Field(Text(), "what kind of problem it is, for people"),
-        "status": Field(Number(400, 599, whole=True), "the status of the answer"),
-        "detail": Field(Text(), "what happened, and what to do, for people"),
-        "field": Field(Text(), "the parameter or the place in the body", default=None),
+        "title": Field(Text(), "a short description of the problem"),
+        "status": Field(Number(400, 599, whole=True), "the HTTP status"),
+        "detail": Field(Text(), "what happened, and what to do"),
+        "field": Field(Text(), "the parameter, or the path in the body", default=None),
     },
     "Problem details (RFC 9457).",
     {
         "type": "urn:sagas:problem:KeyConflict",
-        "title": "The key has another saga or input",
+        "title": "The key is already used with another saga or input",
         "status": 409,
-        "detail": "the key 'order-1' has another input: take another key",
+        "detail": "the key 'order-1' has another input: use another key",
     },
 )
 STARTED = Record(
@@ -86,7 +86,7 @@ STARTED = Record(
         "key": Field(Text()),
         "definition": Field(NAME),
         "version": Field(COUNT, "the version of the definition"),
-        "new": Field(Flag(), "false: the key had this very saga already"),
+        "new": Field(Flag(), "false: the key already had this saga"),
     },
     example={"key": "order-1", "definition": "trip", "version": 1, "new": True},
 )
@@ -101,14 +101,14 @@ SUMMARY = Record(
         **DEADLINE,
         "undo_failed": Field(Flag(), "a compensation failed permanently"),
         "labels": Field(Mapped(Text())),
-        "note": Field(MAYBE, "of whoever resolved it"),
+        "note": Field(MAYBE, "the note with which it was resolved"),
     },
 )
 PAGE = Record(
     "SagaPage",
     {
         "sagas": Field(Several(SUMMARY)),
-        "next": Field(MAYBE, "`after` of the next page; null: there is none"),
+        "next": Field(MAYBE, "`after` for the next page; null: this is the last page"),
     },
 )
 PLANNED = Record(
@@ -116,8 +116,8 @@ PLANNED = Record(
     {
         "step": Field(NAME),
         "found": Field(Choice(STATES), "the state that the plan found"),
-        "cost_to_keep": Field(COST, "null: never"),
-        "cost_to_drop": Field(COST, "null: never"),
+        "cost_to_keep": Field(COST, "null: not possible"),
+        "cost_to_drop": Field(COST, "null: not possible"),
         "decision": Field(
             Choice(("stands", "is run", "is undone", "is left out", "stuck")), "what is done"
         ),
@@ -135,21 +135,21 @@ WAITING = Record(
     "Waiting",
     {
         "step": Field(NAME),
-        "undo": Field(Flag(), "its compensation is meant"),
+        "undo": Field(Flag(), "whether it is the compensation"),
         "attempt": Field(COUNT),
         "why": Field(Text(), "what it waits for"),
         **time("since", "since when"),
         **time("until", "until when", nullable=True),
-        "said": Field(MAYBE, "what was raised last, or the name of the worker"),
-        "person": Field(Flag(), "a person has to report something"),
+        "said": Field(MAYBE, "the last error, or the name of the worker"),
+        "person": Field(Flag(), "an operator must report something"),
     },
 )
 PROGRESS = Record(
     "Progress",
     {
         "step": Field(NAME),
-        "fraction": Field(Number(least=0, most=1), "how far its function is"),
-        "detail": Field(MAYBE, "what the function says, for people"),
+        "fraction": Field(Number(least=0, most=1), "the progress of its function, from 0 to 1"),
+        "detail": Field(MAYBE, "a text from the function"),
     },
 )
 RELATIVE = Record(
@@ -172,30 +172,30 @@ SAGA = Record(
         **time("ended", "when it ended, or got stuck", nullable=True),
         **DEADLINE,
         "aborted": Field(Flag()),
-        "note": Field(MAYBE, "of whoever resolved it"),
+        "note": Field(MAYBE, "the note with which it was resolved"),
         "labels": Field(Mapped(Text())),
         "parent": Field(Nullable(RELATIVE), "the saga that started it"),
         "children": Field(Several(RELATIVE), "the sagas that it started, at most 1,024"),
         "input": Field(Anything()),
         "states": Field(Mapped(Choice(STATES)), "of each step"),
         "results": Field(Mapped(Anything()), "of the steps that are in effect"),
-        "errors": Field(Mapped(Text()), "what failed steps raised last"),
+        "errors": Field(Mapped(Text()), "the last error of each failed step"),
         "plan": Field(Nullable(PLAN), "the last plan; null: nothing has failed"),
         "waits": Field(Several(WAITING), "the attempts that wait"),
-        "progress": Field(Several(PROGRESS), "of functions that run, as they reported it last"),
+        "progress": Field(Several(PROGRESS), "the last reported progress of running functions"),
         "early": Field(
             Mapped(Choice(("complete", "fail"))),
-            "the reports that are stored of steps that have not begun",
+            "stored reports of steps that have not begun",
         ),
     },
 )
 EVENT = Record(
     "SagaEvent",
     {
-        "event": Field(Text(), "`note`: what a person did"),
+        "event": Field(Text(), "the event's name; `note`: a command of an operator"),
         **time("at", "when"),
         "step": Field(MAYBE),
-        "value": Field(Anything(), "what came of it"),
+        "value": Field(Anything(), "its result or error"),
     },
 )
 HISTORY = Record("History", {"events": Field(Several(EVENT))})
@@ -216,13 +216,14 @@ WHAT_IF = Record(
         "certificate": Field(CERTIFICATE),
         "assumed": Field(
             Mapped(Choice(("waiting", "committed", "failed", "undone", "undo_failed"))),
-            "how steps that are under way were taken to end; waiting: given up",
+            "the assumed states of active steps; waiting: given up",
         ),
     },
-    "What would be done. Nothing is changed.",
+    "A plan that is not executed.",
 )
 ABORTED = Record(
-    "Aborted", {"key": Field(Text()), "aborted": Field(Flag(), "false: it is over, or was aborted")}
+    "Aborted",
+    {"key": Field(Text()), "aborted": Field(Flag(), "false: it is over, or was already aborted")},
 )
 COMPENSATED = Record(
     "Compensated",
@@ -237,11 +238,11 @@ DECIDED = Record(
     "Decided", {"key": Field(Text()), "step": Field(NAME), "kept": Field(Flag(), "it is stored")}
 )
 WHY = Nullable(Choice(("aborted", "failed")))
-CANCELLED = {"cancelled": Field(WHY, "why the saga is being undone; null: it is not")}
+CANCELLED = {"cancelled": Field(WHY, "why the saga is being undone; null: it is not being undone")}
 TASK = Record(
     "Task",
     {
-        "name": Field(Text(), "as it was asked for: `trip/car`, or `trip/car/undo`"),
+        "name": Field(Text(), "the requested step: `trip/car`, or `trip/car/undo`"),
         "attempt_id": Field(Text(), "the task's name, for heartbeats and the report"),
         "lease": Field(Text(), "the right to report it, for heartbeats and the report"),
         "seconds": Field(Number(least=0), "for how long the lease holds from now"),
@@ -250,21 +251,27 @@ TASK = Record(
         **CANCELLED,
         "definition": Field(NAME),
         "key": Field(Text(), "of the saga"),
-        "step": Field(NAME, "of a step with items the name with the item's number: `ship-2`"),
-        "declared_step": Field(Text(), "as the step was declared: `ship`, `hotel/room`"),
-        "index": Field(Nullable(COUNT), "the number of the step's item, from 0; null: it has none"),
-        "item_key": Field(MAYBE, "the key of the item, where the items are of an object"),
-        "item": Field(Anything(), "the step's item; null: it has none"),
-        "shape": Field(Nullable(SHAPE), "null: the saga's steps do not come from its input"),
-        "undo": Field(Flag(), "its compensation is meant"),
+        "step": Field(NAME, "its name; for a step with items, with the item's number: `ship-2`"),
+        "declared_step": Field(Text(), "the declared name of the step: `ship`, `hotel/room`"),
+        "index": Field(
+            Nullable(COUNT), "the index of the step's item, from 0; null: the step has no items"
+        ),
+        "item_key": Field(MAYBE, "the key of the item, if the items are those of an object"),
+        "item": Field(Anything(), "the step's item; null: the step has no items"),
+        "shape": Field(Nullable(SHAPE), "null: the saga's steps do not depend on its input"),
+        "undo": Field(Flag(), "whether it is the compensation"),
         "attempt": Field(COUNT, "1 for the first"),
-        "idempotency_key": Field(Text(), "for other services: the same for all attempts"),
-        "original_idempotency_key": Field(MAYBE, "in a compensation: the key of its step"),
-        "traceparent": Field(MAYBE, "the W3C trace context that the saga was started in"),
+        "idempotency_key": Field(Text(), "to pass to other services: the same for all attempts"),
+        "original_idempotency_key": Field(
+            MAYBE, "for a compensation: the idempotency key of its step"
+        ),
+        "traceparent": Field(MAYBE, "the W3C trace context of the saga's start"),
         "input": Field(Anything(), "of the saga"),
-        "given": Field(Anything(), "what the saga that includes the step's saga gives; or null"),
-        "results": Field(Mapped(Anything()), "of what it needs; of all items by the declared step"),
-        "result": Field(Anything(), "in a compensation: the result to undo"),
+        "given": Field(Anything(), "the input from the including saga, or null"),
+        "results": Field(
+            Mapped(Anything()), "results of the steps that it needs, by declared step"
+        ),
+        "result": Field(Anything(), "for a compensation: the result to undo"),
     },
 )
 CLAIMED = Record(
@@ -273,9 +280,10 @@ CLAIMED = Record(
         "tasks": Field(Several(TASK)),
         "heartbeat_seconds": Field(Number(least=0), "how often to send heartbeats"),
         "repeat_statuses": Field(
-            Several(Number(400, 599, whole=True)), "repeat a request that is answered with these"
+            Several(Number(400, 599, whole=True)),
+            "repeat requests that are answered with these statuses",
         ),
-        "unknown_steps": Field(Several(Text()), "those that no definition has"),
+        "unknown_steps": Field(Several(Text()), "requested steps that no definition has"),
     },
 )
 HELD = Record(
@@ -313,10 +321,10 @@ QUEUE = Record(
     "Queue",
     {
         "definition": Field(NAME),
-        "step": Field(Text(), "as it was declared: `car`, `hotel/room`"),
+        "step": Field(Text(), "the declared name: `car`, `hotel/room`"),
         "undo": Field(Flag()),
         "ready": Field(COUNT, "tasks that wait for a worker"),
-        "claimed": Field(COUNT, "tasks that workers have"),
+        "claimed": Field(COUNT, "tasks that workers have claimed"),
         **time("oldest", "since when the oldest one waits", nullable=True),
     },
 )
@@ -324,13 +332,15 @@ QUEUES = Record("Queues", {"queues": Field(Several(QUEUE))})
 STEP = Record(
     "StepDefinition",
     {
-        "name": Field(Text(), "as it was declared: `car`, `hotel/room`"),
-        "kind": Field(Choice(("worker", "approval", "wait", "child", "function")), "who does it"),
+        "name": Field(Text(), "the declared name: `car`, `hotel/room`"),
+        "kind": Field(
+            Choice(("worker", "approval", "wait", "child", "function")), "what executes it"
+        ),
         "needs": Field(Several(Text())),
-        **{word: Field(COST, "null: never, or computed") for word in COSTS},
-        "computed": Field(Several(Choice(COSTS)), "the costs that come from the input"),
-        "for_each": Field(Flag(), "whether it is there once for each item of the input"),
-        "conditional": Field(Flag(), "whether it is there for some inputs alone"),
+        **{word: Field(COST, "null: not possible, or computed") for word in COSTS},
+        "computed": Field(Several(Choice(COSTS)), "the costs that are computed from the input"),
+        "for_each": Field(Flag(), "whether it exists once for each item of the input"),
+        "conditional": Field(Flag(), "whether it exists only for some inputs"),
         "tries": Field(COUNT),
         "undo_tries": Field(COUNT),
     },
@@ -345,33 +355,33 @@ DEFINED = Record(
     },
 )
 DEFINITIONS = Record("Definitions", {"definitions": Field(Several(DEFINED))})
-ASKED = Record(
+ATTENTION_ENTRY = Record(
     "AttentionEntry",
     {
         "kind": Field(Choice(KINDS)),
         "key": Field(Text()),
         "definition": Field(NAME),
         "step": Field(Nullable(NAME), "null: the whole saga"),
-        "undo": Field(Flag(), "its compensation is meant"),
+        "undo": Field(Flag(), "whether it is the compensation"),
         "detail": Field(
-            MAYBE, "what was raised, or what cannot be read; of an unused report its result as JSON"
+            MAYBE, "the error, or what cannot be read; of an unused report, its result as JSON"
         ),
-        "by": Field(MAYBE, "who reported it, of an unused report"),
-        "waits_for": Field(Text(), "what it waits for, for people"),
+        "by": Field(MAYBE, "of an unused report, who reported it"),
+        "waits_for": Field(Text(), "what it waits for, in words"),
         "calls": Field(
             Several(Choice(("compensate", "resolve", "retry", "complete", "fail", "abort"))),
             "the calls that apply",
         ),
         **time("since", "since when"),
-        **time("until", "until when it may be decided", nullable=True),
+        **time("until", "until when it can be decided", nullable=True),
     },
 )
 ATTENTION = Record(
     "Attention",
     {
         "counts": Field(Mapped(COUNT), "of each kind, without the other filters"),
-        "entries": Field(Several(ASKED)),
-        "next": Field(MAYBE, "`after` of the next page; null: there is none"),
+        "entries": Field(Several(ATTENTION_ENTRY)),
+        "next": Field(MAYBE, "`after` for the next page; null: this is the last page"),
     },
 )
 REFUSED_KEY = Record("RefusedKey", {"key": Field(Text()), "problem": Field(PROBLEM)})
@@ -385,26 +395,28 @@ BULK = Record(
         "refused": Field(Several(REFUSED_KEY), "those that were refused, and why"),
         "left": Field(COUNT, "how many are left for a further call"),
         "undoing": Field(COUNT, "how many an abort leaves out, because they undo children"),
-        "warnings": Field(Several(Text()), "what nothing has, if the filter selects nothing"),
+        "warnings": Field(
+            Several(Text()), "labels and steps that do not exist, if the filter selects nothing"
+        ),
     },
 )
 SCHEDULE = Record(
     "Schedule",
     {
-        "name": Field(Text(), "the keys of its sagas begin with it"),
+        "name": Field(Text(), "its name, with which the keys of its sagas begin"),
         "definition": Field(NAME),
         "version": Field(COUNT),
         "input": Field(Anything(), "of its sagas"),
         "labels": Field(Mapped(Text()), "of its sagas"),
-        "cron": Field(MAYBE, "the expression; null: `every` counts"),
+        "cron": Field(MAYBE, "the cron expression; null: `every` is used"),
         "every": Field(Nullable(SECONDS), "seconds between two times"),
         "timezone": Field(Text(), "of the expression"),
-        "catch_up": Field(Choice(("last", "all", "skip")), "what becomes of missed times"),
-        "max": Field(COUNT, "missed times that are started at most"),
+        "catch_up": Field(Choice(("last", "all", "skip")), "what happens to missed times"),
+        "max": Field(COUNT, "maximum number of missed times that are started"),
         "overlap": Field(
-            Choice(("allow", "skip", "queue")), "what follows while the last saga is open"
+            Choice(("allow", "skip", "queue")), "what happens while the last saga is open"
         ),
-        "paused": Field(Flag(), "it starts nothing"),
+        "paused": Field(Flag(), "whether it is paused"),
         "error": Field(MAYBE, "why its last saga could not be started, or what was not started"),
         **time("next", "the next time", nullable=True),
         **time("last", "the last time", nullable=True),
@@ -418,7 +430,7 @@ SCHEDULE_CHANGED = Record(
 DELIVERY = Record(
     "Delivery",
     {
-        "id": Field(Text(), "the header `webhook-id`: the same for all attempts"),
+        "id": Field(Text(), "the value of the header `webhook-id`: the same for all attempts"),
         "webhook": Field(Text(), "its name"),
         "type": Field(Text()),
         "key": Field(Text(), "of the saga"),

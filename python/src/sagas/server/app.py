@@ -10,7 +10,7 @@ from sagas.server import openapi, problems
 from sagas.server.connections import Connections
 from sagas.server.dashboard_session import refused
 from sagas.server.middleware import DASHBOARD, LOGIN, App, Guard, Receive, Scope, Send
-from sagas.server.operations import Operation, not_found, resources
+from sagas.server.operations import Operation, path_not_found, resources
 from sagas.server.problems import Problem
 from sagas.server.routes import (
     attention,
@@ -59,22 +59,23 @@ PAGES = [
 
 
 def operations() -> list[Operation]:
-    """All of the API."""
-    return [one for routes in API for one in routes.operations]
+    """Return all operations of the API."""
+    return [operation for routes in API for operation in routes.operations]
 
 
 def answered(request: Request, problem: Problem) -> Response:
-    """A problem of a call."""
+    """Return the response for a problem of an API call."""
     return problems.response(problem)
 
 
 class Paths:
-    """The router, and before it the paths that have no parts of their own: each is found at once,
-    where the router would look at each path before it.
+    """A router that looks up fixed paths directly.
+
+    The wrapped router would compare a request with each path in turn.
     """
 
     def __init__(self, routes: list[Route]) -> None:
-        self._router = Router(routes, redirect_slashes=False, default=nothing)
+        self._router = Router(routes, redirect_slashes=False, default=no_such_path)
         self._exact = {route.path: route.app for route in routes if not route.param_convertors}
 
     async def __call__(self, scope: Scope, receive: Receive, send: Send) -> None:
@@ -86,20 +87,20 @@ class Paths:
         await app(scope, receive, send)
 
 
-async def nothing(scope: Scope, receive: Receive, send: Send) -> None:
-    """There is no such path."""
-    await problems.response(not_found())(scope, receive, send)
+async def no_such_path(scope: Scope, receive: Receive, send: Send) -> None:
+    """Answer that the path does not exist."""
+    await problems.response(path_not_found())(scope, receive, send)
 
 
 def application(settings: Settings, connections: Connections | None = None) -> tuple[App, Service]:
-    """The application over a store, which whoever serves it opens and closes."""
+    """Return the application over a store. The server opens and closes the store."""
     service, routes = Service(settings), resources([*API, *PAGES], answered, refused)
     service.pages = [route.path_regex for route in routes if is_shown(route)]
     return Guard(Paths(routes), service, connections), service
 
 
 def is_shown(route: Route) -> bool:
-    """Whether it is a page that a person looks at."""
+    """Return whether a route is a page that users visit."""
     is_page = route.path == DASHBOARD or route.path.startswith(f"{DASHBOARD}/")
     is_aside = route.path in (LOGIN, f"{DASHBOARD}/events", f"{DASHBOARD}/static/{{name}}")
     return is_page and not is_aside and "GET" in getattr(route.app, "operations", ())

@@ -1,4 +1,4 @@
-"""What `--app` names: sagas, or a store, whose options the service takes over."""
+"""The value that `--app` names: sagas, or a store with options for the service."""
 
 from __future__ import annotations
 
@@ -11,55 +11,55 @@ from sagas.api.store import Store
 from sagas.api.sync_store import SyncStore
 from sagas.definition.saga import Saga
 
-OWN = ("path", "sagas", "accept_new", "clock")
-"""Arguments of `sagas.open` that the service does not take over: it has its own."""
+NOT_TAKEN_OVER = ("path", "sagas", "accept_new", "clock")
+"""Arguments of `sagas.open` that the service does not take over, because it has its own."""
 REFUSED = ("accept_new", "clock")
-"""Those of them of which that is said."""
+"""Those arguments that are rejected if a store has them."""
 
 
 class AppStore:
-    """What a module has for a service.
+    """The sagas and options that a module provides for a service.
 
     Attributes:
         sagas: The definitions that are executed.
-        options: Of a store, the arguments of `sagas.open` that are no defaults.
+        options: The arguments of `sagas.open` that differ from their defaults, if it is a store.
     """
 
-    def __init__(self, place: str, found: Any) -> None:
-        """`place`: where it is, for messages.
+    def __init__(self, location: str, value: Any) -> None:
+        """`location`: the module and name, for messages.
 
         Raises:
             ValueError: It is something else, or has an option that the service cannot take over.
         """
-        store = found._inner if isinstance(found, SyncStore) else found
+        store = value._inner if isinstance(value, SyncStore) else value
         self.options: Mapping[str, Any] = {}
         if isinstance(store, Store):
-            self.options = _options_of(place, store)
+            self.options = _options_of(location, store)
             # those that undo children are made again
             self.sagas = [saga for saga in store.sagas if saga.undoes is None]
             return
-        some = [found] if isinstance(found, Saga) else []
-        if not some and isinstance(found, Iterable):
-            some = list(found)
-        if not some or not all(isinstance(saga, Saga) for saga in some):
+        listed = [value] if isinstance(value, Saga) else []
+        if not listed and isinstance(value, Iterable):
+            listed = list(value)
+        if not listed or not all(isinstance(saga, Saga) for saga in listed):
             raise ValueError(
-                f"--app {place}: must be a saga, a list of sagas, or a store made by sagas.open"
+                f"--app {location}: must be a saga, a list of sagas, or a store made by sagas.open"
             )
-        self.sagas = some
+        self.sagas = listed
 
 
-def _options_of(place: str, store: Store) -> dict[str, Any]:
-    """The options of a store that are no defaults. Raises `ValueError`."""
+def _options_of(location: str, store: Store) -> dict[str, Any]:
+    """Return the options of a store that differ from their defaults. Raises `ValueError`."""
     defaults = inspect.signature(opening.open).parameters
-    given = {
+    set_options = {
         name: value
         for name, value in store.opened_with.items()
         if name in defaults and value is not defaults[name].default
     }
     for name in REFUSED:
-        if name in given and given[name] != defaults[name].default:
+        if name in set_options and set_options[name] != defaults[name].default:
             raise ValueError(
-                f"--app {place}: its store has {name}=, which a service cannot have. Leave it out, "
-                "or name a list of sagas"
+                f"--app {location}: its store has {name}=, which a service cannot have. "
+                "Leave it out, or name a list of sagas"
             )
-    return {name: value for name, value in given.items() if name not in OWN}
+    return {name: value for name, value in set_options.items() if name not in NOT_TAKEN_OVER}

@@ -24,7 +24,7 @@ from sagas.server import private_files
 from sagas.storage.filters import EVERYTHING, Scope
 
 MOST_SESSIONS = 1000
-LOOK = 1.0  # seconds between two looks at the token file
+RELOAD_INTERVAL = 1.0  # seconds between two looks at the token file
 KEYS = (
     "name",
     "roles",
@@ -39,30 +39,30 @@ KEYS = (
 NAME = r"[a-z][a-z0-9_-]{0,31}"
 DEFINITION = re.compile(NAME)
 STEP = re.compile(rf"({NAME})/({NAME})(/undo)?")
-"""A definition's step, or its compensation: as workers ask for it."""
+"""A definition's step or its compensation, as workers request it."""
 KEY = re.compile(r"(?!.*/:)[^*]{0,511}(?:[^*]|\*)")
-"""A key, or with a `*` at the end what keys begin with."""
+"""A key, or with a `*` at the end a prefix of keys."""
 
 
-class May(enum.Enum):
-    """What a token may be good for. A route asks for one of these."""
+class Permission(enum.Enum):
+    """What a token can permit. Each route requires one of these."""
 
-    LOOK = "look at sagas"
+    LOOK = "read sagas"
     START = "start and abort sagas"
-    APPROVE = "say how a step ended"
-    WORK = "do tasks"
-    MEASURE = "read the figures"
-    OPERATE = "resolve sagas, and say how any step ended"
+    APPROVE = "report how a step ended"
+    WORK = "execute tasks"
+    MEASURE = "read metrics"
+    OPERATE = "resolve sagas and report any step"
 
 
 ROLES = {
-    "caller": frozenset({May.LOOK, May.START}),
-    "approver": frozenset({May.LOOK, May.APPROVE}),
-    "worker": frozenset({May.WORK}),
-    "operator": frozenset(May),
-    "metrics": frozenset({May.MEASURE}),
+    "caller": frozenset({Permission.LOOK, Permission.START}),
+    "approver": frozenset({Permission.LOOK, Permission.APPROVE}),
+    "worker": frozenset({Permission.WORK}),
+    "operator": frozenset(Permission),
+    "metrics": frozenset({Permission.MEASURE}),
 }
-"""What each role may."""
+"""The permissions of each role."""
 
 
 class TokenFault(Exception):
@@ -71,10 +71,15 @@ class TokenFault(Exception):
 
 @dataclasses.dataclass(frozen=True, slots=True)
 class Limits:
-    """What a token is kept to. None: it is not.
+    """Restrictions of a token. None: no restriction.
 
-    `scope`: the sagas that it sees; `steps`: those of workers that it takes tasks of;
-    `expires`: when it ends; `open_sagas`, `open_bytes`: its quota, None: the service's."""
+    Attributes:
+        scope: The sagas that it may see.
+        steps: The steps whose tasks it may claim.
+        expires: When it expires.
+        open_sagas: Its quota of open sagas. None: the service's default.
+        open_bytes: Its quota of input bytes. None: the service's default.
+    """
 
     scope: Scope = EVERYTHING
     steps: frozenset[str] | None = None
@@ -84,72 +89,80 @@ class Limits:
 
 
 @dataclasses.dataclass(frozen=True, slots=True)
-class Who:
-    """Somebody with a token. An operator may do what callers, approvers and workers may, and read
-    the metrics."""
+class Principal:
+    """The owner of a token, with its roles and limits.
+
+    An operator has the permissions of callers, approvers and workers, and may read the metrics.
+    """
 
     name: str
     roles: frozenset[str]
     digest: str = ""
     limits: Limits = Limits()
 
-    def may(self, what: May) -> bool:
-        return any(what in ROLES[role] for role in self.roles)
+    def has_permission(self, permission: Permission) -> bool:
+        """Return whether one of the roles has a permission."""
+        return any(permission in ROLES[role] for role in self.roles)
 
     @property
     def definitions(self) -> frozenset[str] | None:
-        """The definitions that it sees; None: all."""
+        """Return the definitions that it may see. None: all."""
         return self.scope.definitions
 
     @property
     def scope(self) -> Scope:
-        """The sagas that it sees."""
+        """Return the sagas that it may see."""
         return self.limits.scope
 
     def sees(self, definition: str | None) -> bool:
-        """Whether sagas of this definition are its to see; what is of none is for those who see
-        all."""
+        """Return whether it may see sagas of this definition.
+
+        An event without a definition is visible only to principals that see all.
+        """
         return self.scope.has_definition(definition)
 
     def sees_event(self, event: Event) -> bool:
-        """Whether an event is of a saga that is its to see."""
+        """Return whether it may see the saga of an event."""
         return self.scope.has_saga(event.saga, event.key)
 
     def does(self, step: str) -> bool:
-        """Whether tasks of a step, `saga/step` or `saga/step/undo`, are its to take."""
+        """Return whether it may claim tasks of a step (`saga/step` or `saga/step/undo`)."""
         return self.sees(step.partition("/")[0]) and (
             self.limits.steps is None or step in self.limits.steps
         )
 
     @property
     def is_over(self) -> bool:
-        """Whether its token has expired."""
+        """Return whether its token has expired."""
         return (
             self.limits.expires is not None
             and datetime.datetime.now(datetime.timezone.utc) >= self.limits.expires
         )
 
 
-LOCAL = Who("local", frozenset(ROLES))
-"""Whoever comes over the loopback where there are no tokens."""
+LOCAL_PRINCIPAL = Principal("local", frozenset(ROLES))
+"""The principal of local connections if there is no token file."""
 
 
-NOBODY = Who("nobody", frozenset())
-"""Whoever asks for what needs no token: may do nothing else."""
+ANONYMOUS = Principal("nobody", frozenset())
+"""The principal of requests that need no token. It has no permissions."""
 
 
 def digest_of(token: str) -> str:
     return hashlib.sha256(token.encode(errors="replace")).hexdigest()
 
 
-def read(path: pathlib.Path) -> dict[str, Who]:
-    """The token file: tables `[[token]]`, each with `name`, `roles`, and `sha256`, the token's
-    digest. Raises `TokenFault`."""
-    return _found(path, _text_of(path))
+def read(path: pathlib.Path) -> dict[str, Principal]:
+    """Read the token file: tables `[[token]]` with `name`, `roles` and `sha256`, the token's
+    digest.
+
+    Raises `TokenFault`.
+    """
+    return _tokens_in(path, _text_of(path))
 
 
 def _text_of(path: pathlib.Path) -> str:
-    """Raises `TokenFault`."""
+    """Return the file's text. Raises `TokenFault`."""
     try:
         private_files.check(path)
         return path.read_text(encoding="utf-8")
@@ -157,29 +170,29 @@ def _text_of(path: pathlib.Path) -> str:
         raise TokenFault(f"{path}: cannot be read: {error}") from error
 
 
-def _found(path: pathlib.Path, text: str) -> dict[str, Who]:
-    """The tokens of the file's text. Raises `TokenFault`."""
+def _tokens_in(path: pathlib.Path, text: str) -> dict[str, Principal]:
+    """Return the tokens in the file's text, by digest. Raises `TokenFault`."""
     try:
-        told = tomllib.loads(text)
+        document = tomllib.loads(text)
     except tomllib.TOMLDecodeError as error:
         raise TokenFault(f"{path}: cannot be read: {error}") from error
     except RecursionError:
         raise TokenFault(f"{path}: cannot be read: too many lists in one another") from None
-    entries = told.get("token", [])
-    if set(told) - {"token"} or not isinstance(entries, list):
+    entries = document.get("token", [])
+    if set(document) - {"token"} or not isinstance(entries, list):
         raise TokenFault(f"{path}: only [[token]] tables are allowed")
-    found: dict[str, Who] = {}
-    for place, entry in enumerate(entries, 1):
+    result: dict[str, Principal] = {}
+    for number, entry in enumerate(entries, 1):
         try:
-            who = _read_one(entry)
+            principal = _read_one(entry)
         except ValueError as error:
-            raise TokenFault(f"{path}: token {place}: {error}") from None
-        found[who.digest] = who
-    return found
+            raise TokenFault(f"{path}: token {number}: {error}") from None
+        result[principal.digest] = principal
+    return result
 
 
-def _read_one(entry: Any) -> Who:
-    """The owner of a token. Raises `ValueError`."""
+def _read_one(entry: Any) -> Principal:
+    """Return the principal of a table. Raises `ValueError`."""
     unknown = sorted(set(entry) - set(KEYS)) if isinstance(entry, dict) else ["?"]
     if unknown:  # a limit that is misspelt would be none
         raise ValueError(f"unknown key {unknown[0]!r}; the keys are {', '.join(KEYS)}")
@@ -199,60 +212,60 @@ def _read_one(entry: Any) -> Who:
             "sha256 must be a digest of 64 hexadecimal digits, as `sagas token` writes it"
         )
     limits = limits_of(roles, entry)
-    return Who(name, frozenset(roles), digest, limits)
+    return Principal(name, frozenset(roles), digest, limits)
 
 
-def limits_of(roles: Collection[str], told: Mapping[str, Any]) -> Limits:
-    """What a token of these roles is kept to. Raises `ValueError`."""
-    names = _listed("definitions", told, DEFINITION, "names of definitions")
-    keys = _listed("keys", told, KEY, "keys, or beginnings of keys with * at the end, without /:")
-    words = _listed("steps", told, STEP, "DEFINITION/STEP or DEFINITION/STEP/undo")
-    quota = [_count(word, told, roles) for word in ("open_sagas", "open_bytes")]
-    found = Limits(Scope(names, keys), words, _moment(told.get("expires")), *quota)
+def limits_of(roles: Collection[str], table: Mapping[str, Any]) -> Limits:
+    """Return the restrictions of a token with these roles. Raises `ValueError`."""
+    names = _listed("definitions", table, DEFINITION, "names of definitions")
+    keys = _listed("keys", table, KEY, "keys, or beginnings of keys with * at the end, without /:")
+    steps = _listed("steps", table, STEP, "DEFINITION/STEP or DEFINITION/STEP/undo")
+    quota = [_count(name, table, roles) for name in ("open_sagas", "open_bytes")]
+    limits = Limits(Scope(names, keys), steps, _moment(table.get("expires")), *quota)
     if keys is not None and not {"caller", "approver"} >= set(roles):
         raise ValueError("keys can only restrict a token with the roles caller and approver")
-    if found.steps is not None and not {"worker", "operator"} & set(roles):
+    if limits.steps is not None and not {"worker", "operator"} & set(roles):
         raise ValueError("steps requires the role worker or operator")
     if names is not None and "metrics" in roles:
         raise ValueError(
             "definitions cannot restrict a token with the role metrics, "
             "because metrics cover all definitions"
         )
-    return found
+    return limits
 
 
 def _listed(
-    word: str, told: Mapping[str, Any], form: re.Pattern[str], what: str
+    key: str, table: Mapping[str, Any], form: re.Pattern[str], description: str
 ) -> frozenset[str] | None:
-    given = told.get(word)
-    if given is None:
+    listed = table.get(key)
+    if listed is None:
         return None
     if not (
-        isinstance(given, list)
-        and given
-        and all(isinstance(one, str) and form.fullmatch(one) for one in given)
+        isinstance(listed, list)
+        and listed
+        and all(isinstance(text, str) and form.fullmatch(text) for text in listed)
     ):
-        raise ValueError(f"{word} must be a list of one or more {what}")
-    return frozenset(given)
+        raise ValueError(f"{key} must be a list of one or more {description}")
+    return frozenset(listed)
 
 
-def _count(word: str, told: Mapping[str, Any], roles: Collection[str]) -> int | None:
-    given = told.get(word)
-    if given is None:
+def _count(key: str, table: Mapping[str, Any], roles: Collection[str]) -> int | None:
+    count = table.get(key)
+    if count is None:
         return None
-    if type(given) is not int or given < 0:
-        raise ValueError(f"{word} must be an integer from 0")
+    if type(count) is not int or count < 0:
+        raise ValueError(f"{key} must be an integer from 0")
     if not {"caller", "operator"} & set(roles):
-        raise ValueError(f"{word} requires the role caller or operator")
-    return given
+        raise ValueError(f"{key} requires the role caller or operator")
+    return count
 
 
-def _moment(given: Any) -> datetime.datetime | None:
-    """A moment with its offset, by a TOML time or a text."""
-    if given is None:
+def _moment(value: Any) -> datetime.datetime | None:
+    """Return a moment with an offset from a TOML time or a text."""
+    if value is None:
         return None
     try:
-        moment = datetime.datetime.fromisoformat(given) if isinstance(given, str) else given
+        moment = datetime.datetime.fromisoformat(value) if isinstance(value, str) else value
     except ValueError:
         moment = None
     if not isinstance(moment, datetime.datetime) or moment.tzinfo is None:
@@ -261,11 +274,13 @@ def _moment(given: Any) -> datetime.datetime | None:
 
 
 def make(path: pathlib.Path, name: str, roles: list[str], limits: Limits = Limits()) -> str:
-    """Makes a token, and puts its digest into the file. One that is made is its user's alone, and
-    no link is followed. Gives the token, which is kept nowhere.
+    """Create a token and append its digest to the file. Returns the token, which is not stored.
 
-    Raises `TokenFault` where the file is invalid, or would be: then it is as it was. Raises
-    `OSError` where it cannot be written.
+    A new file is readable only by its user. Symbolic links are not followed.
+
+    Raises:
+        TokenFault: The file is invalid, or would become invalid. It is unchanged.
+        OSError: The file cannot be written.
     """
     token = f"sagas_{secrets.token_urlsafe(32)}"
     if path.is_symlink():
@@ -279,76 +294,78 @@ def make(path: pathlib.Path, name: str, roles: list[str], limits: Limits = Limit
         f'sha256 = "{digest_of(token)}"',
     ]
     scope = limits.scope
-    for word, some in (
+    for key, values in (
         ("definitions", scope.definitions),
         ("keys", scope.keys),
         ("steps", limits.steps),
     ):
-        lines += [f"{word} = {_list_of(sorted(some))}"] if some is not None else []
+        lines += [f"{key} = {_list_of(sorted(values))}"] if values is not None else []
     lines += [f"expires = {limits.expires.isoformat()}"] if limits.expires else []
-    for word, count in (("open_sagas", limits.open_sagas), ("open_bytes", limits.open_bytes)):
-        lines += [f"{word} = {count}"] if count is not None else []
-    end = "\n" if text and not text.endswith("\n") else ""  # editors may leave it out
-    more = end + "\n".join(lines) + "\n\n"
-    _found(path, text + more)
+    for key, count in (("open_sagas", limits.open_sagas), ("open_bytes", limits.open_bytes)):
+        lines += [f"{key} = {count}"] if count is not None else []
+    separator = "\n" if text and not text.endswith("\n") else ""  # editors may leave it out
+    added = separator + "\n".join(lines) + "\n\n"
+    _tokens_in(path, text + added)
     fd = os.open(path, os.O_WRONLY | os.O_CREAT | os.O_APPEND | os.O_NOFOLLOW, 0o600)
     with os.fdopen(fd, "w", encoding="utf-8") as file:
-        file.write(more)
+        file.write(added)
     return token
 
 
-def _list_of(words: Iterable[str]) -> str:
-    return json.dumps([*words], ensure_ascii=False)
+def _list_of(texts: Iterable[str]) -> str:
+    return json.dumps([*texts], ensure_ascii=False)
 
 
 class Tokens:
-    """The tokens of a file, which is read again when it changes. A file that cannot be read any
-    more leaves those that were there, and is read again at each look: what repairs it need not
-    change it, as `chown` does not.
+    """The tokens of a file. A changed file is read again.
+
+    If the file becomes unreadable, the previous tokens stay valid, and the file is read again
+    at each check. A repair need not change the file's time stamp: `chown` does not.
     """
 
     def __init__(self, path: pathlib.Path, complain: Callable[[str], None]) -> None:
         self.path, self._complain, self._fault = path, complain, ""
         self._looked, self._stamp = 0.0, self._stamp_now()
-        self._there = read(path)
+        self._principals = read(path)
 
     def _stamp_now(self) -> tuple[int, int, int]:
         try:
-            told = self.path.stat()
+            status = self.path.stat()
         except OSError:
             return 0, 0, 0
-        return told.st_mtime_ns, told.st_size, told.st_ino
+        return status.st_mtime_ns, status.st_size, status.st_ino
 
-    def find(self, token: str) -> Who | None:
-        """Whose token it is. It is looked up by its digest, so that no time tells of a part of
-        it.
+    def find(self, token: str) -> Principal | None:
+        """Return the owner of a token.
+
+        Tokens are compared by digest, so response times reveal nothing about a token.
         """
         return self.of(digest_of(token))
 
-    def of(self, digest: str) -> Who | None:
-        """Whose token has this digest; None where it has expired."""
-        who = self._of(digest)
-        return None if who is None or who.is_over else who
+    def of(self, digest: str) -> Principal | None:
+        """Return the owner of the token with this digest, or None if it is not valid."""
+        principal = self._of(digest)
+        return None if principal is None or principal.is_over else principal
 
     def has_expired(self, token: str) -> bool:
-        """Whether it was a right one."""
-        who = self._of(digest_of(token))
-        return who is not None and who.is_over
+        """Return whether it is a known token that has expired."""
+        principal = self._of(digest_of(token))
+        return principal is not None and principal.is_over
 
-    def _of(self, digest: str) -> Who | None:
+    def _of(self, digest: str) -> Principal | None:
         now = time.monotonic()
-        if now - self._looked > LOOK:
+        if now - self._looked > RELOAD_INTERVAL:
             self._looked = now
             stamp = self._stamp_now()
             if stamp == self._stamp:
                 self._fault = ""
             else:
                 self._again(stamp)
-        return self._there.get(digest)
+        return self._principals.get(digest)
 
     def _again(self, stamp: tuple[int, int, int]) -> None:
         try:
-            self._there, self._stamp, self._fault = read(self.path), stamp, ""
+            self._principals, self._stamp, self._fault = read(self.path), stamp, ""
         except TokenFault as fault:
             if str(fault) != self._fault:
                 self._complain(f"{fault}; the previous tokens stay valid until it is fixed")
@@ -357,61 +374,61 @@ class Tokens:
 
 @dataclasses.dataclass(slots=True)
 class Session:
-    """Somebody at the page. `csrf` goes with each form."""
+    """A dashboard session. `csrf` is sent with each form."""
 
-    who: Who
+    principal: Principal
     csrf: str
     until: float
 
-    def sent(self, csrf: str) -> bool:
-        """Whether a form is this session's own."""
+    def owns_form(self, csrf: str) -> bool:
+        """Return whether a form belongs to this session."""
         return hmac.compare_digest(self.csrf.encode(), csrf.encode(errors="replace"))
 
 
 class Sessions:
-    """The sessions of the page, in memory: a restart ends them. The oldest gives way."""
+    """The dashboard's sessions, in memory. A restart ends them. If there are too many, the oldest
+    ends.
+    """
 
     def __init__(self, seconds: float) -> None:
         self.seconds = seconds
-        self._there: OrderedDict[str, Session] = OrderedDict()
+        self._sessions: OrderedDict[str, Session] = OrderedDict()
 
-    def begin(self, who: Who) -> tuple[str, Session]:
-        """A new session; gives the cookie's value."""
+    def begin(self, principal: Principal) -> tuple[str, Session]:
+        """Start a session. Returns the cookie's value and the session."""
         name = secrets.token_urlsafe(32)
-        session = self._there[digest_of(name)] = Session(
-            who, secrets.token_urlsafe(32), time.monotonic() + self.seconds
+        session = self._sessions[digest_of(name)] = Session(
+            principal, secrets.token_urlsafe(32), time.monotonic() + self.seconds
         )
-        while len(self._there) > MOST_SESSIONS:
-            self._there.popitem(last=False)
+        while len(self._sessions) > MOST_SESSIONS:
+            self._sessions.popitem(last=False)
         return name, session
 
     def find(self, name: str) -> Session | None:
-        """The session of a cookie."""
-        session = self._there.get(digest_of(name))
+        """Return the session of a cookie, or None."""
+        session = self._sessions.get(digest_of(name))
         if session and session.until < time.monotonic():
             self.end(name)
             return None
         return session
 
     def end(self, name: str) -> None:
-        self._there.pop(digest_of(name), None)
+        self._sessions.pop(digest_of(name), None)
 
 
 class Rates:
-    """How many requests each may still make: a bucket that fills at a rate, up to two seconds'
-    worth, and up to one at least.
-    """
+    """Token buckets of clients: each fills at a rate, up to two seconds' worth and at least 1."""
 
     def __init__(self, rate: float, most: int = 10_000) -> None:
         self.rate, self.most, self._size = rate, most, max(1.0, 2 * rate)
-        self._there: OrderedDict[str, tuple[float, float]] = OrderedDict()
+        self._buckets: OrderedDict[str, tuple[float, float]] = OrderedDict()
 
     def take(self, name: str) -> bool:
-        """Whether one more request is within the rate."""
+        """Return whether one more request is within the rate."""
         now = time.monotonic()
-        left, at = self._there.pop(name, (self._size, now))
-        left = min(self._size, left + (now - at) * self.rate)
-        self._there[name] = (left - 1 if left >= 1 else left), now
-        if len(self._there) > self.most:
-            self._there.popitem(last=False)
-        return left >= 1
+        available, at = self._buckets.pop(name, (self._size, now))
+        available = min(self._size, available + (now - at) * self.rate)
+        self._buckets[name] = (available - 1 if available >= 1 else available), now
+        if len(self._buckets) > self.most:
+            self._buckets.popitem(last=False)
+        return available >= 1

@@ -8,29 +8,32 @@ from typing import Any
 
 from starlette.requests import Request
 
-from sagas.server.access import check_still, service_of
-from sagas.server.auth import Who
+from sagas.server.access import check_unchanged, service_of
+from sagas.server.auth import Principal
 from sagas.server.event_stream import CHECK
 from sagas.server.middleware import FOLLOWED, GONE
 
 
 async def first(
     request: Request,
-    who: Who,
+    principal: Principal,
     work: "asyncio.Future[Any]",
     seconds: float,
     *ends: "asyncio.Future[None]",
 ) -> bool:
-    """Waits for a piece of work, but no longer than the client, its token and the service are
-    there, and until one of the `ends` is done, or the client sends something else. Whether it is
-    done; else it is cancelled, to its end. Raises `Problem` where the token has ended."""
+    """Wait for work until the client, its token or the service ends.
+
+    The wait also ends when one of the `ends` is done, or the client sends something else.
+    Returns whether the work is done. Otherwise, it is cancelled and awaited. Raises `Problem`
+    if the token has expired or changed.
+    """
     service, loop = service_of(request), asyncio.get_running_loop()
-    some = {work, request.scope[GONE], request.scope[FOLLOWED], service.stopping, *ends}
+    futures = {work, request.scope[GONE], request.scope[FOLLOWED], service.stopping, *ends}
     slice = seconds if service.tokens is None else min(seconds, CHECK)
     until = loop.time() + seconds
     try:
-        while not await _any_done(some, min(slice, until - loop.time())):
-            check_still(request, who)
+        while not await _any_done(futures, min(slice, until - loop.time())):
+            check_unchanged(request, principal)
             if loop.time() >= until:
                 return False
         return work.done()
@@ -41,9 +44,9 @@ async def first(
                 await work
 
 
-async def _any_done(some: "set[asyncio.Future[Any]]", seconds: float) -> bool:
-    """Whether one of them is done, at the latest after this time."""
+async def _any_done(futures: "set[asyncio.Future[Any]]", seconds: float) -> bool:
+    """Return whether one of the futures is done within a time."""
     done, _ = await asyncio.wait(
-        some, timeout=max(0.0, seconds), return_when=asyncio.FIRST_COMPLETED
+        futures, timeout=max(0.0, seconds), return_when=asyncio.FIRST_COMPLETED
     )
     return bool(done)

@@ -1,7 +1,7 @@
-"""`sagas serve` and `sagas token`.
+"""The commands `sagas serve` and `sagas token`.
 
-`sagas serve STORE --definitions DIR`: the coordinator as a service; `sagas token FILE NAME
-ROLE..`: a token for it.
+`sagas serve STORE --definitions DIR` runs the coordinator as a service. `sagas token FILE NAME
+ROLE...` creates a token for it.
 """
 
 from __future__ import annotations
@@ -32,7 +32,7 @@ from sagas.server.quotas import Quota
 from sagas.server.settings import (
     LOOPBACK,
     Network,
-    PlaceSettings,
+    ConcurrencySettings,
     Settings,
     StoreSettings,
     StreamSettings,
@@ -44,12 +44,13 @@ from sagas.storage import blob_option, factory
 
 GOOD, NO, USAGE, CANNOT, OVERDUE, INTERRUPTED = 0, 1, 2, 4, 5, 130
 GARBAGE = 5000
-"""Objects that are made, beyond those that went, before Python looks for cycles: requests leave
-few, and to look at each 700 takes a sixth of the processor's time.
+"""Net allocations before Python's cycle collector runs. Requests leave few cycles, and the default
+of 700 costs a sixth of the processor's time.
 """
 SWITCH = 0.0005
-"""Seconds after which a thread that computes lets the event loop go on. By default, 0.005, a small
-request waits for that several times."""
+"""Seconds after which a computing thread yields to the event loop. With the default of 0.005, a
+small request waits for that several times.
+"""
 PACKAGES = "python3-starlette, python3-uvicorn, python3-jinja2 and python3-prometheus-client"
 
 
@@ -60,11 +61,11 @@ PLACES = (
     ("--most-token-connections", 500, "connections of one token with a request"),
     ("--most-address-connections", 1000, "connections of one address, except of trusted proxies"),
 )
-"""Options of what there may be at once. Without a token file they hold for each address."""
+"""Options for limits on concurrency. Without a token file, they apply to each address."""
 
 
 class Trouble(Exception):
-    """What ends the command with a line on standard error."""
+    """An error that ends the command with a line on standard error."""
 
 
 SERVE_ENDING = """\
@@ -75,8 +76,8 @@ Exit status:
   0    stopped by SIGTERM or Ctrl-C
   1    a definition is invalid
   2    invalid arguments, the address is in use, or sagas[server] is not installed
-  4    the store, the token file or the file of webhooks cannot be used
-  5    the stop took too long, and was cut short
+  4    the store, the token file or the webhook file cannot be used
+  5    the stop took too long
   130  interrupted while it starts"""
 TOKEN_ENDING = """\
 Example:
@@ -89,140 +90,150 @@ Exit status:
 
 
 def parser() -> argparse.ArgumentParser:
-    """The words of `sagas serve`."""
-    found = argparse.ArgumentParser(
+    """Return the parser of `sagas serve`."""
+    result = argparse.ArgumentParser(
         prog="sagas serve",
         description="Serve a store over HTTP: sagas, tasks for workers, and a dashboard.",
         epilog=SERVE_ENDING,
         formatter_class=argparse.RawDescriptionHelpFormatter,
     )
     store = "SQLite file, created if missing, or postgresql:// URL for one or more services"
-    found.add_argument("path", metavar="STORE", help=store)
-    add_sagas(found)
-    add_access(found)
-    add_limits(found)
-    found.add_argument(
+    result.add_argument("path", metavar="STORE", help=store)
+    add_sagas(result)
+    add_access(result)
+    add_limits(result)
+    result.add_argument(
         "--node",
         metavar="NAME",
         help="PostgreSQL only: name of this service; a restart under the same name continues its "
         "sagas at once (default: made of host and process)",
     )
-    found.add_argument(
+    result.add_argument(
         "--lease",
         type=positive,
         metavar="SECONDS",
         help="PostgreSQL only: seconds without a heartbeat before other services take over its "
         f"sagas ({OF_APP} or 10)",
     )
-    found.add_argument(
+    result.add_argument(
         "--record",
         metavar="FILE",
-        help="PostgreSQL only: file for what the service hears of its commits and acknowledges, "
+        help="PostgreSQL only: file for a record of commits and acknowledgements, "
         "for `sagas store URL record` (default: $SAGAS_RECORD, or none)",
     )
-    found.add_argument(
+    result.add_argument(
         "--log",
         choices=["json", "text"],
         default="json",
         help="format of the log on standard error (default: json)",
     )
-    found.add_argument(
+    result.add_argument(
         "--log-level",
         choices=["debug", "info", "warning", "error"],
         default="info",
         help="least severity that is logged (default: info)",
     )
-    return found
+    return result
 
 
 OF_APP = "default: that of a store of --app,"
 
 
-def add_sagas(found: argparse.ArgumentParser) -> None:
-    """What is served."""
-    found.add_argument(
+def add_sagas(result: argparse.ArgumentParser) -> None:
+    """Add the options for what is served."""
+    result.add_argument(
         "--definitions",
         type=pathlib.Path,
         metavar="DIR",
         help="directory of definitions NAME.toml, whose steps external workers execute",
     )
-    found.add_argument(
+    result.add_argument(
         "--app",
         metavar="MODULE:NAME",
         help="a saga, a list of sagas, or a store made by sagas.open; the service executes its "
         "steps",
     )
-    found.add_argument(
+    result.add_argument(
         "--concurrency",
         type=integer_from(1),
         metavar="N",
         help=f"maximum number of functions of --app that run at once ({OF_APP} or 16)",
     )
-    found.add_argument(
+    result.add_argument(
         "--context",
         metavar="MODULE:NAME",
         help="what functions of --app get as task.context: an object, or a function that returns a "
         f"context manager ({OF_APP} or none)",
     )
-    found.add_argument(
+    result.add_argument(
         "--retention",
         type=age,
         metavar="TIME",
         help="delete sagas that ended this long ago, for example 30d or 12h "
         f"({OF_APP} or never)",
     )
-    found.add_argument(
+    result.add_argument(
         "--archive-dir",
         metavar="DIR",
         help="with --retention: first write each shard into its own subfolder of DIR "
         f"({OF_APP} or none)",
     )
-    found.add_argument(
+    add_values(result)
+    add_webhooks(result)
+
+
+def add_values(result: argparse.ArgumentParser) -> None:
+    """Add the options that say how values are stored."""
+    result.add_argument(
         "--codec",
         metavar="MODULE:NAME",
         help=f"codec that encodes stored inputs and results ({OF_APP} or none)",
     )
-    found.add_argument(
+    result.add_argument(
         "--blobs",
         metavar="DIR|MODULE:NAME",
         help="where large inputs and results are kept: a directory, or a blob store of a module "
         f"({OF_APP} or the database)",
     )
-    found.add_argument(
+    result.add_argument(
         "--blob-threshold",
         type=integer_from(1),
         metavar="BYTES",
         help=f"size above which --blobs keeps a value ({OF_APP} or 65536)",
     )
-    found.add_argument(
+
+
+def add_webhooks(result: argparse.ArgumentParser) -> None:
+    """Add the options of webhooks."""
+    result.add_argument(
         "--webhooks",
         type=pathlib.Path,
         metavar="FILE",
         help="file that says where to post events of sagas (default: none)",
     )
-    found.add_argument(
+    result.add_argument(
         "--local-webhooks",
         action="store_true",
         help="allow --webhooks to post to loopback and link-local addresses (default: no)",
     )
 
 
-def add_access(found: argparse.ArgumentParser) -> None:
-    """Where it listens, and to whom."""
-    found.add_argument(
+def add_access(result: argparse.ArgumentParser) -> None:
+    """Add the options for the address and for access."""
+    result.add_argument(
         "--listen",
         default="127.0.0.1:8080",
         metavar="HOST:PORT",
         help="address to listen on (default: 127.0.0.1:8080)",
     )
-    found.add_argument(
+    result.add_argument(
         "--token-file",
         type=pathlib.Path,
         metavar="FILE",
         help="file of tokens and their roles, see `sagas token --help` (default: none; the service "
         "then accepts local connections only)",
     )
-    found.add_argument(
+    result.add_argument(
         "--trusted-proxies",
         type=networks_of,
         default=LOOPBACK,
@@ -232,38 +243,38 @@ def add_access(found: argparse.ArgumentParser) -> None:
     )
 
 
-def add_limits(found: argparse.ArgumentParser) -> None:
-    """The limits of requests."""
-    found.add_argument(
+def add_limits(result: argparse.ArgumentParser) -> None:
+    """Add the options for limits of requests."""
+    result.add_argument(
         "--most-body",
         type=integer_from(1),
         default=1 << 20,
         metavar="BYTES",
         help="maximum size of a request body (default: 1048576)",
     )
-    found.add_argument(
+    result.add_argument(
         "--most-connections",
         type=integer_from(1),
         default=2000,
         metavar="N",
         help="maximum number of connections (default: 2000)",
     )
-    for option, default, what in PLACES:
-        found.add_argument(
+    for option, default, counted in PLACES:
+        result.add_argument(
             option,
             type=integer_from(1),
             default=default,
             metavar="N",
-            help=f"maximum number of {what} (default: {default})",
+            help=f"maximum number of {counted} (default: {default})",
         )
-    found.add_argument(
+    result.add_argument(
         "--kept-connections",
         type=integer_from(0),
         default=50,
         metavar="N",
         help="connections kept for health and operators, at most a quarter of all (default: 50)",
     )
-    found.add_argument(
+    result.add_argument(
         "--rate",
         type=positive,
         default=5000.0,
@@ -271,15 +282,15 @@ def add_limits(found: argparse.ArgumentParser) -> None:
         help="maximum number of requests per second for each token, or for each address if there "
         "is no token file (default: 5000)",
     )
-    found.add_argument(
+    result.add_argument(
         "--open-sagas",
         type=integer_from(0),
         default=Quota().sagas,
         metavar="N",
-        help="maximum number of open sagas that each token started, unless the token file says "
-        "another one (default: 10000)",
+        help="maximum number of open sagas that each token started, unless the token file "
+        "has another value (default: 10000)",
     )
-    found.add_argument(
+    result.add_argument(
         "--open-bytes",
         type=integer_from(0),
         default=Quota().bytes,
@@ -289,9 +300,11 @@ def add_limits(found: argparse.ArgumentParser) -> None:
 
 
 def networks_of(text: str) -> tuple[Network, ...]:
-    """Networks, or single addresses, with commas between. Raises `argparse.ArgumentTypeError`."""
+    """Return comma-separated networks or addresses. Raises `argparse.ArgumentTypeError`."""
     try:
-        return tuple(ipaddress.ip_network(one.strip()) for one in text.split(",") if one.strip())
+        return tuple(
+            ipaddress.ip_network(network.strip()) for network in text.split(",") if network.strip()
+        )
     except ValueError as error:
         raise argparse.ArgumentTypeError(
             f"{error}; use networks or addresses, for example 10.0.0.0/8,192.0.2.7"
@@ -299,126 +312,130 @@ def networks_of(text: str) -> tuple[Network, ...]:
 
 
 def listen_of(text: str) -> tuple[str, int]:
-    """Host and port. Raises `Trouble`."""
-    host, found, port = text.rpartition(":")
-    if not found or not re.fullmatch("[0-9]{1,5}", port) or int(port) > 65535:
+    """Return host and port. Raises `Trouble`."""
+    host, separator, port = text.rpartition(":")
+    if not separator or not re.fullmatch("[0-9]{1,5}", port) or int(port) > 65535:
         raise Trouble(f"invalid --listen {text!r}: use HOST:PORT, for example 127.0.0.1:8080")
     return host.strip("[]") or "127.0.0.1", int(port)
 
 
-def loaded(option: str, place: str) -> Any:
-    """What a module has by a name. Raises `Trouble`."""
+def loaded(option: str, location: str) -> Any:
+    """Return the value of a name in a module. Raises `Trouble`."""
     try:
-        return module_values.loaded(option, place)
+        return module_values.loaded(option, location)
     except ValueError as error:
         raise Trouble(str(error)) from error
 
 
-def blobs_of(place: str | None) -> Any:
-    """The blob store of an option. Raises `Trouble`."""
+def blobs_of(location: str | None) -> Any:
+    """Return the blob store of an option. Raises `Trouble`."""
     try:
-        return None if place is None else blob_option.blobs_of(place)
+        return None if location is None else blob_option.blobs_of(location)
     except ValueError as error:
         raise Trouble(str(error)) from error
 
 
-def app_of(place: str | None) -> AppStore | None:
-    """What a module has for the service. Raises `Trouble`."""
+def app_of(location: str | None) -> AppStore | None:
+    """Return what a module provides for the service. Raises `Trouble`."""
     try:
-        return None if place is None else AppStore(place, loaded("--app", place))
+        return None if location is None else AppStore(location, loaded("--app", location))
     except ValueError as error:
         raise Trouble(str(error)) from error
 
 
-def options_of(words: argparse.Namespace, app: AppStore | None) -> dict[str, Any]:
-    """How the store is opened: as the options say, else as a store of `--app`. Raises `Trouble`."""
-    found = dict(app.options) if app else {}
-    given = {
-        "concurrency": words.concurrency,
-        "codec": words.codec and loaded("--codec", words.codec),
-        "context": words.context and loaded("--context", words.context),
-        "blobs": blobs_of(words.blobs),
-        "blob_threshold": words.blob_threshold,
+def options_of(parsed: argparse.Namespace, app: AppStore | None) -> dict[str, Any]:
+    """Return the options of the store: those of the command, else those of a store of `--app`.
+
+    Raises `Trouble`.
+    """
+    result = dict(app.options) if app else {}
+    set_options = {
+        "concurrency": parsed.concurrency,
+        "codec": parsed.codec and loaded("--codec", parsed.codec),
+        "context": parsed.context and loaded("--context", parsed.context),
+        "blobs": blobs_of(parsed.blobs),
+        "blob_threshold": parsed.blob_threshold,
         "retention": None
-        if words.retention is None
-        else datetime.timedelta(seconds=words.retention),
-        "archive_dir": words.archive_dir,
-        "node": words.node,
-        "lease": words.lease,
-        "record": words.record,
+        if parsed.retention is None
+        else datetime.timedelta(seconds=parsed.retention),
+        "archive_dir": parsed.archive_dir,
+        "node": parsed.node,
+        "lease": parsed.lease,
+        "record": parsed.record,
     }
-    found |= {name: value for name, value in given.items() if value is not None}
+    result |= {name: value for name, value in set_options.items() if value is not None}
     try:
-        payloads.checked(found.get("codec"))
-        check_blobs(found.get("blobs"), found.get("blob_threshold", LEAST))
-        arguments.keeping(found.get("retention"), found.get("archive_dir"))
+        payloads.checked(result.get("codec"))
+        check_blobs(result.get("blobs"), result.get("blob_threshold", LEAST))
+        arguments.keeping(result.get("retention"), result.get("archive_dir"))
     except (TypeError, ValueError) as error:
         raise Trouble(str(error)) from error
-    return found
+    return result
 
 
-def settings_of(words: argparse.Namespace) -> Settings:
-    """What the words come to. Raises `Trouble`, `DefinitionError`."""
-    host, port = listen_of(words.listen)
-    if words.token_file is not None and not words.token_file.exists():
+def settings_of(parsed: argparse.Namespace) -> Settings:
+    """Return the settings from the parsed arguments. Raises `Trouble`, `DefinitionError`."""
+    host, port = listen_of(parsed.listen)
+    if parsed.token_file is not None and not parsed.token_file.exists():
         raise Trouble(
-            f"--token-file {words.token_file}: file does not exist; create it with "
-            f"`sagas token {words.token_file} NAME operator`"
+            f"--token-file {parsed.token_file}: file does not exist; create it with "
+            f"`sagas token {parsed.token_file} NAME operator`"
         )
-    if words.token_file is None and not is_loopback(host):
+    if parsed.token_file is None and not is_loopback(host):
         raise Trouble(
-            f"--listen {words.listen}: without --token-file, only a loopback address is allowed; "
+            f"--listen {parsed.listen}: without --token-file, only a loopback address is "
+            "allowed; "
             f"use 127.0.0.1:{port}, or create a file with `sagas token FILE NAME operator`"
         )
-    sagas = definition_files.read(words.definitions) if words.definitions else []
-    app = app_of(words.app)
+    sagas = definition_files.read(parsed.definitions) if parsed.definitions else []
+    app = app_of(parsed.app)
     sagas += app.sagas if app else []
     if not sagas:
         raise Trouble("nothing to serve: pass --definitions DIR or --app MODULE:NAME")
     try:
-        factory.check_name(words.path)
+        factory.check_name(parsed.path)
     except InvalidStore as error:
         raise Trouble(str(error)) from error
-    if not factory.is_url(words.path):
-        if words.record:
-            raise Trouble("--record needs a postgresql:// URL: a file has one program, and no node")
-        file = pathlib.Path(words.path)
+    if not factory.is_url(parsed.path):
+        if parsed.record:
+            raise Trouble("--record requires a postgresql:// URL")
+        file = pathlib.Path(parsed.path)
         if file.is_dir():
             raise Trouble(f"{file} is a directory; pass the path of a file")
         if not file.absolute().parent.is_dir():
             raise Trouble(f"directory {file.parent} does not exist; create it first")
-    options = options_of(words, app)
+    options = options_of(parsed, app)
     seconds, on_event = options.pop("shutdown_timeout", None), options.pop("on_event", None)
     more: dict[str, Any] = {}
     if seconds is not None:
         more["shutdown_timeout"] = arguments.time("shutdown_timeout", seconds, none=False)
     return Settings(
-        words.path,
+        parsed.path,
         sagas,
         host,
         port,
-        words.token_file,
-        WebhookSettings(words.webhooks, words.local_webhooks),
-        most_body=words.most_body,
-        streams=StreamSettings(most_each=words.most_streams),
-        places=PlaceSettings(
-            words.most_connections,
-            words.most_waits,
-            words.most_claims,
-            words.most_token_connections,
-            words.most_address_connections,
-            words.kept_connections,
+        parsed.token_file,
+        WebhookSettings(parsed.webhooks, parsed.local_webhooks),
+        most_body=parsed.most_body,
+        streams=StreamSettings(most_each=parsed.most_streams),
+        places=ConcurrencySettings(
+            parsed.most_connections,
+            parsed.most_waits,
+            parsed.most_claims,
+            parsed.most_token_connections,
+            parsed.most_address_connections,
+            parsed.kept_connections,
         ),
-        rate=words.rate,
-        quota=Quota(words.open_sagas, words.open_bytes),
-        trusted_proxies=words.trusted_proxies,
+        rate=parsed.rate,
+        quota=Quota(parsed.open_sagas, parsed.open_bytes),
+        trusted_proxies=parsed.trusted_proxies,
         store=StoreSettings(options, on_event),
         **more,
     )
 
 
-def serve(words: argparse.Namespace) -> int:
-    """Serves until it is asked to stop."""
+def serve(options: argparse.Namespace) -> int:
+    """Serve until a signal stops the service."""
     try:
         from sagas.server.uvicorn_server import run
     except ImportError as error:
@@ -426,8 +443,8 @@ def serve(words: argparse.Namespace) -> int:
             f"module {error.name} is not installed; install Debian's {PACKAGES}, or run "
             "pip install 'sagas[server]'"
         ) from error
-    settings = settings_of(words)
-    log_format.begin(words.log, words.log_level, sys.stderr)
+    settings = settings_of(options)
+    log_format.begin(options.log, options.log_level, sys.stderr)
     family = socket.AF_INET6 if ":" in settings.host else socket.AF_INET
     with socket.socket(family, socket.SOCK_STREAM, socket.IPPROTO_TCP) as listening:
         listening.setsockopt(socket.SOL_SOCKET, socket.SO_REUSEADDR, 1)
@@ -439,7 +456,7 @@ def serve(words: argparse.Namespace) -> int:
                 if error.errno == errno.EADDRINUSE
                 else ""
             )
-            raise Trouble(f"cannot listen on {words.listen}: {error.strerror}{remedy}") from error
+            raise Trouble(f"cannot listen on {options.listen}: {error.strerror}{remedy}") from error
         listening.listen(2048)
         host, port = listening.getsockname()[:2]
 
@@ -459,20 +476,18 @@ def serve(words: argparse.Namespace) -> int:
 
 
 def overdue() -> None:
-    """Ends the process, whose stop has taken too long."""
+    """End the process because its stop takes too long."""
     logging.getLogger("sagas.server").critical(
-        "the stop has taken too long: the process ends without it. What was acknowledged is stored"
+        "the stop has taken too long: the process ends now. Everything acknowledged is stored"
     )
     logging.shutdown()
     os._exit(OVERDUE)
 
 
-def main(words: list[str]) -> int:
-    """Runs `sagas serve`; gives its status: 0 stopped, 1 a definition, 2 usage, 4 a file,
-    130 interrupted while it starts.
-    """
+def main(argv: list[str]) -> int:
+    """Run `sagas serve` and return its exit status. `SERVE_ENDING` lists the statuses."""
     try:
-        return serve(parser().parse_args(words))
+        return serve(parser().parse_args(argv))
     except Trouble as trouble:
         print(f"sagas serve: {trouble}", file=sys.stderr)
         return USAGE
@@ -488,78 +503,78 @@ def main(words: list[str]) -> int:
 
 
 def token_parser() -> argparse.ArgumentParser:
-    """The words of `sagas token`."""
-    found = argparse.ArgumentParser(
+    """Return the parser of `sagas token`."""
+    result = argparse.ArgumentParser(
         prog="sagas token",
         description="Print a new token, and add its digest to a token file.",
         epilog=TOKEN_ENDING,
         formatter_class=argparse.RawDescriptionHelpFormatter,
     )
-    found.add_argument(
+    result.add_argument(
         "file", type=pathlib.Path, metavar="FILE", help="token file, created if missing"
     )
-    found.add_argument(
+    result.add_argument(
         "name", metavar="NAME", help="name of the token's owner, stored with what the owner does"
     )
     roles = [*auth.ROLES]
-    found.add_argument(
+    result.add_argument(
         "roles", nargs="+", choices=roles, metavar="ROLE", help=f"one or more of {', '.join(roles)}"
     )
-    found.add_argument(
+    result.add_argument(
         "--definition",
         action="append",
         metavar="NAME",
         help="allow only this definition; repeat it for several (default: all)",
     )
-    found.add_argument(
+    result.add_argument(
         "--key",
         action="append",
         metavar="PATTERN",
-        help="of a caller or approver: allow only sagas with this key, or with * at the end with "
-        "keys that begin so, for example 'team-a-*'; repeat it for several (default: all)",
+        help="for callers and approvers: allow only sagas with this key; a * at the end matches "
+        "any rest, for example 'team-a-*'; repeat it for several (default: all)",
     )
-    found.add_argument(
+    result.add_argument(
         "--step",
         action="append",
         metavar="DEFINITION/STEP",
-        help="of a worker: allow only this step, or its compensation DEFINITION/STEP/undo; repeat "
+        help="for workers: allow only this step, or its compensation DEFINITION/STEP/undo; repeat "
         "it for several (default: all)",
     )
-    found.add_argument(
+    result.add_argument(
         "--open-sagas",
         type=integer_from(0),
         metavar="N",
         help="maximum number of open sagas that it started (default: that of the service)",
     )
-    found.add_argument(
+    result.add_argument(
         "--open-bytes",
         type=integer_from(0),
         metavar="BYTES",
         help="maximum size of their inputs as JSON, in all (default: that of the service)",
     )
-    found.add_argument(
+    result.add_argument(
         "--expires",
         metavar="WHEN",
         help="end of validity, for example 2027-01-01T00:00:00Z (default: never)",
     )
-    return found
+    return result
 
 
-def token(words: list[str]) -> int:
-    """Runs `sagas token`: prints a new token, and puts its digest into the file."""
-    given = token_parser().parse_args(words)
-    if not given.name.isprintable() or not 0 < len(given.name) <= 64:
+def token(argv: list[str]) -> int:
+    """Run `sagas token`: print a new token, and add its digest to the file."""
+    options = token_parser().parse_args(argv)
+    if not options.name.isprintable() or not 0 < len(options.name) <= 64:
         print("sagas token: invalid name: use 1 to 64 printable characters", file=sys.stderr)
         return USAGE
     try:
-        told = {"definitions": given.definition, "keys": given.key, "steps": given.step}
-        told |= {"open_sagas": given.open_sagas, "open_bytes": given.open_bytes}
-        limits = auth.limits_of(given.roles, told | {"expires": given.expires})
+        table = {"definitions": options.definition, "keys": options.key, "steps": options.step}
+        table |= {"open_sagas": options.open_sagas, "open_bytes": options.open_bytes}
+        limits = auth.limits_of(options.roles, table | {"expires": options.expires})
     except ValueError as error:
         print(f"sagas token: {error}", file=sys.stderr)
         return USAGE
     try:
-        print(auth.make(given.file, given.name, given.roles, limits), flush=True)
+        print(auth.make(options.file, options.name, options.roles, limits), flush=True)
     except (auth.TokenFault, OSError) as error:
         print(f"sagas token: {error}", file=sys.stderr)
         return CANNOT

@@ -1,7 +1,7 @@
-"""Connections of clients: how many, how long each may be silent, and which give way.
+"""Connections of clients: how many there may be, how long each may be silent, and which one is
+closed.
 
-Stands between a transport and the server's own protocol, and uses of that what
-`asyncio.Protocol` has.
+This wraps the server's protocol. It uses only the interface of `asyncio.Protocol`.
 """
 
 from __future__ import annotations
@@ -16,28 +16,29 @@ from typing import Any
 
 from sagas.server.problems import Problem, body
 from sagas.server.request_framing import Malformed, RequestFraming
-from sagas.server.settings import LOOPBACK, Network, PlaceSettings, is_among
+from sagas.server.settings import LOOPBACK, Network, ConcurrencySettings, is_among
 
 Peer = tuple[str, int]
-"""The client's end of a connection: no two that are open have the same."""
+"""The client's end of a connection. It is unique among open connections."""
 MOST_AHEAD = 1 << 16
-"""Bytes that are kept behind a request that is at work; then no more is read."""
+"""Bytes that are buffered after an active request. Then reading pauses."""
 LINGER = 1.0
-"""Seconds for which what comes is read and dropped behind a last answer."""
+"""Seconds for which input is read and dropped after a final answer."""
 TURNS = 4
-"""Turns of the event loop in which a new connection does not give way: by then, what its client had
-sent is read, however many came with it."""
+"""Turns of the event loop in which a new connection is not closed in favor of others. By then,
+what its client had sent is read, however many connections came with it.
+"""
 SPARE = 200
-"""Connections above the maximum that only hear that there are too many."""
+"""Connections above the maximum. They are only answered that there are too many."""
 
 
 def refusal(error: Malformed) -> bytes:
-    """The answer to what is no request."""
+    """Return the answer to malformed input."""
     return answer("400 Bad Request", Problem("MalformedRequest", f"{error}: send HTTP/1.1"))
 
 
 def answer(status: str, problem: Problem) -> bytes:
-    """An answer that ends the connection, without the application."""
+    """Return an answer that ends the connection, without the application."""
     text = json.dumps(body(problem)).encode() + b"\n"
     more = "Retry-After: 1\r\n" if problem.kind.status == 503 else ""
     head = (
@@ -48,8 +49,9 @@ def answer(status: str, problem: Problem) -> bytes:
 
 
 class Outlet:
-    """A transport that can hold back what is written, to send it together: each part that is sent
-    alone takes a call of the system, and wakes the client.
+    """A transport that can hold back output, to send it together.
+
+    Each part that is sent alone costs a system call and wakes the client.
 
     Attributes:
         has_written: Whether something was written since the last request began.
@@ -82,12 +84,12 @@ class Outlet:
             self._held.append(data)
 
     def hold(self) -> None:
-        """What is written from now on is sent by `flush`."""
+        """Hold back output until `flush`."""
         if self._held is None:
             self._held = []
 
     def flush(self) -> None:
-        """Sends what was held."""
+        """Send the held output."""
         held, self._held = self._held, None
         if held:
             self._transport.write(b"".join(held))
@@ -98,16 +100,15 @@ class Outlet:
 
 
 class Connection(asyncio.Protocol):
-    """One connection. `inner`: the server's protocol, which gets one request after the other: the
-    next one once the last one is answered.
+    """One connection. `inner` is the server's protocol, which gets one request at a time.
 
     Attributes:
-        gone: Done once the client is gone, or nothing more is said to it.
-        lost: Done once the server's protocol knows that, too.
-        followed: Done once something has come behind the request that is at work.
-        outlet: By which the server's protocol answers.
-        is_unread: Whether more is to be sent than the client reads.
-        crowding: Why only health and operators are answered by this connection.
+        gone: Done when the client is gone, or nothing more is sent to it.
+        lost: Done when the server's protocol knows that, too.
+        followed: Done when something has arrived after the active request.
+        outlet: The transport for the server's protocol.
+        is_unread: Whether more output is pending than the client reads.
+        crowding: Why this connection only gets answers for health checks and operators.
         is_over: Whether nothing more is read or written.
     """
 
@@ -158,7 +159,7 @@ class Connection(asyncio.Protocol):
             self._connections.begins(self)
 
     def _advance(self) -> None:
-        """Pass on what there is of a request, unless another one is at work."""
+        """Pass on input of the next request, unless another request is active."""
         try:
             while not self.is_over:
                 begins = self._framing.is_between
@@ -179,11 +180,11 @@ class Connection(asyncio.Protocol):
         (self.pause if ahead > MOST_AHEAD else self.resume)("ahead")
 
     def eof_received(self) -> bool | None:
-        told: bool | None = self._inner.eof_received()
-        if not told:  # the transport closes: what is written from now on is dropped
+        stays_open: bool | None = self._inner.eof_received()
+        if not stays_open:  # the transport closes: what is written from now on is dropped
             self.is_over = True
             self.leave()
-        return told
+        return stays_open
 
     def pause_writing(self) -> None:
         self._inner.pause_writing()
@@ -198,31 +199,34 @@ class Connection(asyncio.Protocol):
             self._connections.works(self)
         self._reads()
 
-    def pause(self, who: str) -> None:
-        """Read nothing more, until all that have paused it resume it."""
-        self._paused.add(who)
+    def pause(self, reason: str) -> None:
+        """Stop reading until each reason to pause has been removed."""
+        self._paused.add(reason)
         self.transport.pause_reading()
 
-    def resume(self, who: str) -> None:
-        """As far as `who` knows, more may be read."""
-        if who in self._paused:
-            self._paused.discard(who)
+    def resume(self, reason: str) -> None:
+        """Remove a reason to pause."""
+        if reason in self._paused:
+            self._paused.discard(reason)
             if not self._paused and not self.transport.is_closing():
                 self.transport.resume_reading()
 
     def leave(self) -> None:
-        """Nothing more is said to the client."""
+        """Mark the client as gone."""
         if not self.gone.done():
             self.gone.set_result(None)
 
     def close(self) -> None:
-        """Send what is written, and end."""
+        """Send pending output, and close."""
         self.is_over = True
         self.transport.close()
 
     def finish(self, text: bytes | None) -> None:
-        """End with this answer. What the client still sends is read for a moment: else it would
-        be told that the connection was reset, and not the answer."""
+        """Send this answer and close.
+
+        Input is still read for a moment. Otherwise, the client would get a connection reset
+        instead of the answer.
+        """
         self.is_over = True
         self.leave()
         if text is not None and not self.transport.is_closing():
@@ -236,7 +240,9 @@ class Connection(asyncio.Protocol):
     # -- its requests
 
     def is_new(self) -> bool:
-        """Whether it was made just now, so that its first request may be here and was not read."""
+        """Return whether the connection is so new that its first request may not have been read
+        yet.
+        """
         return self._turns > 0
 
     def _age(self) -> None:
@@ -245,7 +251,7 @@ class Connection(asyncio.Protocol):
             self._loop.call_soon(self._age)
 
     def starts(self, is_whole: bool) -> None:
-        """A request's head is there. `is_whole`: and all of its body."""
+        """Record that a request's head is complete. `is_whole`: its body is complete, too."""
         self.at_work = True
         if is_whole:
             self._connections.works(self)
@@ -253,11 +259,11 @@ class Connection(asyncio.Protocol):
             self._connections.owes(self)
 
     def is_whole(self) -> None:
-        """The rest of the body has come."""
+        """Record that the rest of the body has arrived."""
         self._connections.works(self)
 
     def ends(self) -> None:
-        """The request is answered."""
+        """Record that the request is answered."""
         self.outlet.flush()
         self.at_work = self._is_open = False
         if self.followed.done():
@@ -269,8 +275,7 @@ class Connection(asyncio.Protocol):
     # -- what it does not read
 
     def _wait_for_reader(self, before: int | None = None) -> None:
-        """More is to be sent than the client reads now. Where it reads nothing for too long, the
-        connection ends."""
+        """Abort the connection if the client does not read for too long."""
         left = self.transport.get_write_buffer_size()
         if before is not None and left >= before:
             self.transport.abort()
@@ -286,20 +291,23 @@ class Connection(asyncio.Protocol):
 
 
 class Connections:
-    """All of them, and in `requests` the tasks that answer. Where there are too many, one gives way
-    whose request has not come, or not all of it, or whose client does not read the answer: the one
-    for which that has been so longest. Where there is none, the new one is told so.
+    """All connections, and in `requests` the tasks that answer.
 
-    A request's head has to come within `head_time`, and a client that takes nothing of its answer
-    for `send_time` is cut off. `places` has how many one address may have, except for proxies among
-    the `trusted`, and how many are for health and operators alone."""
+    If there are too many connections, one is closed that has no complete request, or whose
+    client does not read its answer: the one for which this has lasted longest. If there is
+    none, the new connection is refused.
+
+    A request's head must arrive within `head_time`. A client that reads nothing of its answer
+    for `send_time` is disconnected. `places` limits the connections of one address, except for
+    `trusted` proxies, and reserves some for health checks and operators.
+    """
 
     def __init__(
         self,
         most: int,
         head_time: float,
         send_time: float,
-        places: PlaceSettings = PlaceSettings(),
+        places: ConcurrencySettings = ConcurrencySettings(),
         trusted: tuple[Network, ...] = LOOPBACK,
     ) -> None:
         self.most, self.head_time, self.send_time = most, head_time, send_time
@@ -316,31 +324,34 @@ class Connections:
         self._is_stopping = False
 
     def of(self, peer: Any) -> Connection | None:
-        """The connection of a client, by its address and port."""
+        """Return the connection of a client, by its address and port."""
         return self._of.get((peer[0], peer[1])) if peer else None
 
     def crowding(self, connection: Connection | None) -> str | None:
-        """Why a request is answered only if it is of health or of an operator; None where any is.
-        The request is at work by now."""
+        """Return why only health checks and operators are answered, or None.
+
+        The request already counts as active.
+        """
         if connection is not None and connection.crowding:
             return connection.crowding
         limit = self.most - self._kept
         if len(self._at_work) > limit:
-            return f"the service is at work on {limit} requests"
+            return f"the service is processing {limit} requests"
         return None
 
     def occupy(self, address: str) -> Callable[[], None]:
-        """A trusted proxy hands on a request of this address. Returns what ends it. Raises
-        `Problem` where the address has too many."""
+        """Count a request that a trusted proxy forwards for an address.
+
+        Returns a function that ends it. Raises `Problem` if the address has too many.
+        """
         if self._addresses[address] >= self._most_each:
-            why = f"your address has {self._most_each} connections: ask again in a while"
+            why = f"your address has {self._most_each} connections: retry later"
             raise Problem("TooManyConnections", why)
         self._addresses[address] += 1
         return functools.partial(self._forget, address)
 
     def came(self, connection: Connection) -> None:
-        """A connection was made; where there are too many, another one ends, or this one hears
-        that."""
+        """Add a connection. If there are too many, close another one or refuse this one."""
         self.all[connection] = None
         if connection.peer:
             self._of[connection.peer] = connection
@@ -368,7 +379,7 @@ class Connections:
             if len(self.all) > self.most + SPARE:
                 other = next(iter(self._owing), None)
                 if other is None:
-                    why = f"{connection.crowding}: ask again later"
+                    why = f"{connection.crowding}: retry later"
                     problem = Problem("TooManyConnections", why)
                     connection.finish(answer("503 Service Unavailable", problem))
         if other is not None:
@@ -376,15 +387,17 @@ class Connections:
             other.transport.abort()
 
     def begins(self, connection: Connection) -> None:
-        """A request's head is to come, in time."""
+        """Record that a request's head must arrive in time."""
         self._owing.setdefault(connection, None)
         if connection not in self._due:
             self._due[connection] = asyncio.get_running_loop().time() + self.head_time
             self._look_later()
 
     def owes(self, connection: Connection) -> None:
-        """Its last request was answered, or the body of this one is still to come; for either
-        somebody else counts the time."""
+        """Record that a request is answered, or that its body is incomplete.
+
+        Other timers cover both cases.
+        """
         self._due.pop(connection, None)
         (self._at_work.add if connection.at_work else self._at_work.discard)(connection)
         if connection in self.all:
@@ -393,7 +406,7 @@ class Connections:
                 connection.close()
 
     def works(self, connection: Connection) -> None:
-        """All of a request has come, and is not answered yet."""
+        """Record that a request is complete and not answered yet."""
         self._due.pop(connection, None)
         if connection.is_unread:
             self.unread(connection)
@@ -403,13 +416,13 @@ class Connections:
             self._at_work.add(connection)
 
     def unread(self, connection: Connection) -> None:
-        """Its client does not read what it asked for: it gives way as one that sends nothing."""
+        """Record that the client does not read: the connection may be closed like an idle one."""
         self._at_work.discard(connection)
         if connection in self.all:
             self._owing.setdefault(connection, None)
 
     def went(self, connection: Connection) -> None:
-        """It is over."""
+        """Remove a connection."""
         self._due.pop(connection, None)
         self._owing.pop(connection, None)
         self._at_work.discard(connection)
@@ -426,14 +439,14 @@ class Connections:
                 del self._addresses[address]
 
     def stop(self) -> None:
-        """Ends those that are idle, and each other one behind its answer."""
+        """Close idle connections, and each other one after its answer."""
         self._is_stopping = True
         for connection in list(self.all):
             if not connection.at_work:
                 connection.close()
 
     def abort(self) -> None:
-        """Ends all of them, whatever they are at."""
+        """Close all connections at once."""
         for connection in list(self.all):
             connection.leave()
             connection.transport.abort()
@@ -446,7 +459,7 @@ class Connections:
             self._timer = asyncio.get_running_loop().call_at(first, self._look)
 
     def _look(self) -> None:
-        """Ends those whose head did not come."""
+        """Abort connections whose request head did not arrive in time."""
         self._timer, now = None, asyncio.get_running_loop().time()
         while self._due and next(iter(self._due.values())) <= now + 0.01:
             connection, _ = self._due.popitem(last=False)

@@ -14,84 +14,92 @@ from starlette.responses import HTMLResponse, RedirectResponse, Response
 from sagas.server import problems, renderer
 from sagas.server.access import (
     CHECK,
-    OWNER,
-    WHO,
+    PRINCIPAL,
+    PRINCIPAL_NAME,
     body_of,
-    limited,
+    count_request,
     occupy,
     rights_changed,
     service_of,
 )
-from sagas.server.auth import LOCAL, May, Session, Who
+from sagas.server.auth import LOCAL_PRINCIPAL, Permission, Session, Principal
 from sagas.server.problems import Problem
 
 COOKIE = "sagas_session"
-"""The session's cookie, before the port."""
+"""The name of the session's cookie, before the port."""
 
 
 def cookie_of(request: Request) -> str:
-    """The cookie's name, with the port that the browser asks: browsers send the cookies of a host
-    to all of its ports, and another service may have one of them."""
+    """Return the cookie's name, with the port that the browser uses.
+
+    Browsers send the cookies of a host to all of its ports, and another service may use one of
+    them.
+    """
     port = request.headers.get("host", "").rpartition("]")[2].partition(":")[2]
     return f"{COOKIE}_{port}" if port.isascii() and port.isdigit() and len(port) < 6 else COOKIE
 
 
 def session_of(request: Request) -> Session | None:
-    """The session of an operator, with what its token says now; None where there is none."""
-    session = still_of(request)
+    """Return the session of an operator with the current rights of its token, or None."""
+    session = current_session(request)
     if session is not None:
-        request.scope[WHO], request.scope[OWNER] = session.who.name, session.who
-        request.scope[CHECK] = functools.partial(check_still, request, session.who)
-        limited(request, session.who)
-        occupy(request, session.who)
+        request.scope[PRINCIPAL_NAME], request.scope[PRINCIPAL] = (
+            session.principal.name,
+            session.principal,
+        )
+        request.scope[CHECK] = functools.partial(check_unchanged, request, session.principal)
+        count_request(request, session.principal)
+        occupy(request, session.principal)
     return session
 
 
-def still_of(request: Request) -> Session | None:
-    """As `session_of`, without a count of it."""
+def current_session(request: Request) -> Session | None:
+    """Return the same as `session_of`, without counting the request."""
     service = service_of(request)
     session = service.sessions.find(request.cookies.get(cookie_of(request), ""))
     if session is None:
         return None
-    who = LOCAL if service.tokens is None else service.tokens.of(session.who.digest)
-    if who is None or not who.may(May.OPERATE):
+    principal = (
+        LOCAL_PRINCIPAL if service.tokens is None else service.tokens.of(session.principal.digest)
+    )
+    if principal is None or not principal.has_permission(Permission.OPERATE):
         return None  # its token is not in the file any more, or has expired
-    session.who = who
+    session.principal = principal
     return session
 
 
-def check_still(request: Request, who: Who) -> None:
-    """Raises `Problem` where the session has ended since the request was let in, or its token was
-    changed."""
-    session = still_of(request)
+def check_unchanged(request: Request, principal: Principal) -> None:
+    """Raise `Problem` if the session has ended since the request was authorized, or its token
+    changed.
+    """
+    session = current_session(request)
     if session is None:
-        raise expired()
-    if session.who != who:
+        raise expired_form()
+    if session.principal != principal:
         raise rights_changed()
 
 
-def expired() -> Problem:
-    """A form is of no session, or of another one."""
+def expired_form() -> Problem:
+    """Return the problem for a form that does not belong to the session."""
     return Problem(
         "ExpiredForm",
-        "this form is not of your session any more: go back, load the page again, and send it "
-        "once more",
+        "this form does not belong to your session: go back, reload the page, and send it again",
     )
 
 
-def looker(request: Request) -> Who:
-    """Who looks at a page that is not `closed`."""
-    who: Who = (
-        request.scope.get(OWNER, LOCAL)
+def viewer_of(request: Request) -> Principal:
+    """Return the principal that views a page, after `login_redirect` has let the request pass."""
+    principal: Principal = (
+        request.scope.get(PRINCIPAL, LOCAL_PRINCIPAL)
         if service_of(request).tokens is None
-        else request.scope[OWNER]
+        else request.scope[PRINCIPAL]
     )
-    return who
+    return principal
 
 
-def begin(request: Request, response: Response, who: Who) -> Session:
-    """A new session, and its cookie."""
-    name, session = service_of(request).sessions.begin(who)
+def begin(request: Request, response: Response, principal: Principal) -> Session:
+    """Start a session and set its cookie."""
+    name, session = service_of(request).sessions.begin(principal)
     response.set_cookie(
         cookie_of(request),
         name,
@@ -105,56 +113,62 @@ def begin(request: Request, response: Response, who: Who) -> Session:
 
 
 def page(
-    request: Request, template: str, session: Session | None, status: int = 200, **told: Any
+    request: Request, template: str, session: Session | None, status: int = 200, **values: Any
 ) -> HTMLResponse:
-    """A page of this template."""
+    """Return a page of this template."""
     service = service_of(request)
-    known: dict[str, Any] = {"here": "", "tokens": service.tokens is not None}
-    words = {**known, "session": session, **told}
-    return renderer.Page(service.threads.pages.do, template, words, status)
+    defaults: dict[str, Any] = {"here": "", "tokens": service.tokens is not None}
+    all_values = {**defaults, "session": session, **values}
+    return renderer.Page(service.threads.pages.do, template, all_values, status)
 
 
 def login_first(request: Request) -> Response:
-    """To the login, and back to the very address that was asked for: a part of its path that is
-    decoded may have a `#`, a `?` or a `%`."""
-    where: bytes = request.scope["raw_path"]
+    """Redirect to the login, and from there back to the requested address.
+
+    A decoded part of the path may contain `#`, `?` or `%`, so the raw path is used.
+    """
+    target: bytes = request.scope["raw_path"]
     if query := request.scope["query_string"]:
-        where += b"?" + query
-    told = {"next": quote(where, safe=string.punctuation)}
-    return RedirectResponse(f"/ui/login?{urlencode(told)}", 303)
+        target += b"?" + query
+    parameters = {"next": quote(target, safe=string.punctuation)}
+    return RedirectResponse(f"/ui/login?{urlencode(parameters)}", 303)
 
 
-def shows(request: Request, template: str, status: int = 200, **told: Any) -> Response:
-    """The page for whoever is logged in; over the loopback without tokens everybody is."""
+def show_page(request: Request, template: str, status: int = 200, **values: Any) -> Response:
+    """Return a page for the logged-in user. Without tokens, every local user is logged in."""
     session = session_of(request)
     if session is not None:
-        return page(request, template, session, status, **told)
+        return page(request, template, session, status, **values)
     if service_of(request).tokens is not None:
         return login_first(request)
     response = Response()
-    session = begin(request, response, LOCAL)
-    shown_page = page(request, template, session, status, **told)
+    session = begin(request, response, LOCAL_PRINCIPAL)
+    shown_page = page(request, template, session, status, **values)
     shown_page.headers["set-cookie"] = response.headers["set-cookie"]
     return shown_page
 
 
-def closed(request: Request) -> Response | None:
-    """What somebody gets who has to log in first."""
+def login_redirect(request: Request) -> Response | None:
+    """Return a redirect to the login if there is no session, else None."""
     if service_of(request).tokens is None or session_of(request) is not None:
         return None
     return login_first(request)
 
 
 async def form_of(request: Request) -> dict[str, str]:
-    """The words of a form. Raises `Problem`."""
+    """Return the fields of a form. Raises `Problem`."""
     return dict(await fields_of(request, 20))
 
 
 async def fields_of(request: Request, most: int) -> list[tuple[str, str]]:
-    """The fields of a form in their order, of which some may be there again. Raises `Problem`."""
+    """Return the fields of a form in their order. A name may occur more than once. Raises
+    `Problem`.
+    """
     kind = request.headers.get("content-type", "").partition(";")[0].strip()
     if kind != "application/x-www-form-urlencoded":
-        raise Problem("UnsupportedMediaType", "a form is application/x-www-form-urlencoded")
+        raise Problem(
+            "UnsupportedMediaType", "a form must be sent as application/x-www-form-urlencoded"
+        )
     try:
         text = (await body_of(request)).decode("utf-8")
         return parse_qsl(text, keep_blank_values=True, max_num_fields=most)
@@ -162,28 +176,31 @@ async def fields_of(request: Request, most: int) -> list[tuple[str, str]]:
         raise Problem("MalformedRequest", "the form cannot be read") from None
 
 
-async def sent(request: Request) -> tuple[Session, dict[str, str]]:
-    """The session of a form, and its words. Raises as `sent_fields`."""
-    session, fields = await sent_fields(request, 20)
+async def session_and_form(request: Request) -> tuple[Session, dict[str, str]]:
+    """Return the session of a form, and its fields. Raises the same as `session_and_fields`."""
+    session, fields = await session_and_fields(request, 20)
     return session, dict(fields)
 
 
-async def sent_fields(request: Request, most: int) -> tuple[Session, list[tuple[str, str]]]:
-    """The session of a form, and its fields. Raises `Problem` where the form is not the session's
-    own: without a session before it is read."""
+async def session_and_fields(request: Request, most: int) -> tuple[Session, list[tuple[str, str]]]:
+    """Return the session of a form, and its fields in order.
+
+    Raises `Problem` if the form does not belong to the session. Without a session, the form is
+    not read.
+    """
     session = session_of(request)
     fields = await fields_of(request, most) if session else []
-    if session is None or not session.sent(dict(fields).get("csrf", "")):
-        raise expired()
+    if session is None or not session.owns_form(dict(fields).get("csrf", "")):
+        raise expired_form()
     return session, fields
 
 
 def refused(request: Request, problem: Problem) -> Response:
-    """A page that says why a request was not carried out."""
+    """Return a page that says why a request was not carried out."""
     session = None
     with contextlib.suppress(Problem):
         session = session_of(request)
-    told = {"title": problem.kind.title, "text": f"{problem}.", "back": "/ui"}
-    answer = page(request, "fault.html", session, problem.kind.status, **told)
+    values = {"title": problem.kind.title, "text": f"{problem}.", "back": "/ui"}
+    answer = page(request, "fault.html", session, problem.kind.status, **values)
     answer.headers.update(problems.HEADERS.get(problem.kind.status, {}) | problem.headers)
     return answer

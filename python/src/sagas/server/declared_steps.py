@@ -1,4 +1,4 @@
-"""The steps of a definition as they are declared, also where they come from the input."""
+"""The steps of a definition as declared, including steps that depend on the input."""
 
 from __future__ import annotations
 
@@ -15,8 +15,8 @@ from sagas.definition.shape_validation import need_name
 from sagas.definition.step import NEVER, Step
 
 COMPUTED = "input"
-"""In place of a cost that comes from the input."""
-Told = Union[int, str, None]
+"""Replaces a cost that depends on the input."""
+DeclaredCost = Union[int, str, None]
 
 
 @dataclasses.dataclass(frozen=True, slots=True)
@@ -24,11 +24,11 @@ class DeclaredStep:
     """A step, or one of an included saga.
 
     Attributes:
-        spot: Where it is.
+        spot: Where it is declared.
         step: The step.
         needs: The declared names of the steps that it needs, also outside of its own saga.
-        for_each: Whether it is there once for each item, by itself or in an included saga.
-        conditional: Whether it, or the saga that has it, is there only for some inputs.
+        for_each: Whether it exists once for each item, by itself or in an included saga.
+        conditional: Whether it, or the saga that includes it, exists only for some inputs.
     """
 
     origin: StepOrigin
@@ -39,44 +39,46 @@ class DeclaredStep:
 
     @property
     def name(self) -> str:
-        """The declared name: `hotel/room`."""
+        """Return the declared name, such as `hotel/room`."""
         return self.origin.declared
 
     @property
-    def costs(self) -> dict[str, Told]:
-        """Its costs: a number, None (never), or `COMPUTED`."""
-        return {word: _cost(self.step, word) for word in COSTS}
+    def costs(self) -> dict[str, DeclaredCost]:
+        """Return its costs: a number, None (never), or `COMPUTED`."""
+        return {name: _cost(self.step, name) for name in COSTS}
 
     @property
     def note(self) -> str:
-        """What decides whether it is there, in words."""
+        """Describe when the step exists."""
         return ", ".join(["for each item"] * self.for_each + ["for some inputs"] * self.conditional)
 
 
-def _cost(step: Step[Any], word: str) -> Told:
-    if callable(step.declared_cost(word)):
+def _cost(step: Step[Any], name: str) -> DeclaredCost:
+    if callable(step.declared_cost(name)):
         return COMPUTED
-    cost = step.cost(word)
+    cost = step.cost(name)
     return None if cost is NEVER else cost
 
 
 def approvals(saga: Saga, definition: str) -> set[str]:
-    """The names of a definition's steps that are approvals, also of items and of included sagas.
-    `saga`: what it is a definition of."""
+    """Return the names of a definition's approval steps, including items and included sagas.
+
+    `saga` is the saga that the definition belongs to.
+    """
     kind = CompiledDefinition(definition, saga)
     steps = zip(kind.names, kind.steps)
     return {name for name, step in steps if step is not None and step.kind == "approval"}
 
 
 def of(saga: Saga) -> list[DeclaredStep]:
-    """The steps of a saga, and of those that it includes, in their order."""
+    """Return the steps of a saga and of the sagas that it includes, in their order."""
     return [*_within(saga, (), [], False, False)]
 
 
 def _within(
     saga: Saga, scope: Scope, outer: list[str], for_each: bool, conditional: bool
 ) -> Iterator[DeclaredStep]:
-    """Those in a scope. `outer`: what the first ones need outside."""
+    """Yield the steps of a scope. `outer`: what its first steps need outside of it."""
     ends: dict[str, list[str]] = {}
     for part in saga.parts:
         needs = [end for need in part._needs for end in ends[need_name(need)]] or outer
@@ -85,10 +87,10 @@ def _within(
         if isinstance(part, Inclusion):
             below = (*scope, (part.name, None))
             inner = [*_within(part.inner, below, needs, is_each, is_some)]
-            needed = {need for one in inner for need in one.needs}
-            ends[part.name] = [one.name for one in inner if one.name not in needed]
+            needed = {need for step in inner for need in step.needs}
+            ends[part.name] = [step.name for step in inner if step.name not in needed]
             yield from inner
         else:
-            one = DeclaredStep(StepOrigin(scope, part.name), part, needs, is_each, is_some)
-            ends[part.name] = [one.name]
-            yield one
+            step = DeclaredStep(StepOrigin(scope, part.name), part, needs, is_each, is_some)
+            ends[part.name] = [step.name]
+            yield step

@@ -1,22 +1,19 @@
-"""Definitions from a folder: `NAME.toml` and `NAME.service.toml`.
+"""Definitions from a directory: `NAME.toml` and `NAME.service.toml`.
 
-Sagas from a folder of definitions: `NAME.toml` (docs/FORMATS.md), and beside it, where wanted,
-`NAME.service.toml`.
-
-The second says of steps what a definition has no words for:
+`NAME.toml` is a definition (docs/FORMATS.md). The optional `NAME.service.toml` next to it has
+what a definition cannot express:
 
     [step.review]
-    kind = "approval"        # a person says how it ends; "wait": its time has to come; "work"
-    (where nothing is said): a worker does it
-    timeout = 86400          # of an approval: seconds after which it has failed
-    until = 3600             # of a wait: seconds from when its needs are done
-    backoff = { initial = 1, maximum = 60, multiplier = 2, jitter = 0.1 }  # between tries
-    max_unknown = 5         # after so many unknown outcomes a person has to say
-    concurrency = 4          # so many workers have it at once, at most
+    kind = "approval"        # an operator decides; "wait": a timer; "work" (the default): a worker
+    timeout = 86400          # of an approval: seconds after which it fails
+    until = 3600             # of a wait: seconds from the time when its needs are done
+    backoff = { initial = 1, maximum = 60, multiplier = 2, jitter = 0.1 }  # between attempts
+    max_unknown = 5          # unknown outcomes after which an operator must report the step
+    concurrency = 4          # maximum number of workers that have it at once
     on_exhausted = "ask"     # after the last attempt: fail (the default), ask or retry
     undo_on_exhausted = "ask"  # the same of its compensation, by default ask
-    max_attempts = 20        # of the step, where 9 are too few
-    early_unused = "compensate"  # an early report that is not used: ask (the default), compensate
+    max_attempts = 20        # of the step, if 9 are too few
+    early_unused = "compensate"  # an unused early report: ask (the default) or compensate
 """
 
 from __future__ import annotations
@@ -57,16 +54,18 @@ KEYS = {
 
 
 class Fault(Exception):
-    """Something is wrong with a definition, at this path of its text; or, where `beside`, of the
-    file beside it."""
+    """An error in a definition, at this path of its text.
 
-    def __init__(self, text: str, *path: str | int, beside: bool = False) -> None:
+    `is_in_service_file`: the error is in the service file.
+    """
+
+    def __init__(self, text: str, *path: str | int, is_in_service_file: bool = False) -> None:
         super().__init__(text)
-        self.path, self.beside = path, beside
+        self.path, self.is_in_service_file = path, is_in_service_file
 
 
 class File:
-    """One of the two files of a definition, parsed, and the lines of what stands in it."""
+    """One of the two files of a definition, parsed, with the line numbers of its parts."""
 
     def __init__(self, path: pathlib.Path) -> None:
         self.path = path
@@ -74,7 +73,7 @@ class File:
             self.text = path.read_text(encoding="utf-8")
         except (OSError, UnicodeDecodeError) as error:
             raise DefinitionError(f"{path}: cannot be read: {error}") from error
-        self.told = self._parsed()
+        self.document = self._parsed()
         self._lines = Lines(self.text)
 
     def _parsed(self) -> Json:
@@ -84,20 +83,20 @@ class File:
             why = "too many lists in one another"
             raise DefinitionError(f"{self.path}:1: invalid TOML: {why}") from None
         except tomllib.TOMLDecodeError as error:
-            text, _, place = str(error).partition(" (at ")
-            line = re.match(r"line (\d+)", place)
+            text, _, position = str(error).partition(" (at ")
+            line = re.match(r"line (\d+)", position)
             number = (
                 int(line[1]) if line else self.text.count("\n") + (not self.text.endswith("\n"))
             )
             raise DefinitionError(f"{self.path}:{max(1, number)}: invalid TOML: {text}") from error
 
     def at(self, *path: str | int) -> str:
-        """File and line of what has this path."""
+        """Return the file and line of the part with this path."""
         return f"{self.path}:{self._lines.of(*path)}"
 
 
 def read(folder: pathlib.Path) -> list[Saga]:
-    """The sagas of a folder, by file name. Raises `DefinitionError`, which names file and line."""
+    """Read the sagas of a directory. Raises `DefinitionError`, which names file and line."""
     if not folder.is_dir():
         if folder.exists():
             raise DefinitionError(f"{folder} is a file; pass the directory that contains it")
@@ -105,60 +104,64 @@ def read(folder: pathlib.Path) -> list[Saga]:
     paths = sorted(path for path in folder.glob("*.toml") if not path.name.endswith(SERVICE))
     if not paths:
         raise DefinitionError(f"directory {folder} has no definition NAME.toml")
-    found: dict[tuple[str, int], Saga] = {}
+    sagas: dict[tuple[str, int], Saga] = {}
     for path in paths:
         saga = read_one(path)
-        other = found.setdefault((saga.name, saga.version), saga)
+        other = sagas.setdefault((saga.name, saga.version), saga)
         if other is not saga:
-            where = other.where.rpartition(":")[0]
+            location = other.where.rpartition(":")[0]
             remedy = f"use another name, or `# version {saga.version + 1}` as the first line"
             raise DefinitionError(
-                f"{saga.where}: saga {saga.name!r} is already defined at {where}; {remedy}"
+                f"{saga.where}: saga {saga.name!r} is already defined at {location}; {remedy}"
             )
-    return [*found.values()]
+    return [*sagas.values()]
 
 
 def read_one(path: pathlib.Path) -> Saga:
-    """The saga of a file. Raises `DefinitionError`."""
+    """Read the saga of a file. Raises `DefinitionError`."""
     file = File(path)
-    place = path.with_name(path.name.removesuffix(".toml") + SERVICE)
-    beside = File(place) if place.exists() else None
+    service_path = path.with_name(path.name.removesuffix(".toml") + SERVICE)
+    service_file = File(service_path) if service_path.exists() else None
     try:
-        return _built(file, beside)
+        return _built(file, service_file)
     except Fault as fault:
-        where = beside if fault.beside and beside else file
-        raise DefinitionError(f"{where.at(*fault.path)}: {fault}") from None
+        faulty = service_file if fault.is_in_service_file and service_file else file
+        raise DefinitionError(f"{faulty.at(*fault.path)}: {fault}") from None
 
 
-def _manners(beside: File) -> dict[str, Json]:
-    """What the second file says, by step. Raises `Fault`."""
-    told = beside.told
-    steps = told.get("step", {})
-    strange = set(told) - {"step"}
-    if strange or not isinstance(steps, dict):
+def _step_options(service_file: File) -> dict[str, Json]:
+    """Return the options in the service file, by step. Raises `Fault`."""
+    document = service_file.document
+    steps = document.get("step", {})
+    unknown = set(document) - {"step"}
+    if unknown or not isinstance(steps, dict):
         raise Fault(
-            "only [step.NAME] tables are allowed", *sorted(strange or {"step"})[:1], beside=True
+            "only [step.NAME] tables are allowed",
+            *sorted(unknown or {"step"})[:1],
+            is_in_service_file=True,
         )
-    for name, words in steps.items():
-        _check_manner(name, words)
+    for name, options in steps.items():
+        _check_step_options(name, options)
     return steps
 
 
-def _check_manner(name: str, words: Any) -> None:
+def _check_step_options(name: str, options: Any) -> None:
     def fault(text: str, *key: str) -> Fault:
-        return Fault(f"step {name!r}: {text}", "step", name, *key, beside=True)
+        return Fault(f"step {name!r}: {text}", "step", name, *key, is_in_service_file=True)
 
-    kind = words.get("kind", "work") if isinstance(words, dict) else None
+    kind = options.get("kind", "work") if isinstance(options, dict) else None
     if not isinstance(kind, str) or kind not in KEYS:
         raise fault(f"kind must be one of {', '.join(KEYS)}", "kind")
-    for word in sorted(set(words) - KEYS[kind]):
+    for option in sorted(set(options) - KEYS[kind]):
         raise fault(
-            f"{kind} has no key {word!r}; its keys are {', '.join(sorted(KEYS[kind]))}", word
+            f"{kind} has no key {option!r}; its keys are {', '.join(sorted(KEYS[kind]))}", option
         )
-    for word in ("timeout", "until", "max_unknown"):
-        if word in words and not (is_number(words[word]) and 0 <= words[word] <= MOST_WITHIN):
-            raise fault(f"{word} must be a number from 0 to {MOST_WITHIN:,.0f}", word)
-    backoff = words.get("backoff", {})
+    for option in ("timeout", "until", "max_unknown"):
+        if option in options and not (
+            is_number(options[option]) and 0 <= options[option] <= MOST_WITHIN
+        ):
+            raise fault(f"{option} must be a number from 0 to {MOST_WITHIN:,.0f}", option)
+    backoff = options.get("backoff", {})
     if (
         not isinstance(backoff, dict)
         or set(backoff) - BACKOFF
@@ -168,7 +171,7 @@ def _check_manner(name: str, words: Any) -> None:
             f"backoff must have only the keys {', '.join(sorted(BACKOFF))}, each with a number",
             "backoff",
         )
-    if kind == "wait" and "until" not in words:
+    if kind == "wait" and "until" not in options:
         raise fault("kind 'wait' requires the key until")
 
 
@@ -176,63 +179,68 @@ def is_number(value: Any) -> bool:
     return isinstance(value, (int, float)) and not isinstance(value, bool)
 
 
-def _built(file: File, beside: File | None) -> Saga:
-    """The saga of these files. Raises `Fault`, `DefinitionError`."""
-    told, manners = file.told, _manners(beside) if beside else {}
-    _check_keys(told)
+def _built(file: File, service_file: File | None) -> Saga:
+    """Build the saga of these files. Raises `Fault`, `DefinitionError`."""
+    document, options_of_steps = file.document, _step_options(service_file) if service_file else {}
+    _check_keys(document)
     try:
-        saga = Saga(told["name"], version=version_of(file.text))
+        saga = Saga(document["name"], version=version_of(file.text))
     except DefinitionError as error:
-        raise DefinitionError(f"{file.at('name')}: {_said(error)}") from None
+        raise DefinitionError(f"{file.at('name')}: {_message_of(error)}") from None
     saga.where = file.at("name")
-    for place, step in enumerate(told.get("step", [])):
-        _add(saga, file, beside, place, step, manners.get(step["name"], {}))
-    for name in manners:
+    for index, step in enumerate(document.get("step", [])):
+        _add(saga, file, service_file, index, step, options_of_steps.get(step["name"], {}))
+    for name in options_of_steps:
         if all(step.name != name for step in saga.steps):
-            raise Fault(f"no step is named {name!r}", "step", name, beside=True)
+            raise Fault(
+                f"the definition has no step {name!r}", "step", name, is_in_service_file=True
+            )
     saga.check()
-    if _plain(told) != _plain(tomllib.loads(saga.toml())):
+    if _plain(document) != _plain(tomllib.loads(saga.toml())):
         raise Fault("this service does not support the definition", "name")
     return saga
 
 
-def _check_keys(told: Json) -> None:
-    """Raises `Fault` where a definition has other keys than there are."""
-    strange = sorted(set(told) - {"format", "name", "step"})
-    if told.get("format") not in (1, 2) or strange:
+def _check_keys(document: Json) -> None:
+    """Raise `Fault` if a definition has unknown keys."""
+    unknown = sorted(set(document) - {"format", "name", "step"})
+    if document.get("format") not in (1, 2) or unknown:
         raise Fault(
             "invalid definition: a definition has the keys format (1 or 2), name and step",
-            *(strange or ["format"])[:1],
+            *(unknown or ["format"])[:1],
         )
-    if "name" not in told:
+    if "name" not in document:
         raise Fault("invalid definition: it has no name")
-    steps = told.get("step", [])
+    steps = document.get("step", [])
     if not isinstance(steps, list) or not all(isinstance(step, dict) for step in steps):
         raise Fault("invalid definition: each step is a table [[step]]", "step")
-    for place, step in enumerate(steps):
-        for word in sorted(set(step) - STEP):
+    for index, step in enumerate(steps):
+        for key in sorted(set(step) - STEP):
             known = ", ".join(sorted(STEP))
             raise Fault(
-                f"invalid definition: step {step.get('name', place + 1)!r} has no key {word!r}; "
+                f"invalid definition: step {step.get('name', index + 1)!r} has no key {key!r}; "
                 f"its keys are {known}",
                 "step",
-                place,
-                word,
+                index,
+                key,
             )
         if not isinstance(step.get("name"), str):
-            raise Fault(f"invalid definition: step {place + 1} has no name", "step", place, "name")
+            raise Fault(f"invalid definition: step {index + 1} has no name", "step", index, "name")
 
 
-def _add(saga: Saga, file: File, beside: File | None, place: int, step: Json, manner: Json) -> None:
-    """One more step. Raises `Fault`, or `DefinitionError` with the line of the step, or of its key
-    that is named."""
-    kind = manner.get("kind", "work")
-    for word in sorted({"approval": {"run", "keep"}, "wait": {"run"}}.get(kind, set()) & set(step)):
+def _add(
+    saga: Saga, file: File, service_file: File | None, index: int, step: Json, options: Json
+) -> None:
+    """Add a step. Raises `Fault`, or `DefinitionError` with the line of the step or of the key in
+    question.
+    """
+    kind = options.get("kind", "work")
+    for name in sorted({"approval": {"run", "keep"}, "wait": {"run"}}.get(kind, set()) & set(step)):
         raise Fault(
             f"step {step['name']!r}: an approval cannot have run or keep, a wait cannot have run",
             "step",
-            place,
-            word,
+            index,
+            name,
         )
     build: dict[str, Callable[[Saga, Json, Json], None]] = {
         "work": _work,
@@ -240,30 +248,30 @@ def _add(saga: Saga, file: File, beside: File | None, place: int, step: Json, ma
         "wait": _wait,
     }
     try:
-        build[kind](saga, step, manner)
+        build[kind](saga, step, options)
     except DefinitionError as error:
-        text = _said(error)
+        text = _message_of(error)
         named = re.search(r": (\w+)[=(]", text)
         key = named[1].lower() if named else "name"
-        if key in manner and beside:
-            raise DefinitionError(f"{beside.at('step', step['name'], key)}: {text}") from None
-        raise DefinitionError(f"{file.at('step', place, key)}: {text}") from None
-    saga.steps[-1].where = file.at("step", place)
+        if key in options and service_file:
+            raise DefinitionError(f"{service_file.at('step', step['name'], key)}: {text}") from None
+        raise DefinitionError(f"{file.at('step', index, key)}: {text}") from None
+    saga.steps[-1].where = file.at("step", index)
 
 
-def _said(error: DefinitionError) -> str:
-    """What is wrong, without the line of this module by which it was met."""
+def _message_of(error: DefinitionError) -> str:
+    """Return the message of an error without the line of this module."""
     return "saga " + str(error).partition(": saga ")[2]
 
 
-def _cost_of(step: Json, word: str) -> Cost:
-    value = step.get(word, 0)
+def _cost_of(step: Json, name: str) -> Cost:
+    value = step.get(name, 0)
     return NEVER if value == "never" else value
 
 
-def _work(saga: Saga, step: Json, manner: Json) -> None:
-    backoff = Backoff(**manner.get("backoff", {}))
-    made: Step[Any] = saga.step(
+def _work(saga: Saga, step: Json, options: Json) -> None:
+    backoff = Backoff(**options.get("backoff", {}))
+    built: Step[Any] = saga.step(
         external=True,
         name=step["name"],
         needs=step.get("needs", ()),
@@ -273,20 +281,20 @@ def _work(saga: Saga, step: Json, manner: Json) -> None:
         keep=_cost_of(step, "keep"),
         tries=step.get("tries", 1),
         backoff=backoff,
-        concurrency=manner.get("concurrency"),
-        on_exhausted=manner.get("on_exhausted", "fail"),
-        max_attempts=manner.get("max_attempts"),
-        early_unused=manner.get("early_unused", "ask"),
+        concurrency=options.get("concurrency"),
+        on_exhausted=options.get("on_exhausted", "fail"),
+        max_attempts=options.get("max_attempts"),
+        early_unused=options.get("early_unused", "ask"),
     )
-    if made._costs["undo"] is not NEVER:
-        exhausted = manner.get("undo_on_exhausted", "ask")
+    if built._costs["undo"] is not NEVER:
+        exhausted = options.get("undo_on_exhausted", "ask")
         tries = step.get("undo_tries", 1)
-        made.compensation(external=True, tries=tries, backoff=backoff, on_exhausted=exhausted)
-    made.run.max_unknown = made.undo.max_unknown = manner.get("max_unknown")
+        built.compensation(external=True, tries=tries, backoff=backoff, on_exhausted=exhausted)
+    built.run.max_unknown = built.undo.max_unknown = options.get("max_unknown")
 
 
-def _approval(saga: Saga, step: Json, manner: Json) -> None:
-    timeout = datetime.timedelta(seconds=manner["timeout"]) if "timeout" in manner else None
+def _approval(saga: Saga, step: Json, options: Json) -> None:
+    timeout = datetime.timedelta(seconds=options["timeout"]) if "timeout" in options else None
     saga.approval(
         name=step["name"],
         needs=step.get("needs", ()),
@@ -297,11 +305,11 @@ def _approval(saga: Saga, step: Json, manner: Json) -> None:
     )(nothing)
 
 
-def _wait(saga: Saga, step: Json, manner: Json) -> None:
+def _wait(saga: Saga, step: Json, options: Json) -> None:
     saga.wait(
         name=step["name"],
         needs=step.get("needs", ()),
-        until=datetime.timedelta(seconds=manner["until"]),
+        until=datetime.timedelta(seconds=options["until"]),
         undo=_cost_of(step, "undo"),
         skip=_cost_of(step, "skip"),
         keep=_cost_of(step, "keep"),
@@ -309,13 +317,13 @@ def _wait(saga: Saga, step: Json, manner: Json) -> None:
     )(nothing)
 
 
-def _plain(told: Json) -> list[Any]:
-    """A definition without its spelling."""
-    found: list[Any] = [told["name"]]
-    for step in told.get("step", ()):
-        costs = [step.get(word, 0) for word in ("run", "undo", "skip", "keep")]
+def _plain(document: Json) -> list[Any]:
+    """Return a definition in a canonical form."""
+    result: list[Any] = [document["name"]]
+    for step in document.get("step", ()):
+        costs = [step.get(name, 0) for name in ("run", "undo", "skip", "keep")]
         undo_tries = step.get("undo_tries", 1) if costs[1] != "never" else 1
-        found.append(
+        result.append(
             [
                 step["name"],
                 [*step.get("needs", ())],
@@ -325,4 +333,4 @@ def _plain(told: Json) -> list[Any]:
                 sorted(set(step) - {"undo_tries", "tries", "needs", "run", "undo", "skip", "keep"}),
             ]
         )
-    return found
+    return result

@@ -1,4 +1,4 @@
-"""Durations of the latest attempts, by step, as this service saw them."""
+"""Durations of the latest attempts, by step, as this service measured them."""
 
 from __future__ import annotations
 
@@ -7,24 +7,28 @@ from collections import OrderedDict, deque
 
 KEPT, MOST_STEPS = 500, 5000
 Step = tuple[str, str, bool]
-"""A saga's name, a step's, and whether its compensation is meant."""
+"""A saga's name, a step's name, and whether it is the compensation."""
 
 
 class Durations:
-    """The latest of each step."""
+    """The latest durations of each step."""
 
     def __init__(self) -> None:
-        self._there: OrderedDict[Step, deque[float]] = OrderedDict()
+        self._durations: OrderedDict[Step, deque[float]] = OrderedDict()
 
     def add(self, step: Step, seconds: float) -> None:
-        """An attempt is over."""
-        if step not in self._there and len(self._there) >= MOST_STEPS:
-            self._there.popitem(last=False)
-        self._there.setdefault(step, deque(maxlen=KEPT)).append(seconds)
+        """Record the duration of an attempt."""
+        if step not in self._durations and len(self._durations) >= MOST_STEPS:
+            self._durations.popitem(last=False)
+        self._durations.setdefault(step, deque(maxlen=KEPT)).append(seconds)
 
     def of(self, step: Step) -> tuple[int, float, float] | None:
-        """How many there are, their median and their 95th percentile; None: there are none."""
-        some = sorted(self._there.get(step, ()))
-        if not some:
+        """Return the number of durations, their median and their 95th percentile, or None."""
+        durations = sorted(self._durations.get(step, ()))
+        if not durations:
             return None
-        return len(some), some[(len(some) - 1) // 2], some[math.ceil(0.95 * len(some)) - 1]
+        return (
+            len(durations),
+            durations[(len(durations) - 1) // 2],
+            durations[math.ceil(0.95 * len(durations)) - 1],
+        )

@@ -15,15 +15,17 @@ from sagas.base.events import Event
 
 KEPT = 2000
 MOST_WAITING = 1000
-QUIET = 15.0  # seconds after which a comment shows that the stream is open
+KEEPALIVE = 15.0  # seconds after which a comment shows that the stream is open
 CHECK = 2.0  # seconds between two looks whether its token still counts
 MISSED = "event: missed\ndata: {}\n\n"
 
 
 @dataclasses.dataclass(eq=False, slots=True)
 class Listener:
-    """One stream, of events that its maker `sees`. It is `lost` where it did not read what it was
-    sent."""
+    """One stream of the events that its client may see.
+
+    It is `lost` if the client did not read what was sent.
+    """
 
     key: str | None
     saga: str | None
@@ -33,15 +35,17 @@ class Listener:
     lost: bool = False
 
     def wants(self, event: Event) -> bool:
-        asked = (self.key is None or event.key == self.key) and (
+        is_selected = (self.key is None or event.key == self.key) and (
             self.saga is None or event.saga == self.saga
         )
-        return asked and self.sees(event)
+        return is_selected and self.sees(event)
 
 
 class Hub:
-    """Numbers events from the program's start on; a stream that was interrupted goes on behind
-    the last one that it saw, if that is still kept.
+    """Numbers events from the program's start on.
+
+    An interrupted stream resumes after the last event that it saw, if the hub still has that
+    event.
     """
 
     def __init__(self) -> None:
@@ -57,13 +61,13 @@ class Hub:
 
     @property
     def now(self) -> str:
-        """The id of the last event: a stream that goes on behind it has all that happens from
-        now on.
+        """Return the id of the last event. A stream that resumes after it has everything that
+        follows.
         """
         return f"{self.boot}-{self.count}"
 
     def publish(self, event: Event) -> None:
-        """Sends it to whoever wants it."""
+        """Send an event to each listener that wants it."""
         self.count += 1
         self._kept.append((self.count, event))
         text: str | None = None
@@ -73,8 +77,9 @@ class Hub:
                 self._send(listener, text)
 
     def missed(self) -> None:
-        """Events of other services may be lost: each stream says so, also one that goes on later
-        behind an event from before.
+        """Report that events of other services may be lost.
+
+        Each stream gets this report, including one that later resumes after an earlier event.
         """
         self.count += 1
         self._kept.clear()
@@ -90,13 +95,13 @@ class Hub:
         listener.awake.set()
 
     def close(self) -> None:
-        """Ends all streams."""
+        """End all streams."""
         self.closed = True
         for listener in self._listeners:
             listener.awake.set()
 
     def behind(self, last: str | None) -> tuple[list[tuple[int, Event]], bool]:
-        """The events behind an id, and whether some of them are not kept any more."""
+        """Return the events after an id, and whether some of them are no longer stored."""
         if last is None:
             return [], False
         boot, _, number = last.partition("-")
@@ -115,10 +120,12 @@ class Hub:
     async def stream(
         self, listener: Listener, last: str | None, still: Callable[[], bool]
     ) -> AsyncIterator[str]:
-        """Server-sent events. One named `missed` says that some were lost: look at the sagas
-        themselves. It ends once it is not `still` to be."""
+        """Yield server-sent events while `still()` is true.
+
+        An event `missed` says that some were lost: the client should read the sagas themselves.
+        """
         self._listeners[listener] = None
-        told = time.monotonic()
+        last_sent = time.monotonic()
         try:
             events, missed = self.behind(last)
             yield (
@@ -133,7 +140,7 @@ class Hub:
                 while listener.queue and still():
                     count, text = listener.queue.popleft()
                     yield f"id: {self.boot}-{count}\n{text}"
-                    told = time.monotonic()
+                    last_sent = time.monotonic()
                 if listener.lost:
                     yield MISSED
                     return
@@ -143,14 +150,14 @@ class Hub:
                         await listener.awake.wait()
                 if not still():
                     return
-                if time.monotonic() >= told + QUIET:
+                if time.monotonic() >= last_sent + KEEPALIVE:
                     yield ": \n\n"
-                    told = time.monotonic()
+                    last_sent = time.monotonic()
         finally:
             self._listeners.pop(listener, None)
 
 
 def written(event: Event) -> str:
-    """An event as a stream has it, without its id."""
-    told = {name: value for name, value in dataclasses.asdict(event).items() if value is not None}
-    return f"event: {event.name}\ndata: {json.dumps(told)}\n\n"
+    """Return an event as a stream sends it, without its id."""
+    fields = {name: value for name, value in dataclasses.asdict(event).items() if value is not None}
+    return f"event: {event.name}\ndata: {json.dumps(fields)}\n\n"

@@ -15,29 +15,30 @@ from sagas.server.event_stream import Hub
 from sagas.storage.filters import EVERYTHING, Scope
 
 Counts = tuple[dict[str, dict[str, int]], dict[str, int]]
-"""How many sagas there are by name and phase, and what waits for a person."""
+"""Counts of sagas by name and phase, and counts of what waits for an operator."""
 QUIET = 20.0
-"""Seconds for which figures hold longer where nothing has happened, as far as is known: an
-operator's command in another program makes no event here."""
+"""Seconds for which figures stay valid longer if no event arrived. An operator's command in
+another program makes no event here.
+"""
 logger = logging.getLogger("sagas.server")
 MOST_KEPT = 100
-"""Scopes of which the figures are kept."""
+"""Maximum number of scopes whose figures are cached."""
 
 
 @dataclasses.dataclass(frozen=True, slots=True)
 class Counted:
-    """Figures, until when they hold (of `time.monotonic`), and how many events the hub had had
-    before them.
+    """Figures, the monotonic time until which they are valid, and the number of events before
+    them.
     """
 
-    found: Counts
+    counts: Counts
     until: float
     seen: int
 
 
 class Figures:
-    """The figures by scope. They are counted again at most each second, and less often where
-    that takes long.
+    """Cached figures by scope. They are counted at most once a second, and less often if that
+    takes long.
     """
 
     def __init__(self, hub: Hub, ask: Callable[[Question[Counts]], Awaitable[Counts]]) -> None:
@@ -45,68 +46,65 @@ class Figures:
         self._kept: dict[Scope, Counted] = {}
         self._counting: dict[Scope, asyncio.Task[Counted]] = {}
 
-    async def of(self, some: Scope) -> Counts:
-        """The figures of these sagas."""
-        counted = self._kept.get(some)
+    async def of(self, scope: Scope) -> Counts:
+        """Return the figures of a scope."""
+        counted = self._kept.get(scope)
         if counted is None or time.monotonic() > self._until(counted):
-            counted = await asyncio.shield(self._begin(some))
-        return counted.found
+            counted = await asyncio.shield(self._begin(scope))
+        return counted.counts
 
     def _until(self, counted: Counted) -> float:
-        """Until when figures hold: longer where no event came since, as far as this service hears
-        of events."""
+        """Return until when figures are valid: longer if this service received no event since."""
         return counted.until + (QUIET if counted.seen == self._hub.count else 0.0)
 
-    def _begin(self, some: Scope) -> asyncio.Task[Counted]:
-        counting = self._counting.get(some)
+    def _begin(self, scope: Scope) -> asyncio.Task[Counted]:
+        counting = self._counting.get(scope)
         if counting is None:
-            counting = asyncio.get_running_loop().create_task(self._count(some))
-            self._counting[some] = counting
-            counting.add_done_callback(functools.partial(self._counted, some))
+            counting = asyncio.get_running_loop().create_task(self._count(scope))
+            self._counting[scope] = counting
+            counting.add_done_callback(functools.partial(self._counted, scope))
         return counting
 
     def prime(self) -> None:
-        """Count all sagas once, so that nobody waits for that: at the start of a service."""
+        """Count all sagas at the start of a service, so that the first request need not wait."""
         self._begin(EVERYTHING)
 
-    async def _count(self, some: Scope) -> Counted:
+    async def _count(self, scope: Scope) -> Counted:
         began, seen = time.monotonic(), self._hub.count
 
         def question() -> Question[Counts]:
-            every = some if some.keys is not None else EVERYTHING  # which has the indexes
+            every = scope if scope.keys is not None else EVERYTHING  # which has the indexes
             counts = yield from lists.counts(every)
-            by_name = {name: of for name, of in counts.items() if some.may_have(name)}
-            if any(not some.has_definition(name) for name in by_name):  # by their keys
-                by_name = yield from lists.counts(some)
-            return by_name, (yield from lists.asked(some))
+            by_name = {name: phases for name, phases in counts.items() if scope.may_have(name)}
+            if any(not scope.has_definition(name) for name in by_name):  # by their keys
+                by_name = yield from lists.counts(scope)
+            return by_name, (yield from lists.attention_counts(scope))
 
-        found = await self._ask(question())
+        counts_of_scope = await self._ask(question())
         now = time.monotonic()
         if len(self._kept) >= MOST_KEPT:
             self._kept.clear()
-        counted = Counted(found, now + max(1.0, 20 * (now - began)), seen)
-        self._kept[some] = counted
+        counted = Counted(counts_of_scope, now + max(1.0, 20 * (now - began)), seen)
+        self._kept[scope] = counted
         return counted
 
-    def _counted(self, some: Scope, task: asyncio.Task[Counted]) -> None:
-        self._counting.pop(some, None)
+    def _counted(self, scope: Scope, task: asyncio.Task[Counted]) -> None:
+        self._counting.pop(scope, None)
         if not task.cancelled() and task.exception():
             logger.debug("the sagas could not be counted: %s", type(task.exception()).__name__)
 
-    def lag(self, some: Scope) -> float | None:
-        """Seconds until these figures are counted anew, where something has happened since they
-        were counted; else None.
-        """
-        counted = self._kept.get(some)
+    def lag(self, scope: Scope) -> float | None:
+        """Return the seconds until these figures are counted again, or None if they are current."""
+        counted = self._kept.get(scope)
         if counted is None or counted.seen == self._hub.count:
             return None
         return max(0.0, counted.until - time.monotonic())
 
     def forget(self) -> None:
-        """Somebody changed something by hand, and looks at once."""
+        """Drop all figures, after a user changed something and looks at once."""
         self._kept.clear()
 
     async def rest(self) -> None:
-        """Waits until nothing is counted."""
+        """Wait until no count runs."""
         if self._counting:
             await asyncio.wait([*self._counting.values()])

@@ -1,4 +1,4 @@
-"""The tables of a saga's attempts and events: those of a group in one row."""
+"""The tables of a saga's attempts and events, with one row for each group."""
 
 from __future__ import annotations
 
@@ -13,7 +13,7 @@ from sagas.inspection.timeline import AttemptTimes, Span
 from sagas.inspection.views import Note
 
 Titles = Mapping[str, str]
-"""By the names of the steps that are folded, the titles of their groups."""
+"""The titles of folded groups, by the names of their steps."""
 OUTCOMES = ("failed", "retried", None, "not_called", "succeeded")
 """How attempts ended, in the order in which they are shown."""
 
@@ -24,14 +24,14 @@ class AttemptRow:
 
     Attributes:
         title: The step's name, or the group's title.
-        undo: Whether the compensation is meant.
-        number: The number of the attempt, from 1; None of a group.
+        undo: Whether it is an attempt of the compensation.
+        number: The number of the attempt, from 1. None for a group.
         outcome: How it ended, in words.
-        seconds: How long it was in each state; of a group the longest.
+        seconds: The time that it spent in each state; for a group the longest.
         workers: The spans at workers.
-        error: What was raised.
-        decision: What a person did.
-        urgency: What comes first in the table.
+        error: The error.
+        decision: The operator's command.
+        urgency: Its rank in the table.
     """
 
     title: str
@@ -46,61 +46,66 @@ class AttemptRow:
 
 
 def attempt_rows(attempts: Iterable[AttemptTimes], titles: Titles, now: float) -> list[AttemptRow]:
-    """A row for each attempt; for those of a folded group one of the actions, and one of the
-    compensations, where the first of them began."""
-    found, groups = dict[Any, AttemptRow | None](), dict[Any, list[AttemptTimes]]()
-    for one in attempts:
-        title = titles.get(one.step)
+    """Return a row for each attempt.
+
+    A folded group has one row for actions and one for compensations, at the position of the
+    first attempt.
+    """
+    result, groups = dict[Any, AttemptRow | None](), dict[Any, list[AttemptTimes]]()
+    for attempt in attempts:
+        title = titles.get(attempt.step)
         if title is None:
-            found[one.step, one.undo, one.attempt] = _single(one, now)
+            result[attempt.step, attempt.undo, attempt.attempt] = _single(attempt, now)
         else:
-            found.setdefault((title, one.undo), None)
-            groups.setdefault((title, one.undo), []).append(one)
-    return [row or _group(at[0], at[1], groups[at], now) for at, row in found.items()]
+            result.setdefault((title, attempt.undo), None)
+            groups.setdefault((title, attempt.undo), []).append(attempt)
+    return [row or _group(at[0], at[1], groups[at], now) for at, row in result.items()]
 
 
 SHORT = {"failed": "failed", "retried": "retried", "not_called": "not called"}
-"""How some attempts ended, behind their number."""
+"""How some attempts ended, after their number."""
 
 
-def _told(one: AttemptTimes) -> str:
-    last = one.spans[-1] if one.spans else None
-    if one.outcome:
-        return wording.OUTCOMES[one.outcome]
+def _outcome_text(attempt: AttemptTimes) -> str:
+    last = attempt.spans[-1] if attempt.spans else None
+    if attempt.outcome:
+        return wording.OUTCOMES[attempt.outcome]
     return wording.wait(last.why, last.state) if last else ""
 
 
-def _short(one: AttemptTimes) -> str:
-    return SHORT.get(one.outcome or "") or _told(one)
+def _short(attempt: AttemptTimes) -> str:
+    return SHORT.get(attempt.outcome or "") or _outcome_text(attempt)
 
 
-def _single(one: AttemptTimes, now: float) -> AttemptRow:
-    outcome = _told(one) + (f", {one.unknowns} × unknown" if one.unknowns else "")
-    workers = [span for span in one.spans if span.worker]
+def _single(attempt: AttemptTimes, now: float) -> AttemptRow:
+    outcome = _outcome_text(attempt) + (
+        f", {attempt.unknowns} × unknown" if attempt.unknowns else ""
+    )
+    workers = [span for span in attempt.spans if span.worker]
     return AttemptRow(
-        one.step,
-        one.undo,
-        one.attempt,
+        attempt.step,
+        attempt.undo,
+        attempt.attempt,
         outcome,
-        one.seconds(now),
+        attempt.seconds(now),
         workers,
-        one.error or "",
-        one.decision,
-        OUTCOMES.index(one.outcome),
+        attempt.error or "",
+        attempt.decision,
+        OUTCOMES.index(attempt.outcome),
     )
 
 
-def _group(title: str, undo: bool, some: list[AttemptTimes], now: float) -> AttemptRow:
-    order = sorted(some, key=lambda one: OUTCOMES.index(one.outcome))
+def _group(title: str, undo: bool, attempts: list[AttemptTimes], now: float) -> AttemptRow:
+    order = sorted(attempts, key=lambda attempt: OUTCOMES.index(attempt.outcome))
     counts = Counter(map(_short, order))
     longest: dict[str, float] = {}
-    for one in some:
-        for state, seconds in one.seconds(now).items():
+    for attempt in attempts:
+        for state, seconds in attempt.seconds(now).items():
             longest[state] = max(longest.get(state, 0.0), seconds)
-    bad = [one for one in order if one.error]
-    more = f" and {len(bad) - 1:,} more" if len(bad) > 1 else ""
-    error = f"{bad[0].step}: {wording.short(bad[0].error, 120)}{more}" if bad else ""
-    outcome = ", ".join(f"{count:,} {word}" for word, count in counts.items())
+    failed = [attempt for attempt in order if attempt.error]
+    more = f" and {len(failed) - 1:,} more" if len(failed) > 1 else ""
+    error = f"{failed[0].step}: {wording.short(failed[0].error, 120)}{more}" if failed else ""
+    outcome = ", ".join(f"{count:,} {label}" for label, count in counts.items())
     urgency = OUTCOMES.index(order[0].outcome)
     return AttemptRow(title, undo, None, outcome, longest, [], error, None, urgency)
 
@@ -110,12 +115,12 @@ class EventRow:
     """An event, or equal events of a group.
 
     Attributes:
-        event: What happened, as of `HistoryEvent`.
-        at: When; of several the first time.
-        until: Of several the last time.
+        event: The event's name, as in `HistoryEvent`.
+        at: When it happened; for several events, the first time.
+        until: For several events, the last time.
         step: The step's name, or the group's title.
-        value: As of `HistoryEvent`; of those of a group the first error.
-        count: How many events it stands for.
+        value: As in `HistoryEvent`; for a group, the first error.
+        count: How many events the row represents.
     """
 
     event: str
@@ -127,26 +132,28 @@ class EventRow:
 
 
 def event_rows(events: Sequence[HistoryEvent], titles: Titles) -> list[EventRow]:
-    """A row for each event. Of those of folded groups that follow one another, the equal ones of a
-    group are one row, where the first of them was."""
-    found, joined = list[EventRow](), dict[tuple[str, str], int]()
-    for one in events:
-        title = titles.get(one.step) if one.step else None
-        if title is None or one.event == "note":
+    """Return a row for each event.
+
+    Consecutive equal events of a folded group share one row, at the position of the first.
+    """
+    result, joined = list[EventRow](), dict[tuple[str, str], int]()
+    for event in events:
+        title = titles.get(event.step) if event.step else None
+        if title is None or event.event == "note":
             joined = {}
-            found.append(EventRow(one.event, one.at, one.at, one.step, one.value))
-        elif (title, one.event) not in joined:
-            joined[title, one.event] = len(found)
-            found.append(EventRow(one.event, one.at, one.at, title, _said(one)))
+            result.append(EventRow(event.event, event.at, event.at, event.step, event.value))
+        elif (title, event.event) not in joined:
+            joined[title, event.event] = len(result)
+            result.append(EventRow(event.event, event.at, event.at, title, _first_error(event)))
         else:
-            at = joined[title, one.event]
-            row = found[at]
-            until, count = max(row.until, one.at), row.count + 1
-            found[at] = dataclasses.replace(row, until=until, count=count)
-    return found
+            at = joined[title, event.event]
+            row = result[at]
+            until, count = max(row.until, event.at), row.count + 1
+            result[at] = dataclasses.replace(row, until=until, count=count)
+    return result
 
 
-def _said(one: HistoryEvent) -> Any:
-    """What is said of several events: the first error, with its step."""
-    is_error = isinstance(one.value, dict) and "error" in one.value
-    return f"{one.step}: {wording.short(one.value)}" if is_error else ""
+def _first_error(event: HistoryEvent) -> Any:
+    """Return the value of several events: the first error, with its step."""
+    is_error = isinstance(event.value, dict) and "error" in event.value
+    return f"{event.step}: {wording.short(event.value)}" if is_error else ""

@@ -1,4 +1,4 @@
-"""JSON that clients send, read as every other program reads it."""
+"""Strict JSON from clients, which every parser reads alike."""
 
 from __future__ import annotations
 
@@ -9,8 +9,11 @@ from sagas.definition.serialization import TOO_DEEP
 
 
 def read(text: str) -> Any:
-    """The value of a text. Raises `ValueError`, which says what is wrong without a value: it is no
-    JSON, it has too many levels, or an object has a key twice."""
+    """Parse a text. Raises `ValueError`, whose message contains no value of the text.
+
+    It is raised if the text is not JSON, has too many levels, or has an object with duplicate
+    keys.
+    """
     try:
         return _decoder.decode(text)
     except RecursionError:
@@ -18,7 +21,7 @@ def read(text: str) -> Any:
 
 
 def of_bytes(body: bytes) -> Any:
-    """As `read`, of a body in UTF-8, UTF-16 or UTF-32."""
+    """Parse a body in UTF-8, UTF-16 or UTF-32."""
     return read(body.decode(json.detect_encoding(body), "surrogatepass"))
 
 
@@ -27,7 +30,7 @@ def _no_constant(text: str) -> None:
 
 
 def _once(pairs: list[tuple[str, Any]]) -> dict[str, Any]:
-    """An object of which no two parts have one key: readers differ in which of them counts."""
+    """Return an object without duplicate keys: parsers differ in which of them they use."""
     value = dict(pairs)
     if len(value) != len(pairs):
         raise ValueError("an object has a key twice")
@@ -35,4 +38,4 @@ def _once(pairs: list[tuple[str, Any]]) -> dict[str, Any]:
 
 
 _decoder = json.JSONDecoder(parse_constant=_no_constant, object_pairs_hook=_once)
-"""As `json.loads` makes one for each text."""
+"""One decoder for all texts. `json.loads` would create one for each."""

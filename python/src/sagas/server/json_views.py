@@ -18,22 +18,24 @@ from sagas.server.responses import times
 from sagas.storage.schedules import Schedule
 
 
-def summary(one: Summary) -> dict[str, Any]:
-    """A saga in a list."""
+def summary(saga_summary: Summary) -> dict[str, Any]:
+    """Return a saga of a list."""
     return {
-        "key": one.key,
-        "definition": one.saga,
-        "phase": one.phase,
-        **times(started=one.started, ended=one.ended, deadline=one.deadline),
-        "undo_failed": one.undo_failed,
-        "labels": one.labels,
-        "note": one.note,
+        "key": saga_summary.key,
+        "definition": saga_summary.saga,
+        "phase": saga_summary.phase,
+        **times(
+            started=saga_summary.started, ended=saga_summary.ended, deadline=saga_summary.deadline
+        ),
+        "undo_failed": saga_summary.undo_failed,
+        "labels": saga_summary.labels,
+        "note": saga_summary.note,
     }
 
 
-def plan(one: Plan | None) -> dict[str, Any] | None:
-    """Why each step stands or does not: what it costs to keep it, and to drop it (null: never)."""
-    if one is None:
+def plan(shown_plan: Plan | None) -> dict[str, Any] | None:
+    """Return what a plan does with each step, and the costs to keep and drop it."""
+    if shown_plan is None:
         return None
     steps = [
         {
@@ -41,33 +43,38 @@ def plan(one: Plan | None) -> dict[str, Any] | None:
             "found": choice.state,
             "cost_to_keep": choice.cost_to_keep,
             "cost_to_drop": choice.cost_to_drop,
-            "decision": choice.decision if one.cost is not None else "stuck",
+            "decision": choice.decision if shown_plan.cost is not None else "stuck",
         }
-        for choice in one.choices
+        for choice in shown_plan.choices
     ]
-    return {"cost": one.cost, "blocking_steps": one.blocking_steps, "steps": steps}
+    return {"cost": shown_plan.cost, "blocking_steps": shown_plan.blocking_steps, "steps": steps}
 
 
-def held(one: Waits) -> dict[str, Any]:
-    """What an attempt waits for."""
+def held(wait: Waits) -> dict[str, Any]:
+    """Return what an attempt waits for."""
     return {
-        "step": one.step,
-        "undo": one.undo,
-        "attempt": one.attempt,
-        "why": one.why,
-        **times(since=one.since, until=one.until),
-        "said": one.said,
-        "person": one.asks,
+        "step": wait.step,
+        "undo": wait.undo,
+        "attempt": wait.attempt,
+        "why": wait.why,
+        **times(since=wait.since, until=wait.until),
+        "said": wait.said,
+        "person": wait.asks,
     }
 
 
-def relative(one: Relative) -> dict[str, Any]:
-    """A saga's parent, or one of its children."""
-    return {"key": one.key, "definition": one.saga, "phase": one.phase, "step": one.step}
+def relative(related: Relative) -> dict[str, Any]:
+    """Return a saga's parent, or one of its children."""
+    return {
+        "key": related.key,
+        "definition": related.saga,
+        "phase": related.phase,
+        "step": related.step,
+    }
 
 
 def saga(view: SagaView) -> dict[str, Any]:
-    """A saga with its steps."""
+    """Return a saga with its steps."""
     return {
         "key": view.key,
         "definition": view.saga,
@@ -78,13 +85,13 @@ def saga(view: SagaView) -> dict[str, Any]:
         "note": view.note,
         "labels": view.summary.labels,
         "parent": view.parent and relative(view.parent),
-        "children": [relative(one) for one in view.children],
+        "children": [relative(child) for child in view.children],
         "input": view.input,
         "states": {step.name: state_of(view, step) for step in view.steps},
         "results": view.results,
         "errors": {step.name: step.raised for step in view.steps if step.raised is not None},
         "plan": plan(view.plan),
-        "waits": [held(one) for one in view.held],
+        "waits": [held(child) for child in view.held],
         "progress": [
             {"step": step.name, "fraction": step.progress.fraction, "detail": step.progress.detail}
             for step in view.steps
@@ -95,34 +102,36 @@ def saga(view: SagaView) -> dict[str, Any]:
 
 
 def log(view: SagaView) -> list[dict[str, Any]]:
-    """A saga's events in the order of its log, and what people did before the first later one."""
-    return [event(one.event, one.at, one.step, one.value) for one in view.history]
+    """Return a saga's events in the order of its log, with operator commands in between."""
+    return [event(entry.event, entry.at, entry.step, entry.value) for entry in view.history]
 
 
 def event(name: str, at: float, step: str | None, value: Any) -> dict[str, Any]:
-    """An event of a saga."""
+    """Return an event of a saga."""
     return {"event": name, **times(at=at), "step": step, "value": value}
 
 
 def timeline(view: SagaView, now: float) -> dict[str, Any]:
-    """What each attempt did, and what people did."""
+    """Return what each attempt did, and the operator commands."""
     return {
-        "attempts": [attempt_times(one) for one in timeline_module.of(view, now)],
-        "decisions": [{**one, **times(at=one["at"])} for one in timeline_module.decisions(view)],
+        "attempts": [attempt_times(entry) for entry in timeline_module.of(view, now)],
+        "decisions": [
+            {**entry, **times(at=entry["at"])} for entry in timeline_module.decisions(view)
+        ],
     }
 
 
-def attempt_times(one: AttemptTimes) -> dict[str, Any]:
-    """An attempt with its parts."""
-    note = one.decision
+def attempt_times(attempt: AttemptTimes) -> dict[str, Any]:
+    """Return an attempt with its spans."""
+    note = attempt.decision
     return {
-        "step": one.step,
-        "undo": one.undo,
-        "attempt": one.attempt,
-        **times(ready=one.ready, began=one.began, ended=one.ended),
-        "outcome": one.outcome,
-        "error": one.error,
-        "unknown_outcomes": one.unknowns,
+        "step": attempt.step,
+        "undo": attempt.undo,
+        "attempt": attempt.attempt,
+        **times(ready=attempt.ready, began=attempt.began, ended=attempt.ended),
+        "outcome": attempt.outcome,
+        "error": attempt.error,
+        "unknown_outcomes": attempt.unknowns,
         "spans": [
             {
                 "state": span.state,
@@ -132,7 +141,7 @@ def attempt_times(one: AttemptTimes) -> dict[str, Any]:
                 "lease": span.lease,
                 "detail": span.detail,
             }
-            for span in one.spans
+            for span in attempt.spans
         ],
         "decision": note
         and {
@@ -144,27 +153,31 @@ def attempt_times(one: AttemptTimes) -> dict[str, Any]:
     }
 
 
-def certificate(one: Plan) -> dict[str, Any]:
-    """What `sagas check` needs to judge a plan."""
-    return {"definition": one.definition, "case": one.case, "answer": one.answer}
+def certificate(certified: Plan) -> dict[str, Any]:
+    """Return what `sagas check` needs to verify a plan."""
+    return {"definition": certified.definition, "case": certified.case, "answer": certified.answer}
 
 
-def what_if(one: WhatIf) -> dict[str, Any]:
-    """What would be done, with its certificate."""
-    told = {"cost": one.plan.cost, "plan": plan(one.plan), "certificate": certificate(one.plan)}
-    return {**told, "assumed": one.assumed}
+def what_if(forecast: WhatIf) -> dict[str, Any]:
+    """Return a hypothetical plan with its certificate."""
+    fields = {
+        "cost": forecast.plan.cost,
+        "plan": plan(forecast.plan),
+        "certificate": certificate(forecast.plan),
+    }
+    return {**fields, "assumed": forecast.assumed}
 
 
-def task(one: LeasedTask, now: float) -> dict[str, Any]:
-    """A task as a worker gets it."""
-    task = one.task
+def task(leased: LeasedTask, now: float) -> dict[str, Any]:
+    """Return a task as a worker gets it."""
+    task = leased.task
     deadline = task.deadline.timestamp() if task.deadline else None
     return {
         "name": name_of(task.saga, task.declared_step, task.is_compensation),
-        "attempt_id": one.attempt_id,
-        "lease": one.lease,
-        "seconds": round(max(0.0, one.until - now), 3),
-        **times(until=one.until, deadline=deadline),
+        "attempt_id": leased.attempt_id,
+        "lease": leased.lease,
+        "seconds": round(max(0.0, leased.until - now), 3),
+        **times(until=leased.until, deadline=deadline),
         "cancelled": task.cancelled.reason,
         "definition": task.saga,
         "key": task.key,
@@ -175,39 +188,44 @@ def task(one: LeasedTask, now: float) -> dict[str, Any]:
         "original_idempotency_key": task.original_idempotency_key,
         "traceparent": task.traceparent,
         **task.plain,
-        "given": serialization.read(one.given),
+        "given": serialization.read(leased.given),
     }
 
 
 def name_of(saga: str, step: str, undo: bool) -> str:
-    """What a worker asks for: `trip/car`, or `trip/car/undo`."""
+    """Return the task name that a worker requests: `trip/car`, or `trip/car/undo`."""
     return f"{saga}/{step}{'/undo' if undo else ''}"
 
 
-def schedule(one: Schedule) -> dict[str, Any]:
-    """A schedule with its last and next times."""
+def schedule(stored: Schedule) -> dict[str, Any]:
+    """Return a schedule with its last and next times."""
     return {
-        "name": one.name,
-        "definition": one.saga,
-        "version": one.version,
-        "input": one.input,
-        "labels": one.labels,
-        "cron": one.cron,
-        "every": one.every,
-        "timezone": one.timezone,
-        "catch_up": one.catch_up,
-        "max": one.max,
-        "overlap": one.overlap,
-        "paused": one.paused,
-        "error": one.error,
-        **times(next=None if one.paused else one.next_at, last=one.last_at),
+        "name": stored.name,
+        "definition": stored.saga,
+        "version": stored.version,
+        "input": stored.input,
+        "labels": stored.labels,
+        "cron": stored.cron,
+        "every": stored.every,
+        "timezone": stored.timezone,
+        "catch_up": stored.catch_up,
+        "max": stored.max,
+        "overlap": stored.overlap,
+        "paused": stored.paused,
+        "error": stored.error,
+        **times(next=None if stored.paused else stored.next_at, last=stored.last_at),
     }
 
 
-def queue(one: Queue) -> dict[str, Any]:
-    """What waits for workers of a step."""
-    told = {"definition": one.saga, "step": one.step, "undo": one.undo, "ready": one.ready}
-    return {**told, "claimed": one.claimed, **times(oldest=one.oldest)}
+def queue(waiting: Queue) -> dict[str, Any]:
+    """Return the tasks of a step that wait for workers."""
+    fields = {
+        "definition": waiting.saga,
+        "step": waiting.step,
+        "undo": waiting.undo,
+        "ready": waiting.ready,
+    }
+    return {**fields, "claimed": waiting.claimed, **times(oldest=waiting.oldest)}
 
 
 CALLS = {
@@ -220,31 +238,31 @@ CALLS = {
     "damaged": [],
     "approval": ["complete", "fail", "abort"],
 }
-"""The calls that apply to what needs a person."""
+"""The calls that apply to an entry that needs an operator."""
 WAITS_FOR = {
-    "stuck": "somebody who sets right by hand what no plan could, and resolves it",
-    "undo_failed": "somebody who undoes the step by hand, and resolves the saga",
-    "unused_report": "somebody who has the step compensated, or resolves the saga",
-    "unknown": "somebody who finds out whether the step had its effect, and reports it",
-    "exhausted": "somebody who has it attempted again, or reports it",
-    "cannot_decode": "a program that can read what is stored, or somebody's report",
-    "damaged": "somebody who repairs or deletes the damaged shard of the saga",
-    "approval": "somebody's decision",
+    "stuck": "an operator who repairs it by hand and resolves it",
+    "undo_failed": "an operator who undoes the step by hand and resolves the saga",
+    "unused_report": "an operator who compensates the step or resolves the saga",
+    "unknown": "an operator who finds out whether the step had its effect and reports it",
+    "exhausted": "an operator who retries it or reports it",
+    "cannot_decode": "a program that can read the stored value, or an operator's report",
+    "damaged": "an operator who repairs or deletes the damaged shard of the saga",
+    "approval": "an approver's decision",
 }
 
 
-def entry(one: Entry) -> dict[str, Any]:
-    """Something that needs a person."""
-    because = f"because of {' and '.join(one.blocking)}" if one.blocking else ""
+def entry(attention: Entry) -> dict[str, Any]:
+    """Return an entry that needs an operator."""
+    because = f"because of {' and '.join(attention.blocking)}" if attention.blocking else ""
     return {
-        "kind": one.kind,
-        "key": one.key,
-        "definition": one.saga,
-        "step": one.step,
-        "undo": one.undo,
-        "detail": ": ".join(part for part in (because, one.detail) if part) or None,
-        "by": one.by,
-        "waits_for": WAITS_FOR[one.kind],
-        "calls": CALLS[one.kind],
-        **times(since=one.since, until=one.until),
+        "kind": attention.kind,
+        "key": attention.key,
+        "definition": attention.saga,
+        "step": attention.step,
+        "undo": attention.undo,
+        "detail": ": ".join(part for part in (because, attention.detail) if part) or None,
+        "by": attention.by,
+        "waits_for": WAITS_FOR[attention.kind],
+        "calls": CALLS[attention.kind],
+        **times(since=attention.since, until=attention.until),
     }

@@ -11,13 +11,11 @@ from sagas.base.wording import escaped
 
 
 class Lines(logging.Formatter):
-    """A JSON object a line: time, level, logger, message, and the fields that this package
-    tells.
-    """
+    """One JSON object a line: time, level, logger, message, and the fields of this package."""
 
     def format(self, record: logging.LogRecord) -> str:
         at = time.strftime("%Y-%m-%dT%H:%M:%S", time.gmtime(record.created))
-        told = {
+        line = {
             "at": f"{at}.{int(record.msecs):03}Z",
             "level": record.levelname.lower(),
             "logger": record.name,
@@ -25,17 +23,19 @@ class Lines(logging.Formatter):
         }
         fields = getattr(record, "sagas", None)
         if isinstance(fields, dict):
-            told |= {
-                name: value for name, value in fields.items() if name not in told and name != "at"
+            line |= {
+                name: value for name, value in fields.items() if name not in line and name != "at"
             }
         if record.exc_info:
-            told["trace"] = self.formatException(record.exc_info)
-        return json.dumps(told, default=str)
+            line["trace"] = self.formatException(record.exc_info)
+        return json.dumps(line, default=str)
 
 
 class Text(logging.Formatter):
-    """A line for people; its time is in UTC. No message makes a line of its own, and the lines of a
-    traceback are set in."""
+    """One line of text for each message, with its time in UTC.
+
+    Newlines in messages are escaped. The lines of a traceback are indented.
+    """
 
     converter = time.gmtime
     default_msec_format = "%s.%03dZ"
@@ -44,14 +44,14 @@ class Text(logging.Formatter):
         record.message = escaped(record.message)
         return super().formatMessage(record)
 
-    def formatException(self, *words: Any) -> str:
+    def formatException(self, *arguments: Any) -> str:
         return "\n".join(
-            f"    {escaped(line)}" for line in super().formatException(*words).split("\n")
+            f"    {escaped(line)}" for line in super().formatException(*arguments).split("\n")
         )
 
 
 def begin(form: str, level: str, stream: TextIO) -> None:
-    """Sends all that is logged to a stream."""
+    """Send all log messages to a stream."""
     handler = logging.StreamHandler(stream)
     handler.setFormatter(
         Lines() if form == "json" else Text("%(asctime)s %(levelname)s %(name)s: %(message)s")

@@ -21,7 +21,7 @@ if TYPE_CHECKING:
     from sagas.server.service import Service
 
 SECONDS = (0.01, 0.03, 0.1, 0.3, 1, 3, 10, 30, 100, 300, 1000, 3600, 86400)
-TOLD = {
+OUTCOMES = {
     "step_succeeded": "succeeded",
     "step_retrying": "retrying",
     "step_failed": "failed",
@@ -39,33 +39,33 @@ INTERNAL_ERRORS = (
 )
 TYPE = CONTENT_TYPE_LATEST
 MOST_BEGUN = 100_000
-"""Attempts of which it is known when they began."""
+"""Maximum number of attempts whose start time is remembered."""
 Begun = tuple[Optional[str], Optional[str], Union[int, str, None], bool, Optional[int]]
 """key, step, index, undo, attempt"""
 
 
 def _attempt(event: Event) -> Begun:
-    """Of which attempt an event tells."""
+    """Return the attempt that an event belongs to."""
     return event.key, event.step, event.index, event.undo, event.attempt
 
 
 class Metrics:
-    """Counts what a store tells; what it has is read when it is asked for."""
+    """Counts the events of a store. Gauges are read from the store when metrics are requested."""
 
     def __init__(self, service: Service) -> None:
         self.registry = CollectorRegistry()
         self._service = service
         self.counts: dict[str, dict[str, int]] = {}
-        self.asked: dict[str, int] = {}
+        self.attention_counts: dict[str, int] = {}
         self.durations = Durations()
         self._began: OrderedDict[Begun, float] = OrderedDict()
         self.started = self._counter("sagas_started", "Sagas that were started", "saga")
-        self.ended = self._counter("sagas_ended", "Sagas that ended, by how", "saga", "phase")
+        self.ended = self._counter("sagas_ended", "Sagas that ended, by phase", "saga", "phase")
         self.aborted = self._counter("sagas_aborted", "Sagas that were aborted", "saga")
         self.plans = self._counter("sagas_plans", "Plans that were adopted", "saga")
         self.steps = self._counter(
             "sagas_steps",
-            "Outcomes of attempts; after retrying another attempt follows",
+            "Outcomes of attempts; another attempt follows `retrying`",
             "saga",
             "step",
             "action",
@@ -73,7 +73,7 @@ class Metrics:
         )
         seconds = Histogram(
             "sagas_step_seconds",
-            "From a task's begin to its report",
+            "Seconds from the start of an attempt to its report",
             ["saga", "step", "action"],
             buckets=SECONDS,
             registry=self.registry,
@@ -81,7 +81,7 @@ class Metrics:
         self.step_seconds = functools.cache(seconds.labels)
         self.internal_errors = self._counter(
             "sagas_internal_errors",
-            f"What went wrong inside: {', '.join(INTERNAL_ERRORS)}",
+            f"Internal errors: {', '.join(INTERNAL_ERRORS)}",
             "kind",
         )
         self.shards_taken_over = Counter(
@@ -90,28 +90,28 @@ class Metrics:
             registry=self.registry,
         )
         self.requests = self._counter(
-            "sagas_http_requests", "Requests, by what they came to", "method", "status"
+            "sagas_http_requests", "Requests, by method and status", "method", "status"
         )
-        took = Histogram(
+        request_times = Histogram(
             "sagas_http_request_seconds",
-            "Time that requests took; long waits are counted apart",
+            "Seconds of requests; long waits are counted separately",
             ["waits"],
             registry=self.registry,
         )
-        self.request_seconds = functools.cache(took.labels)
+        self.request_seconds = functools.cache(request_times.labels)
         self.up = Gauge(
             "sagas_start_time_seconds", "When this service was started", registry=self.registry
         )
         self.up.set(time.time())
         self.registry.register(Now(self))  # type: ignore[arg-type]
 
-    def _counter(self, name: str, told: str, *labels: str) -> Callable[..., Counter]:
-        """A counter's children by their labels, each of which is looked up in a dictionary."""
-        return functools.cache(Counter(name, told, labels, registry=self.registry).labels)
+    def _counter(self, name: str, description: str, *labels: str) -> Callable[..., Counter]:
+        """Return a counter's children by their labels, cached."""
+        return functools.cache(Counter(name, description, labels, registry=self.registry).labels)
 
     def event(self, event: Event) -> None:
-        """Something happened."""
-        saga, outcome = event.saga or "", TOLD.get(event.name)
+        """Count an event."""
+        saga, outcome = event.saga or "", OUTCOMES.get(event.name)
         if event.name == "saga_started":
             self.started(saga).inc()
         elif event.name in ("saga_ended", "saga_stuck"):
@@ -138,19 +138,19 @@ class Metrics:
                 self.durations.add((saga, event.step or "", event.undo), seconds)
 
     def request(self, method: str, status: int, seconds: float, waits: bool) -> None:
-        """A request is over."""
+        """Count a finished request."""
         known = method if method in ("GET", "POST", "HEAD") else "other"
         self.requests(known, str(status)).inc()
         self.request_seconds("yes" if waits else "no").observe(seconds)
 
     async def text(self) -> bytes:
-        """All figures, as Prometheus reads them."""
-        self.counts, self.asked = await self._service.figures.of(EVERYTHING)
+        """Return all metrics in Prometheus's text format."""
+        self.counts, self.attention_counts = await self._service.figures.of(EVERYTHING)
         self.queues = await self._service.store.workers.queues()
         return generate_latest(self.registry)
 
     def now(self) -> Iterator[Metric]:
-        """What the store has at this moment."""
+        """Yield the gauges of the store."""
         sagas = GaugeMetricFamily(
             "sagas_current", "Sagas, by definition and phase", labels=["saga", "phase"]
         )
@@ -158,15 +158,15 @@ class Metrics:
             for phase, count in phases.items():
                 sagas.add_metric([saga, phase], count)
         yield sagas
-        asked = GaugeMetricFamily(
+        needed = GaugeMetricFamily(
             "sagas_attention_required",
             "Stuck sagas, compensations that failed permanently, unknown outcomes, exhausted "
             "attempts, stored values that cannot be read, sagas of damaged shards, approvals",
             labels=["reason"],
         )
-        for why, count in self.asked.items():
-            asked.add_metric([why], count)
-        yield asked
+        for why, count in self.attention_counts.items():
+            needed.add_metric([why], count)
+        yield needed
         yield from queues_of(self.queues, time.time())
         yield CounterMetricFamily(
             "sagas_tasks_reclaimed",
@@ -182,7 +182,7 @@ class Metrics:
 
 
 class Now:
-    """Hands over to `Metrics.now` at each collection."""
+    """Delegates to `Metrics.now` at each collection."""
 
     def __init__(self, metrics: Metrics) -> None:
         self._metrics = metrics
@@ -195,18 +195,18 @@ class Now:
 
 
 def queues_of(queues: list[Queue], now: float) -> Iterator[Metric]:
-    """What waits for workers."""
-    words: list[tuple[str, str, Callable[[Queue], float]]] = [
+    """Yield the metrics of tasks that wait for workers."""
+    families: list[tuple[str, str, Callable[[Queue], float]]] = [
         ("sagas_tasks_ready", "Tasks that wait for a worker", lambda queue: queue.ready),
-        ("sagas_tasks_claimed", "Tasks that workers have", lambda queue: queue.claimed),
+        ("sagas_tasks_claimed", "Tasks that workers have claimed", lambda queue: queue.claimed),
         (
             "sagas_tasks_oldest_seconds",
-            "For how long the oldest task has waited for a worker",
+            "Seconds for which the oldest task has waited for a worker",
             lambda queue: now - queue.oldest if queue.oldest else 0.0,
         ),
     ]
-    for name, told, value in words:
-        family = GaugeMetricFamily(name, told, labels=["saga", "step", "action"])
+    for name, description, value in families:
+        family = GaugeMetricFamily(name, description, labels=["saga", "step", "action"])
         for queue in queues:
             family.add_metric(
                 [queue.saga, queue.step, "undo" if queue.undo else "run"], max(0.0, value(queue))

@@ -1,8 +1,4 @@
-"""Limits and headers of every request: path, size, time, origin.
-
-What each request passes: its path, its size and its time, where it comes from, and the headers
-that every answer has.
-"""
+"""Limits and headers of every request: path, size, time and origin."""
 
 from __future__ import annotations
 
@@ -33,18 +29,20 @@ Send = Callable[[Message], Awaitable[None]]
 App = Callable[[Scope, Receive, Send], Awaitable[None]]
 
 SLASH = "\ue02f"
-"""Stands for a slash within a part of a path; it is not printable, so that no key has it."""
+"""Replaces a slash within a part of a path. It is not printable, so no key contains it."""
 SERVICE = "sagas.service"
 """In a scope: the `Service`."""
 GONE = "sagas.gone"
-"""In a scope: a future that is done once the client is gone."""
+"""In a scope: a future that is done when the client is gone."""
 FOLLOWED = "sagas.followed"
-"""In a scope: a future that is done once the client has sent something behind the request: what
-waits is answered then, so that it hides neither another request nor the end of the connection."""
+"""In a scope: a future that is done when the client has sent something after the request. Requests
+that wait are then answered, because they would hide another request or the end of the
+connection.
+"""
 CROWDING = "sagas.crowding"
-"""In a scope: why only health and operators are answered now, or None."""
+"""In a scope: why only health checks and operators are answered now, or None."""
 LEAVE = "sagas.leave"
-"""In a scope: functions that are called when the request is over."""
+"""In a scope: functions that are called when the request ends."""
 CONTENT = (
     "default-src 'none'; style-src 'self'; script-src 'self'; img-src 'self'; connect-src 'self'; "
     "form-action 'self'; frame-ancestors 'none'; base-uri 'none'"
@@ -61,31 +59,30 @@ HEADERS = [
     (b"cross-origin-resource-policy", b"same-origin"),
     (b"cache-control", b"no-store"),
 ]
-"""Where an answer has no other of the name."""
+"""Headers that an answer gets unless it has its own."""
 logger = logging.getLogger("sagas.http")
 
 
 TOKEN = re.compile(rb"[!#$%&'*+.^_`|~0-9A-Za-z-]+")
-"""What a header's name may be."""
+"""A valid header name."""
 ONCE = (b"host", b"content-length", b"transfer-encoding", b"authorization")
-"""Headers of which a request has one at most: of two, whoever stands before this service may have
-read the other."""
+"""Headers that a request may have only once. A proxy may have used another one of two."""
 DASHBOARD = "/ui"
 LOGIN = "/ui/login"
 MOST_LOGIN = 4096
-"""Bytes of the one form that needs no session."""
+"""Maximum bytes of the login form, which needs no session."""
 MOST_SHOWN = 200
-"""Characters of a header that a refusal tells."""
+"""Maximum characters of a header that a message quotes."""
 
 
 class Refusal(Exception):
-    """The body is too long or too slow, and that is answered: whatever the application says of
-    it is not.
+    """The body is too long or too slow, and this was answered. The application's answer is
+    dropped.
     """
 
 
 def check_headers(scope: Scope) -> None:
-    """Raises `ValueError` where somebody else may read the request's head otherwise."""
+    """Raise `ValueError` if another program could read the request's head differently."""
     names = [name.lower() for name, _ in scope["headers"]]
     if not all(TOKEN.fullmatch(name) for name in names) or any(
         names.count(name) > 1 for name in ONCE
@@ -98,15 +95,17 @@ def check_headers(scope: Scope) -> None:
 
 
 def forwarded(scope: Scope, trusted: tuple[Network, ...]) -> None:
-    """Where a trusted proxy hands the request on: its client is the last one that is no such proxy,
-    and its scheme as the proxy says."""
+    """Use the client and scheme that a trusted proxy reports.
+
+    The client is the last address that is not a trusted proxy.
+    """
     client = scope.get("client")
     if not client or not is_among(client[0], trusted):
         return
-    told = [
+    values = [
         value.decode("latin-1") for name, value in scope["headers"] if name == b"x-forwarded-for"
     ]
-    for host in reversed([one.strip() for one in ",".join(told).split(",")]):
+    for host in reversed([address.strip() for address in ",".join(values).split(",")]):
         if not is_address(host):
             break
         scope["client"] = host, 0
@@ -118,18 +117,18 @@ def forwarded(scope: Scope, trusted: tuple[Network, ...]) -> None:
 
 
 def headers(scope: Scope) -> dict[bytes, str]:
-    """The headers' values; of one that is there more than once, the first."""
+    """Return the headers' values. For duplicates, the first one counts."""
     return {name: value.decode("latin-1") for name, value in reversed(scope["headers"])}
 
 
 @functools.lru_cache(16)  # few: a header may be long
 def names_loopback(host: str) -> bool:
-    """Whether a header `Host` names this machine's loopback. Raises `ValueError`."""
+    """Return whether a `Host` header names this machine's loopback. Raises `ValueError`."""
     return is_loopback(urlsplit(f"//{host}").hostname or "")
 
 
 def parted(raw: bytes) -> str | None:
-    """A path whose parts are decoded each by itself; None where one is no UTF-8."""
+    """Return a path with each part decoded separately, or None if one is not UTF-8."""
     try:
         if b"%" not in raw:
             return raw.decode("utf-8")
@@ -139,15 +138,17 @@ def parted(raw: bytes) -> str | None:
     return "/".join(part.replace("/", SLASH) for part in parts)
 
 
-def foreign(told: dict[bytes, str], host: str) -> str | None:
-    """By which headers a request comes from a page of another site; None where it does not. Raises
-    `ValueError`."""
-    origin, site = told.get(b"origin"), told.get(b"sec-fetch-site")
+def foreign(fields: dict[bytes, str], host: str) -> str | None:
+    """Return which headers show that a request comes from a page of another site, or None.
+
+    Raises `ValueError`.
+    """
+    origin, site = fields.get(b"origin"), fields.get(b"sec-fetch-site")
     if origin is not None and urlsplit(origin).netloc != host:
         return (
             f"the request has the Origin {origin[:MOST_SHOWN]!r} and the Host "
-            f"{host[:MOST_SHOWN]!r}. A proxy has to pass on the Host that the browser sends, with "
-            "its port"
+            f"{host[:MOST_SHOWN]!r}. A proxy must forward the browser's Host header, "
+            "with its port"
         )
     if site in ("cross-site", "same-site"):
         return f"the request has the Sec-Fetch-Site {site!r}"
@@ -155,17 +156,17 @@ def foreign(told: dict[bytes, str], host: str) -> str | None:
 
 
 def answer_of(scope: Scope, problem: Problem) -> Response:
-    """How a request is refused: in the dashboard with a page, since a person reads it."""
+    """Return the answer that refuses a request. For the dashboard, it is a page."""
     if scope["path"] != DASHBOARD and not scope["path"].startswith(f"{DASHBOARD}/"):
         return problems.response(problem)
-    told = {"title": problem.kind.title, "text": f"{problem}.", "back": DASHBOARD}
-    page = renderer.render("fault.html", {**told, "session": None, "here": ""})
+    values = {"title": problem.kind.title, "text": f"{problem}.", "back": DASHBOARD}
+    page = renderer.render("fault.html", {**values, "session": None, "here": ""})
     headers = problems.HEADERS.get(problem.kind.status, {}) | problem.headers
-    return HTMLResponse(renderer.sent(page), problem.kind.status, headers)
+    return HTMLResponse(renderer.encoded(page), problem.kind.status, headers)
 
 
 class Guard:
-    """The outermost of the application."""
+    """The outermost layer of the application."""
 
     def __init__(self, app: App, service: Service, connections: Connections | None) -> None:
         self.app, self.service, self.settings = app, service, service.settings
@@ -186,31 +187,35 @@ class Guard:
         await Passage(self, scope, receive, send, connection).run()
 
     def refusal(self, scope: Scope) -> Problem | None:
-        """Why a request is not even looked at. Raises `ValueError` where its head cannot be
-        read."""
+        """Return why a request is refused before it is routed, or None.
+
+        Raises `ValueError` if its head cannot be read.
+        """
         check_headers(scope)
-        told = headers(scope)
-        if b"x-forwarded-for" in told or b"x-forwarded-proto" in told:
+        fields = headers(scope)
+        if b"x-forwarded-for" in fields or b"x-forwarded-proto" in fields:
             forwarded(scope, self.settings.trusted_proxies)
         path = parted(scope.get("raw_path") or scope["path"].encode())
         if path is None:
-            return Problem("MalformedRequest", "a part of the path is no UTF-8")
+            return Problem("MalformedRequest", "the path is not valid UTF-8")
         scope["path"] = path
-        host = told.get(b"host", "")
+        host = fields.get(b"host", "")
         if self.settings.tokens is None and not names_loopback(host):
             return Problem(
-                "UnknownHost", "without a token file only the loopback's own names are answered to"
+                "UnknownHost", "without a token file, the Host must be a name of the loopback"
             )
         if scope["method"] not in ("GET", "HEAD", "OPTIONS"):
-            if why := foreign(told, host):
-                return Problem("CrossOrigin", f"only pages of this service change something: {why}")
-        length, most = told.get(b"content-length"), self.most(scope)
-        if length is not None and (not length.isdigit() or len(length) > 12 or int(length) > most):
-            return too_large(most)
+            if why := foreign(fields, host):
+                return Problem(
+                    "CrossOrigin", f"requests from pages of other sites are refused: {why}"
+                )
+        length, limit = fields.get(b"content-length"), self.most(scope)
+        if length is not None and (not length.isdigit() or len(length) > 12 or int(length) > limit):
+            return too_large(limit)
         return None
 
     def most(self, scope: Scope) -> int:
-        """Bytes that the body may have."""
+        """Return the maximum bytes of a request's body."""
         return (
             min(MOST_LOGIN, self.settings.most_body)
             if scope["path"] == LOGIN
@@ -218,13 +223,13 @@ class Guard:
         )
 
 
-def too_large(most: int) -> Problem:
-    """A body has more bytes than it may have."""
-    return Problem("BodyTooLarge", f"a body has at most {most} bytes")
+def too_large(limit: int) -> Problem:
+    """Return the problem for a body that exceeds the limit."""
+    return Problem("BodyTooLarge", f"the body must have at most {limit} bytes")
 
 
 def has_body(scope: Scope) -> bool:
-    """Whether a body may follow the head."""
+    """Return whether a body may follow the head."""
     for name, value in scope["headers"]:
         if name == b"transfer-encoding" or (name == b"content-length" and value != b"0"):
             return True
@@ -232,7 +237,7 @@ def has_body(scope: Scope) -> bool:
 
 
 class Passage:
-    """One request on its way."""
+    """The processing of one request."""
 
     def __init__(
         self, guard: Guard, scope: Scope, receive: Receive, send: Send, by: Connection | None
@@ -268,8 +273,11 @@ class Passage:
             self.guard.service.request(self.scope, self.status, time.monotonic() - self.began)
 
     async def _lost(self) -> None:
-        """Until the connection is lost: before, uvicorn takes the end of a request without an
-        answer for a fault, and answers itself."""
+        """Wait until the connection is lost.
+
+        Earlier, uvicorn would treat a request without an answer as an error, and answer by
+        itself.
+        """
         if self._connection:
             await self._connection.lost
             return
@@ -284,12 +292,10 @@ class Passage:
         except Problem as problem:
             return problem
         except ValueError:
-            return Problem(
-                "MalformedRequest", "a header of the request cannot be read, or is there twice"
-            )
+            return Problem("MalformedRequest", "a header of the request is malformed or duplicated")
 
     def _occupy(self, client: Any) -> None:
-        """Count a request that a proxy hands on with those of its own address. Raises `Problem`."""
+        """Count a forwarded request as one of its own address. Raises `Problem`."""
         peer = self._connection and self._connection.peer
         if self.guard.connections and client and peer and client[0] != peer[0]:
             self.scope[LEAVE].append(self.guard.connections.occupy(client[0]))
@@ -305,50 +311,54 @@ class Passage:
             logger.exception("a request failed", extra={"sagas": {"path": self.scope["path"]}})
             if not self.status:
                 await self._refuse(
-                    Problem("InternalError", "this is a fault of the service; its log says more")
+                    Problem(
+                        "InternalError",
+                        "the service has an internal error; its log has the details",
+                    )
                 )
 
     async def receive(self) -> Message:
-        """The next part of the body, all of it in one time and within its size; then that the
-        client is gone."""
+        """Return the next part of the body, within the limits of size and time.
+
+        After the body, it returns that the client is gone.
+        """
         if self._is_read:
             return await self._receive()
         message = await self._in_time()
         if message["type"] == "http.request":
             self._size += len(message.get("body", b""))
             self._is_read = not message.get("more_body", False)
-            if self._size > (most := self.guard.most(self.scope)):
-                await self._refuse(too_large(most))
+            if self._size > (limit := self.guard.most(self.scope)):
+                await self._refuse(too_large(limit))
                 raise Refusal
             if self._is_read and self._connection:
                 self._connection.is_whole()
         return message
 
     async def _in_time(self) -> Message:
-        """The next part of a body that is still to come: however many there are, they have one time
-        together."""
+        """Return the next part of a body. All parts share one deadline."""
         try:
             async with asyncio.timeout_at(self._until):
                 return await self._receive()
         except TimeoutError:
-            await self._refuse(Problem("RequestTimeout", "the body did not come in time"))
+            await self._refuse(Problem("RequestTimeout", "the body did not arrive in time"))
             raise Refusal from None
 
     async def send(self, message: Message) -> None:
-        """Sends what the application answers."""
+        """Send what the application answers."""
         if not self._refused and not self.scope[GONE].done():
             await self._say(message)
 
     async def _say(self, message: Message) -> None:
-        """Sends, with the headers that every answer has."""
+        """Send a message, with the headers of every answer."""
         if message["type"] == "http.response.start":
             self.status = message["status"]
-            there = {name.lower() for name, _ in message["headers"]}
-            more = [pair for pair in HEADERS if pair[0] not in there]
-            message["headers"] = [*message["headers"], *more]
-            if self.guard.service.is_stopping and b"connection" not in there:
+            present = {name.lower() for name, _ in message["headers"]}
+            missing = [pair for pair in HEADERS if pair[0] not in present]
+            message["headers"] = [*message["headers"], *missing]
+            if self.guard.service.is_stopping and b"connection" not in present:
                 message["headers"].append((b"connection", b"close"))
-            if self._connection and b"content-length" in there:  # its body follows at once
+            if self._connection and b"content-length" in present:  # its body follows at once
                 self._connection.outlet.hold()
             await self._send(message)
             return

@@ -1,7 +1,7 @@
-"""The OpenAPI document of the API, made of its operations.
+"""The OpenAPI document of the API, generated from its operations.
 
-`python3 -m sagas.server.openapi` prints it; the repository has it as `openapi.json` beside this
-module, and the service serves that file.
+`python3 -m sagas.server.openapi` prints it. The repository has it as `openapi.json` next to
+this module, and the service serves that file.
 """
 
 from __future__ import annotations
@@ -28,7 +28,7 @@ TITLE, VERSION = "sagas", "1"
 TAGS = {
     "sagas": "Start sagas, wait for them, and decide approvals.",
     "workers": "Claim tasks and report them.",
-    "operators": "What needs a person, changes of many sagas, health and metrics.",
+    "operators": "What needs an operator, bulk actions, health and metrics.",
     "definitions": "The definitions that the service has.",
 }
 ALWAYS = (
@@ -78,21 +78,21 @@ def _file() -> tuple[bytes, str]:
 
 
 def problems_of(operation: Operation) -> dict[int, list[str]]:
-    """The problems of an operation by their statuses."""
+    """Return the problems of an operation, by status."""
     names = [*ALWAYS, *operation.problems]
-    names += WITH_TOKEN if operation.may else ()
+    names += WITH_TOKEN if operation.permission else ()
     names += WITH_BODY if operation.body else ()
-    found: dict[int, list[str]] = {}
+    result: dict[int, list[str]] = {}
     for name in sorted(set(names)):
-        found.setdefault(PROBLEMS[name].status, []).append(name)
-    return dict(sorted(found.items()))
+        result.setdefault(PROBLEMS[name].status, []).append(name)
+    return dict(sorted(result.items()))
 
 
 def answer_of(answer: Answer) -> dict[str, Any]:
-    """An answer as the document has it."""
-    told: dict[str, Any] = {"description": answer.told}
+    """Return a response object of the document."""
+    result: dict[str, Any] = {"description": answer.description}
     if answer.headers:
-        told["headers"] = {
+        result["headers"] = {
             name: {"description": text, "schema": {"type": "string"}}
             for name, text in answer.headers.items()
         }
@@ -101,19 +101,19 @@ def answer_of(answer: Answer) -> dict[str, Any]:
         content = {"schema": {"type": "string"}}
     if answer.example is not None:
         content["examples"] = {"example": {"value": answer.example}}
-    told["content"] = {answer.media_type: content}
+    result["content"] = {answer.media_type: content}
     if answer.or_text:
-        told["content"]["text/plain"] = {"schema": {"type": "string"}}
-    return told
+        result["content"]["text/plain"] = {"schema": {"type": "string"}}
+    return result
 
 
 def title_of(names: list[str]) -> str:
-    """The name of an answer with one of some problems."""
+    """Return the name of a response with one of several problems."""
     return ".".join(names)
 
 
 def problem_of(status: int, names: list[str]) -> dict[str, Any]:
-    """The problems of one status."""
+    """Return the response object for the problems of one status."""
     first = names[0]
     example = {
         "type": PREFIX + first,
@@ -133,8 +133,8 @@ def problem_of(status: int, names: list[str]) -> dict[str, Any]:
 
 
 def parameters_of(operation: Operation) -> list[dict[str, Any]]:
-    """The parameters of an operation, those of its path first."""
-    found: list[dict[str, Any]] = [
+    """Return the parameters of an operation, those of its path first."""
+    parameters: list[dict[str, Any]] = [
         {
             "name": name,
             "in": "path",
@@ -144,79 +144,81 @@ def parameters_of(operation: Operation) -> list[dict[str, Any]]:
         }
         for name in re.findall(r"{(\w+)}", operation.path)
     ]
-    for place, fields in (("query", operation.query), ("header", operation.headers)):
+    for location, fields in (("query", operation.query), ("header", operation.headers)):
         for name, field in fields.items():
             schema = dict(field.schema())
-            told = {"name": name, "in": place, "description": schema.pop("description", "")}
-            found.append({**told, "required": field.is_required, "schema": schema})
-    return found
+            parameter = {"name": name, "in": location, "description": schema.pop("description", "")}
+            parameters.append({**parameter, "required": field.is_required, "schema": schema})
+    return parameters
 
 
 def operation_of(operation: Operation) -> dict[str, Any]:
-    """An operation as the document has it."""
-    summary, more = operation.told
-    told: dict[str, Any] = {"operationId": operation.name, "tags": [operation.tag]}
-    told["summary"] = summary
+    """Return an operation object of the document."""
+    summary, more = operation.documentation
+    result: dict[str, Any] = {"operationId": operation.name, "tags": [operation.tag]}
+    result["summary"] = summary
     if more:
-        told["description"] = more
-    if operation.may:
-        roles = [role for role, may in ROLES.items() if operation.may in may]
-        told["x-roles"] = roles
-        told["security"] = [{"token": []}]
+        result["description"] = more
+    if operation.permission:
+        roles = [role for role, may in ROLES.items() if operation.permission in may]
+        result["x-roles"] = roles
+        result["security"] = [{"token": []}]
     else:
-        told["security"] = []
+        result["security"] = []
     if parameters := parameters_of(operation):
-        told["parameters"] = parameters
+        result["parameters"] = parameters
     if operation.body:
         content: dict[str, Any] = {"schema": operation.body.schema()}
         if operation.body.example is not None:
             content["examples"] = {"example": {"value": operation.body.example}}
-        told["requestBody"] = {
+        result["requestBody"] = {
             "required": not operation.body.is_optional,
             "content": {"application/json": content},
         }
-    found = {str(status): answer_of(one) for status, one in operation.answers.items()}
+    responses = {str(status): answer_of(answer) for status, answer in operation.answers.items()}
     for status, names in problems_of(operation).items():
-        found.setdefault(str(status), {"$ref": f"#/components/responses/{title_of(names)}"})
+        responses.setdefault(str(status), {"$ref": f"#/components/responses/{title_of(names)}"})
     if any(answer.headers.get("ETag") for answer in operation.answers.values()):
-        found["304"] = {"description": "Nothing has changed since `If-None-Match`."}
-    told["responses"] = dict(sorted(found.items()))
-    return told
+        responses["304"] = {"description": "Nothing has changed since `If-None-Match`."}
+    result["responses"] = dict(sorted(responses.items()))
+    return result
 
 
 def document(operations: Iterable[Operation]) -> dict[str, Any]:
-    """The document."""
+    """Return the document."""
     paths: dict[str, Any] = {}
-    found: dict[str, Record] = {answers.PROBLEM.name: answers.PROBLEM}
+    records_by_name: dict[str, Record] = {answers.PROBLEM.name: answers.PROBLEM}
     shared: dict[str, Any] = {}
-    for one in operations:
-        paths.setdefault(one.path, {})[one.method.lower()] = operation_of(one)
-        for shape in [one.body, *(answer.shape for answer in one.answers.values())]:
-            found |= records(shape) if shape else {}
-        for status, names in problems_of(one).items():
+    for operation in operations:
+        paths.setdefault(operation.path, {})[operation.method.lower()] = operation_of(operation)
+        for shape in [operation.body, *(answer.shape for answer in operation.answers.values())]:
+            records_by_name |= records(shape) if shape else {}
+        for status, names in problems_of(operation).items():
             shared[title_of(names)] = problem_of(status, names)
     return {
         "openapi": "3.1.0",
         "info": {
             "title": TITLE,
             "version": VERSION,
-            "summary": "Start sagas, claim tasks, and see what needs a person.",
-            "description": "Times are seconds since 1970, and RFC 3339 in the field beside.",
+            "summary": "Start sagas, claim tasks, and see what needs an operator.",
+            "description": "Each time is in seconds since 1970, and as RFC 3339 text.",
             "license": {"name": "Apache-2.0", "identifier": "Apache-2.0"},
         },
         "jsonSchemaDialect": "https://json-schema.org/draft/2020-12/schema",
         "servers": [{"url": "/"}],
-        "tags": [{"name": name, "description": told} for name, told in TAGS.items()],
+        "tags": [{"name": name, "description": description} for name, description in TAGS.items()],
         "security": [{"token": []}],
         "paths": dict(sorted(paths.items())),
         "components": {
-            "schemas": {name: one.whole() for name, one in sorted(found.items())},
+            "schemas": {
+                name: operation.whole() for name, operation in sorted(records_by_name.items())
+            },
             "responses": dict(sorted(shared.items())),
             "securitySchemes": {
                 "token": {
                     "type": "http",
                     "scheme": "bearer",
-                    "description": "`sagas token` makes one. Without a token file there is none.",
+                    "description": "`sagas token` creates one.",
                 }
             },
         },
@@ -224,7 +226,7 @@ def document(operations: Iterable[Operation]) -> dict[str, Any]:
 
 
 def text() -> str:
-    """The file's text."""
+    """Return the content of the file."""
     from sagas.server.app import operations
 
     return json.dumps(document(operations()), indent=1, ensure_ascii=False) + "\n"

@@ -16,9 +16,9 @@ from starlette.routing import Route
 from sagas.base.errors import SagasError
 from sagas.definition.validation import meant
 from sagas.server import json_texts, problems
-from sagas.server.access import admit, body_of, check_room, service_of, unslashed
-from sagas.server.auth import NOBODY, May, Who
-from sagas.server.dashboard_session import still_of
+from sagas.server.access import authorize, body_of, check_capacity, service_of, unslashed
+from sagas.server.auth import ANONYMOUS, Permission, Principal
+from sagas.server.dashboard_session import current_session
 from sagas.server.middleware import Receive, Scope, Send
 from sagas.server.problems import Problem
 from sagas.server.service import Service
@@ -40,22 +40,22 @@ logger = logging.getLogger("sagas.server")
 
 @dataclasses.dataclass(slots=True)
 class Call:
-    """A request that was let in and read: who makes it, and the values of its parts."""
+    """An authorized and parsed request."""
 
     request: Request
-    who: Who
+    principal: Principal
     path: Mapping[str, Any]
     query: Mapping[str, Any]
     body: Any
 
     @property
     def service(self) -> Service:
-        """The service that is asked."""
+        """Return the service."""
         return service_of(self.request)
 
     @property
     def key(self) -> str:
-        """The key of the saga that the path names."""
+        """Return the key of the saga that the path names."""
         key: str = self.path["key"]
         return key
 
@@ -66,10 +66,12 @@ Refuse = Callable[[Request, Problem], Response]
 
 @dataclasses.dataclass(frozen=True)
 class Answer:
-    """An answer of an operation: JSON of a shape, or another media type. `or_text`: by a parameter
-    also as plain text."""
+    """A response of an operation: JSON of a shape, or another media type.
 
-    told: str
+    `or_text`: a parameter can select plain text instead.
+    """
+
+    description: str
     shape: Shape | None = None
     media_type: str = "application/json"
     example: Any = None
@@ -81,16 +83,18 @@ class Answer:
 class Operation:
     """One method of one path.
 
-    `headers`: what its handler reads of the request's headers; `problems`: the names of those that
-    are its own, beside those that any operation has. `may`: what the token has to allow; None: it
-    needs none."""
+    Attributes:
+        headers: The request headers that its handler reads.
+        problems: The problems of this operation, in addition to those of every operation.
+        permission: What the token must permit. None: no token is needed.
+    """
 
     method: str
     path: str
     name: str
     tag: str
     handler: Handler
-    may: May | None = None
+    permission: Permission | None = None
     parts: Mapping[str, Shape] = dataclasses.field(default_factory=dict)
     query: Mapping[str, Field] = dataclasses.field(default_factory=dict)
     headers: Mapping[str, Field] = dataclasses.field(default_factory=dict)
@@ -100,68 +104,70 @@ class Operation:
     streams: bool = False
 
     @property
-    def told(self) -> tuple[str, str]:
-        """Its summary and its description."""
+    def documentation(self) -> tuple[str, str]:
+        """Return its summary and its description."""
         summary, _, more = (self.handler.__doc__ or "").partition("\n\n")
         return " ".join(summary.split()).rstrip("."), " ".join(more.split())
 
-    async def call(self, request: Request, who: Who, is_open: bool) -> Call:
-        """What a request asks. Raises `Problem`."""
+    async def call(self, request: Request, principal: Principal, is_open: bool) -> Call:
+        """Parse a request. Raises `Problem`."""
         path = {name: unslashed(text) for name, text in request.path_params.items()}
         try:
             for name, shape in self.parts.items():
                 path[name] = shape.of_text(path[name], name)
         except Invalid:
-            raise not_found() from None
+            raise path_not_found() from None
         query = read_query(self.query, request, is_open)
         body = None if self.body is None else await read_body(self.body, request)
-        return Call(request, who, path, query, body)
+        return Call(request, principal, path, query, body)
 
 
 KEY = Text(most=512, least=1)
 
 
-def not_found() -> Problem:
-    """There is no such path."""
-    return Problem("NotFound", "there is no such path: /openapi.json lists all")
+def path_not_found() -> Problem:
+    """Return the problem for a path that does not exist."""
+    return Problem("NotFound", "the path does not exist; /openapi.json lists all paths")
 
 
 def read_query(fields: Mapping[str, Field], request: Request, is_open: bool) -> dict[str, Any]:
-    """The parameters of a query. `is_open`: of a page, which passes over others. Raises
-    `Problem`."""
-    found = {name: field.default for name, field in fields.items()}
+    """Parse the parameters of a query. Raises `Problem`.
+
+    `is_open`: unknown parameters are ignored, as on pages.
+    """
+    values = {name: field.default for name, field in fields.items()}
     seen: set[str] = set()
     try:
         for name, text in request.query_params.multi_items():
             shape = fields[name].shape if name in fields else None
             if isinstance(shape, Several):
-                some = [*(found[name] or ()), shape.of.of_text(text, name)]
-                found[name] = shape.read(some, name)
+                texts = [*(values[name] or ()), shape.of.of_text(text, name)]
+                values[name] = shape.read(texts, name)
             elif name in fields and name not in seen and (text or not is_open):
-                found[name] = fields[name].shape.of_text(text, name)
+                values[name] = fields[name].shape.of_text(text, name)
             elif name in seen:
-                raise Invalid(name, "it is there twice")
+                raise Invalid(name, "must occur only once")
             elif name not in fields and not is_open:
                 shown = name[:MOST_SHOWN]
-                raise Invalid(shown, f"there is no such parameter{meant(shown, [*fields])}")
+                raise Invalid(shown, f"unknown parameter{meant(shown, [*fields])}")
             seen.add(name)
-        for name, value in found.items():
+        for name, value in values.items():
             if value is REQUIRED:
-                raise Invalid(name, "it is missing")
+                raise Invalid(name, "is required")
     except Invalid as error:
         raise invalid(error) from None
-    return found
+    return values
 
 
 async def read_body(shape: Record, request: Request) -> dict[str, Any]:
-    """The body as its shape has it. Raises `Problem`."""
+    """Parse the body by its shape. Raises `Problem`."""
     sent = request.headers.get("content-type", "").partition(";")[0].strip().lower()
     is_empty = shape.is_optional and not sent
     if not is_empty and sent != "application/json" and not sent.endswith("+json"):
-        shown = repr(sent[:MOST_SHOWN]) if sent else "without a Content-Type"
+        shown = f"as {sent[:MOST_SHOWN]!r}" if sent else "without a Content-Type"
         raise Problem(
             "UnsupportedMediaType",
-            f"the body was sent as {shown}: send it with Content-Type: application/json",
+            f"the body was sent {shown}: send it with Content-Type: application/json",
             headers={"Accept": "application/json"},
         )
     text = await body_of(request)
@@ -171,12 +177,12 @@ async def read_body(shape: Record, request: Request) -> dict[str, Any]:
     try:
         value = read() if len(text) < LARGE else await service_of(request).threads.answers.do(read)
     except json.JSONDecodeError as error:
-        why = f"the body is not JSON at line {error.lineno}: send an object"
+        why = f"the body is not valid JSON (line {error.lineno}): send an object"
         raise Problem("InvalidJson", why) from None
     except UnicodeDecodeError:
         raise Problem("InvalidJson", "the body is not UTF-8: send an object as JSON") from None
     except ValueError as error:
-        raise Problem("InvalidJson", f"the body is not JSON that can be taken: {error}") from None
+        raise Problem("InvalidJson", f"the body is not accepted as JSON: {error}") from None
     try:
         return shape.read(value, "")
     except Invalid as error:
@@ -184,14 +190,15 @@ async def read_body(shape: Record, request: Request) -> dict[str, Any]:
 
 
 def invalid(error: Invalid) -> Problem:
-    """A part of the request that does not fit its shape."""
+    """Return the problem for a part of the request that does not match its shape."""
     return Problem("InvalidRequest", f"{error.field or 'the body'}: {error}", error.field or None)
 
 
 class Resource:
-    """The operations of one path. An ASGI application.
+    """The operations of one path, as an ASGI application.
 
-    `refuse`: how a problem is answered; `is_page`: whether it is the dashboard's."""
+    `refuse` answers a problem. `is_page`: whether it belongs to the dashboard.
+    """
 
     def __init__(self, path: str, is_page: bool, refuse: Refuse) -> None:
         self.path, self._is_page, self._refuse = path, is_page, refuse
@@ -199,7 +206,7 @@ class Resource:
 
     @property
     def allowed(self) -> str:
-        """The header `Allow`."""
+        """Return the value of the `Allow` header."""
         names = {*self.operations} | ({"HEAD"} if "GET" in self.operations else set())
         return ", ".join(sorted(names))
 
@@ -222,69 +229,78 @@ class Resource:
             return self._refuse(request, Problem("InternalError", why))
 
     async def _carried_out(self, request: Request) -> Response:
-        """The answer. Whoever may not is refused before a byte of the body is read. Raises
-        `Problem`, and errors of the package."""
+        """Return the answer.
+
+        Without permission, a request is refused before its body is read. Raises `Problem`, and
+        errors of the package.
+        """
         method = request.method
         operation = self.operations.get("GET" if method == "HEAD" else method)
         if operation is None:
             raise Problem(
-                "MethodNotAllowed", f"this path has {self.allowed}", headers={"Allow": self.allowed}
+                "MethodNotAllowed",
+                f"this path supports only {self.allowed}",
+                headers={"Allow": self.allowed},
             )
-        if operation.may is None:
-            who = NOBODY
-            check_room(request, is_operator=self._is_page and still_of(request) is not None)
+        if operation.permission is None:
+            principal = ANONYMOUS
+            check_capacity(
+                request, is_operator=self._is_page and current_session(request) is not None
+            )
         else:
-            who = admit(request, operation.may)
-        call = await operation.call(request, who, self._is_page)
+            principal = authorize(request, operation.permission)
+        call = await operation.call(request, principal, self._is_page)
         if method == "HEAD" and operation.streams:
             return Response(media_type="text/event-stream")
         return await operation.handler(call)
 
 
 def headers_of(answer: Response) -> Response:
-    """An answer without its body."""
+    """Return an answer without its body."""
     head = Response(status_code=answer.status_code)
     head.raw_headers = answer.raw_headers
     return head
 
 
 class Routes:
-    """Operations with a common beginning of their paths, declared by decorators."""
+    """Operations with a common path prefix, declared by decorators."""
 
     def __init__(self, tag: str, prefix: str = "", is_page: bool = False) -> None:
         self.tag, self.prefix, self.is_page = tag, prefix, is_page
         self.operations: list[Operation] = []
 
-    def get(self, path: str, name: str = "", **words: Any) -> Callable[[Handler], Handler]:
-        """Declare what `GET` does."""
-        return self._declare("GET", path, name, words)
+    def get(self, path: str, name: str = "", **options: Any) -> Callable[[Handler], Handler]:
+        """Declare the handler of `GET`."""
+        return self._declare("GET", path, name, options)
 
-    def post(self, path: str, name: str = "", **words: Any) -> Callable[[Handler], Handler]:
-        """Declare what `POST` does."""
-        return self._declare("POST", path, name, words)
+    def post(self, path: str, name: str = "", **options: Any) -> Callable[[Handler], Handler]:
+        """Declare the handler of `POST`."""
+        return self._declare("POST", path, name, options)
 
-    def delete(self, path: str, name: str = "", **words: Any) -> Callable[[Handler], Handler]:
-        """Declare what `DELETE` does."""
-        return self._declare("DELETE", path, name, words)
+    def delete(self, path: str, name: str = "", **options: Any) -> Callable[[Handler], Handler]:
+        """Declare the handler of `DELETE`."""
+        return self._declare("DELETE", path, name, options)
 
     def _declare(
-        self, method: str, path: str, name: str, words: dict[str, Any]
+        self, method: str, path: str, name: str, options: dict[str, Any]
     ) -> Callable[[Handler], Handler]:
         def declare(handler: Handler) -> Handler:
             self.operations.append(
-                Operation(method, self.prefix + path, name, self.tag, handler, **words)
+                Operation(method, self.prefix + path, name, self.tag, handler, **options)
             )
             return handler
 
         return declare
 
 
-def resources(some: list[Routes], refuse: Refuse, refuse_page: Refuse) -> list[Route]:
-    """The routes of a router: one for each path."""
-    found: dict[str, Resource] = {}
-    for routes in some:
-        for one in routes.operations:
+def resources(groups: list[Routes], refuse: Refuse, refuse_page: Refuse) -> list[Route]:
+    """Return the routes of a router, one for each path."""
+    result: dict[str, Resource] = {}
+    for routes in groups:
+        for operation in routes.operations:
             shown = refuse_page if routes.is_page else refuse
-            resource = found.setdefault(one.path, Resource(one.path, routes.is_page, shown))
-            resource.operations[one.method] = one
-    return [Route(path, resource) for path, resource in found.items()]
+            resource = result.setdefault(
+                operation.path, Resource(operation.path, routes.is_page, shown)
+            )
+            resource.operations[operation.method] = operation
+    return [Route(path, resource) for path, resource in result.items()]

@@ -1,4 +1,4 @@
-"""How many requests each token may have at work at once, by what they do."""
+"""Limits on concurrent requests of each token, by what they do."""
 
 from __future__ import annotations
 
@@ -7,21 +7,21 @@ from collections import Counter
 from collections.abc import Callable
 
 from sagas.server.problems import Problem
-from sagas.server.settings import PlaceSettings
+from sagas.server.settings import ConcurrencySettings
 
 
 class Kind(enum.Enum):
-    """What a place is taken for."""
+    """The kinds of requests that are limited."""
 
-    CONNECTION = "connections with a request"
+    CONNECTION = "connections with an active request"
     WAIT = "requests that wait for a saga"
     CLAIM = "claims"
 
 
-class Places:
-    """The places of all tokens; without tokens, of all addresses."""
+class ConcurrencyLimits:
+    """The slots of all tokens, or without tokens of all addresses."""
 
-    def __init__(self, settings: PlaceSettings) -> None:
+    def __init__(self, settings: ConcurrencySettings) -> None:
         self._limits = {
             Kind.CONNECTION: settings.connections_of_token,
             Kind.WAIT: settings.waits,
@@ -29,21 +29,21 @@ class Places:
         }
         self._taken: Counter[tuple[str, Kind]] = Counter()
 
-    def has_room(self, maker: str, kind: Kind) -> bool:
-        """Whether one more may be taken."""
-        return self._taken[maker, kind] < self._limits[kind]
+    def has_room(self, client_key: str, kind: Kind) -> bool:
+        """Return whether one more slot is free."""
+        return self._taken[client_key, kind] < self._limits[kind]
 
-    def take(self, maker: str, kind: Kind) -> Callable[[], None]:
-        """Take one more. Returns what gives it back, which is to be called once.
+    def take(self, client_key: str, kind: Kind) -> Callable[[], None]:
+        """Take a slot. Returns a function that frees it, to be called once.
 
         Raises:
-            Problem: The maker has as many as it may have.
+            Problem: The client has used up its slots.
         """
-        if not self.has_room(maker, kind):
+        if not self.has_room(client_key, kind):
             name = "TooManyConnections" if kind is Kind.CONNECTION else "TooManyWaits"
-            why = f"your token has {self._limits[kind]} {kind.value}: ask again when one has ended"
+            why = f"your token has {self._limits[kind]} {kind.value}: retry when one has ended"
             raise Problem(name, why)
-        key = maker, kind
+        key = client_key, kind
         self._taken[key] += 1
 
         def leave() -> None:

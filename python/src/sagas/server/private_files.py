@@ -1,4 +1,4 @@
-"""Who may read and write the files that say who may do what."""
+"""Checks the permissions of files that grant access."""
 
 from __future__ import annotations
 
@@ -10,19 +10,21 @@ OTHERS_WRITE, OTHERS_READ, GROUP_WRITES = stat.S_IWOTH, stat.S_IROTH, stat.S_IWG
 
 
 def check(path: pathlib.Path) -> None:
-    """Raise `PermissionError` where every user of the machine may write a file."""
+    """Raise `PermissionError` if every user of the machine can write a file."""
     mode = os.stat(path).st_mode
     if mode & OTHERS_WRITE:
         raise PermissionError(f"every user may write it (mode {mode & 0o777:04o}): run chmod o-w")
 
 
 def warning(path: pathlib.Path) -> str | None:
-    """What is wrong with the mode of a file that may be used all the same."""
+    """Return a warning about the mode of a file that is still usable, or None."""
     try:
         mode = os.stat(path).st_mode
     except OSError:
         return None
     if not mode & (OTHERS_READ | GROUP_WRITES):
         return None
-    what = "every user may read it" if mode & OTHERS_READ else "its group may write it"
-    return f"{path}: {what} (mode {mode & 0o777:04o}). Run chmod 600, or 640 for a group that reads"
+    problem = "every user may read it" if mode & OTHERS_READ else "its group may write it"
+    return (
+        f"{path}: {problem} (mode {mode & 0o777:04o}). Run chmod 600, or 640 for a group that reads"
+    )

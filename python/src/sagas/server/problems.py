@@ -10,7 +10,7 @@ from sagas.base.errors import SagasError
 from sagas.server.responses import Json
 
 PREFIX = "urn:sagas:problem:"
-"""Before the name of a problem: its `type`, which never changes."""
+"""The prefix of a problem's `type`, which never changes."""
 MEDIA_TYPE = "application/problem+json"
 MOST_DETAIL = 1000
 logger = logging.getLogger("sagas.server")
@@ -18,7 +18,7 @@ logger = logging.getLogger("sagas.server")
 
 @dataclasses.dataclass(frozen=True, slots=True)
 class Kind:
-    """A problem's status, its title, and whether the same request is worth repeating."""
+    """A problem's status and title, and whether the same request is worth repeating."""
 
     status: int
     title: str
@@ -31,10 +31,10 @@ PROBLEMS = {
     "Unauthorized": Kind(401, "The token is missing, unknown or expired"),
     "Forbidden": Kind(403, "The token does not allow this"),
     "CrossOrigin": Kind(403, "A page of another site sent the request"),
-    "UnknownHost": Kind(403, "Without a token file only the loopback is answered"),
+    "UnknownHost": Kind(403, "Without a token file, only local requests are accepted"),
     "InvalidLease": Kind(403, "The lease was not issued to this worker for this task"),
     "ExpiredForm": Kind(403, "The form is not of this session"),
-    "NoSession": Kind(403, "There is no session of the dashboard"),
+    "NoSession": Kind(403, "The dashboard has no session"),
     "NotFound": Kind(404, "The path does not exist"),
     "NoSuchSaga": Kind(404, "No saga has this key"),
     "NoSuchTask": Kind(404, "No task has this attempt id"),
@@ -44,46 +44,47 @@ PROBLEMS = {
     "NoPlan": Kind(404, "The saga has no plan"),
     "MethodNotAllowed": Kind(405, "The path does not have this method"),
     "RequestTimeout": Kind(408, "The body did not arrive in time", repeat=True),
-    "KeyConflict": Kind(409, "The key has another saga or input"),
-    "StepNotWaiting": Kind(409, "Nobody has to report this"),
+    "KeyConflict": Kind(409, "The key is already used with another saga or input"),
+    "StepNotWaiting": Kind(409, "The saga or step is not waiting for this"),
     "ConflictingReport": Kind(409, "Another outcome was reported first"),
-    "LeaseLost": Kind(409, "The lease is not the newest"),
+    "LeaseLost": Kind(409, "The task has a newer lease"),
     "NotAbortable": Kind(409, "The saga undoes a child"),
     "SagaOver": Kind(409, "The saga is over"),
-    "CountChanged": Kind(409, "The filter selects another number of sagas"),
+    "CountChanged": Kind(409, "The filter now selects another number of sagas"),
     "BodyTooLarge": Kind(413, "The body exceeds the limit"),
-    "UnsupportedMediaType": Kind(415, "The body has another media type"),
+    "UnsupportedMediaType": Kind(415, "The media type of the body is not supported"),
     "InvalidRequest": Kind(422, "The request does not fit the schema"),
     "InvalidKey": Kind(422, "The key cannot be stored"),
-    "InvalidLabel": Kind(422, "A label is not valid"),
+    "InvalidLabel": Kind(422, "A label is invalid"),
     "InvalidInput": Kind(422, "The input does not fit the first steps"),
     "NotSerializable": Kind(422, "A value cannot be stored as JSON"),
-    "InvalidResult": Kind(422, "The result is not that of a child"),
+    "InvalidResult": Kind(422, "The result is not that of a child saga"),
     "TooLarge": Kind(422, "The saga has too many steps or needs for its input"),
     "TooManyRequests": Kind(429, "Too many requests", repeat=True),
     "QuotaExceeded": Kind(429, "The token has too many open sagas", repeat=True),
-    "InternalError": Kind(500, "The service has a fault", repeat=True),
+    "InternalError": Kind(500, "The service has an internal error", repeat=True),
     "TooManyConnections": Kind(503, "There are too many connections", repeat=True),
     "TooManyWaits": Kind(503, "There are too many requests that wait", repeat=True),
     "TooManyStreams": Kind(503, "There are too many event streams", repeat=True),
-    "Stopping": Kind(503, "The service is about to stop", repeat=True),
+    "Stopping": Kind(503, "The service is stopping", repeat=True),
     "Closed": Kind(503, "The store is closed", repeat=True),
-    "RightsChanged": Kind(503, "The rights of the token changed meanwhile", repeat=True),
-    "OwnerUnavailable": Kind(503, "The node that drives the saga does not answer", repeat=True),
+    "RightsChanged": Kind(503, "The rights of the token have changed", repeat=True),
+    "OwnerUnavailable": Kind(503, "The node that executes the saga does not answer", repeat=True),
     "StoreUnavailable": Kind(503, "The store cannot be read or written", repeat=True),
 }
-"""By their names. Those of the package's exceptions are theirs."""
+"""The problems by name. Problems of the package's exceptions have their names."""
 RENAMED = {"DefinitionError": "NoSuchDefinition"}
 REPEAT = sorted({kind.status for kind in PROBLEMS.values() if kind.repeat} | {502, 504})
-"""Statuses of requests that are worth repeating; two of them are of proxies alone."""
+"""Statuses of requests that are worth repeating. Only proxies send 502 and 504."""
 SILENT = {
-    "StoreUnavailable": "the store cannot be read or written now: send the same request again in a "
-    "while. An operator finds the cause in the service's log",
-    "Closed": "the service is about to stop: send the same request again in a while",
-    "OwnerUnavailable": "the node that executes the saga has not answered yet. What was asked may "
-    "still happen: look at the saga, and send the same request again in a while",
+    "StoreUnavailable": "the store cannot be read or written at the moment. Retry the same request "
+    "later; the service's log has the cause",
+    "Closed": "the service is stopping. Retry the same request later",
+    "OwnerUnavailable": "the node that executes the saga has not answered yet. The request may "
+    "still take effect: read the saga, then retry the same request",
 }
-"""What is told of errors whose text has names of hosts, roles, files or nodes: that is logged."""
+"""Details for errors whose text may name hosts, roles, files or nodes. The text itself is logged.
+"""
 HEADERS = {
     401: {"WWW-Authenticate": "Bearer"},
     429: {"Retry-After": "1"},
@@ -96,7 +97,7 @@ class Problem(Exception):
 
     Attributes:
         name: One of `PROBLEMS`.
-        field: The parameter, or the place in the body, that is not valid.
+        field: The parameter, or the path in the body, that is not valid.
         headers: Headers of the answer.
     """
 
@@ -108,12 +109,12 @@ class Problem(Exception):
 
     @property
     def kind(self) -> Kind:
-        """Its status and title."""
+        """Return its status and title."""
         return PROBLEMS[self.name]
 
 
 def of(error: SagasError) -> Problem:
-    """An error of the package: by its own name, or the nearest that there is."""
+    """Return the problem for an error of the package, by the name of its nearest base class."""
     names = (RENAMED.get(kind.__name__, kind.__name__) for kind in type(error).__mro__)
     name = next((name for name in names if name in PROBLEMS), "InternalError")
     if name not in SILENT:
@@ -123,18 +124,18 @@ def of(error: SagasError) -> Problem:
 
 
 def body(problem: Problem) -> dict[str, Any]:
-    """What is answered of a problem."""
-    told: dict[str, Any] = {
+    """Return the problem details of a problem."""
+    fields: dict[str, Any] = {
         "type": PREFIX + problem.name,
         "title": problem.kind.title,
         "status": problem.kind.status,
         "detail": str(problem)[:MOST_DETAIL],
     }
-    return told if problem.field is None else {**told, "field": problem.field}
+    return fields if problem.field is None else {**fields, "field": problem.field}
 
 
 def response(problem: Problem) -> Json:
-    """The answer. Where the service cannot now, it says when to ask again."""
+    """Return the response for a problem, with `Retry-After` if the service is unavailable."""
     status = problem.kind.status
     headers = {**HEADERS.get(status, {}), **problem.headers}
     return Json(body(problem), status, headers, media_type=MEDIA_TYPE)

@@ -1,6 +1,6 @@
 """Templates, pages and static files.
 
-Whatever a template is told is escaped, but for pictures, which escape by themselves.
+All values of a template are escaped, except pictures, which escape their own texts.
 """
 
 from __future__ import annotations
@@ -26,13 +26,13 @@ KINDS = {
 
 
 def _environment() -> Environment:
-    found = Environment(
+    environment = Environment(
         loader=FileSystemLoader(HERE / "templates"),
         autoescape=True,
         trim_blocks=True,
         lstrip_blocks=True,
     )
-    found.filters.update(
+    environment.filters.update(
         ago=lambda at: wording.ago(time.time() - at),
         iso=wording.iso,
         clock=wording.clock,
@@ -46,68 +46,63 @@ def _environment() -> Environment:
         outcome=lambda outcome: wording.OUTCOMES[outcome],
         wait=wording.wait,
         decision=lambda decision: wording.DECISIONS[decision],
-        act=lambda what: wording.ACTS.get(what, what),
+        act=lambda command: wording.ACTS.get(command, command),
         cost=cost_text,
         count=lambda number: f"{number:,}",
         path=lambda key: quote(key, safe=""),
     )
-    return found
+    return environment
 
 
 def cost_text(cost: int | str | None) -> str:
-    """A cost; one that comes from the input is not known here."""
+    """Return a cost as text. A cost that depends on the input has no number here."""
     if isinstance(cost, str):
         return f"by {cost}"
     return "never" if cost is None else f"{cost:,}"
 
 
 def _static() -> dict[str, tuple[str, bytes, str]]:
-    found = {}
+    files = {}
     for path in (HERE / "static").iterdir():
         data = path.read_bytes()
-        found[path.name] = KINDS[path.suffix], data, f'"{hashlib.sha256(data).hexdigest()[:16]}"'
-    return found
+        files[path.name] = KINDS[path.suffix], data, f'"{hashlib.sha256(data).hexdigest()[:16]}"'
+    return files
 
 
 ENVIRONMENT = _environment()
 STATIC = _static()
-"""Kind, bytes and tag of each file, by name."""
+"""Media type, content and entity tag of each static file, by name."""
 
 
-def render(template: str, told: dict[str, Any]) -> str:
-    """A page."""
-    return ENVIRONMENT.get_template(template).render(told)
+def render(template: str, values: dict[str, Any]) -> str:
+    """Render a template."""
+    return ENVIRONMENT.get_template(template).render(values)
 
 
 Within = Callable[[Callable[[], bytes]], Awaitable[bytes]]
-"""Does work elsewhere, and returns what comes of it."""
+"""Executes work in another thread and returns its result."""
 
 
 class Page(HTMLResponse):
-    """A page, which is made when it is sent: a large one takes long, so it is made `within` a
-    thread."""
+    """A page that is rendered when it is sent, `within` a thread because a large one takes long."""
 
-    def __init__(self, within: Within, template: str, told: dict[str, Any], status: int) -> None:
+    def __init__(self, within: Within, template: str, values: dict[str, Any], status: int) -> None:
         super().__init__(status_code=status)
         del self.headers["content-length"]
-        self._within, self._template, self._told = within, template, told
+        self._within, self._template, self._values = within, template, values
 
-    async def __call__(self, *words: Any) -> None:
-        self.body = await self._within(lambda: sent(render(self._template, self._told)))
+    async def __call__(self, *arguments: Any) -> None:
+        self.body = await self._within(lambda: encoded(render(self._template, self._values)))
         self.headers["content-length"] = str(len(self.body))
-        await super().__call__(*words)
+        await super().__call__(*arguments)
 
 
 def compile_all() -> None:
-    """Compile the templates, so that the first who asks for a page does not wait for that. In a
-    thread.
-    """
+    """Compile the templates in a thread, so that the first request does not wait for it."""
     for name in ENVIRONMENT.list_templates():
         ENVIRONMENT.get_template(name)
 
 
-def sent(text: str) -> bytes:
-    """A page or a picture as it is sent; JSON may hold halves of pairs of characters, which are
-    shown by their numbers.
-    """
+def encoded(text: str) -> bytes:
+    """Return an encoded page or picture. Lone surrogates from JSON are shown as escapes."""
     return text.encode("utf-8", "backslashreplace")

@@ -1,8 +1,8 @@
-"""Where each request of a connection ends, before any other program reads it.
+"""Finds where each request of a connection ends, before any other program reads it.
 
-What two programs may read in two ways is refused here: folded headers, lines that end without a
-carriage return, two lengths, transfer codings other than `chunked`, and HTTP/0.9. A proxy before
-the service may have read another request than the server behind this.
+Input that two programs could read differently is refused: folded headers, lines without a
+carriage return, two lengths, transfer codings other than `chunked`, and HTTP/0.9. Otherwise, a
+proxy could see other requests than the server.
 """
 
 from __future__ import annotations
@@ -11,7 +11,7 @@ import re
 from collections.abc import Callable
 
 MOST_HEAD = 1 << 14
-"""Bytes of a head, or of what follows the last chunk."""
+"""Maximum bytes of a head, or of the trailer after the last chunk."""
 MOST_CHUNK_LINE = 256
 TOKEN = rb"[!#$%&'*+.^_`|~0-9A-Za-z-]+"
 REQUEST_LINE = re.compile(rb"%b [!-~]+ HTTP/1\.([01])" % TOKEN)
@@ -22,14 +22,14 @@ CHUNK = re.compile(rb"([0-9A-Fa-f]{1,8})(?:[ \t]*;[\t -~\x80-\xff]*)?")
 
 
 class Malformed(Exception):
-    """What has come is no request that every program reads alike."""
+    """The input is not a request that every program reads alike."""
 
 
 class RequestFraming:
-    """Divide what a client sends into requests.
+    """Divides a client's input into requests.
 
     Attributes:
-        is_between: Whether the last request that was taken is whole: what follows is another one.
+        is_between: Whether the last request is complete, so that another one follows.
     """
 
     def __init__(self) -> None:
@@ -44,15 +44,16 @@ class RequestFraming:
         return len(self._buffer)
 
     def feed(self, data: bytes) -> None:
-        """More has come."""
+        """Add input."""
         self._buffer += data
 
     def take(self) -> bytes:
-        """What has come of one request: its whole head, and its body as far as that is there. It is
-        empty where more has to come first.
+        """Return the available input of one request: its whole head, and a part of its body.
+
+        The result is empty if more input is needed first.
 
         Raises:
-            Malformed: It cannot be read, or not in one way alone.
+            Malformed: The input cannot be read, or can be read in two ways.
         """
         parts = []
         while self._buffer:
@@ -146,7 +147,7 @@ class RequestFraming:
         return len(line) + 2
 
     def _line(self, limit: int) -> bytes | None:
-        """The next line without its end; None where it has not come."""
+        """Return the next line without its end, or None if it is incomplete."""
         end = self._buffer.find(b"\n", 0, max(0, limit) + 2)
         if end < 0:
             if len(self._buffer) > limit:
@@ -158,7 +159,7 @@ class RequestFraming:
 
 
 def _fields(lines: list[bytes]) -> list[tuple[bytes, bytes]]:
-    """Names in lower case, and values without blanks around. Raises `Malformed`."""
+    """Return header names in lower case, and stripped values. Raises `Malformed`."""
     fields = []
     for line in lines:
         field = FIELD.fullmatch(line)

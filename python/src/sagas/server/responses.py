@@ -1,4 +1,4 @@
-"""JSON answers, entity tags and times."""
+"""JSON responses, entity tags and times."""
 
 from __future__ import annotations
 
@@ -17,7 +17,7 @@ _encoder = json.JSONEncoder(allow_nan=False, separators=(",", ":"), default=whol
 
 
 class Json(Response):
-    """A line of JSON in plain ASCII, so that no text of a store can break it."""
+    """A line of JSON in plain ASCII, so that no stored text can break it."""
 
     media_type = "application/json"
 
@@ -26,17 +26,17 @@ class Json(Response):
 
 
 def parted(content: Any, *path: str) -> Response:
-    """As `Json`, of what may be large, in a thread.
+    """Return a response like `Json` for a large value, in a thread.
 
-    What is on the path (`*`: each member) is written member by member. While one of them is
-    written, no other thread runs.
+    Values on the path (`*`: each member) are serialized member by member. No other thread runs
+    while one member is serialized.
     """
     text = "".join(_parts(content, path))
     return Response(text.encode() + b"\n", media_type=Json.media_type)
 
 
 def _parts(content: Any, path: tuple[str, ...] | None) -> Iterator[str]:
-    """Those of a list or an object to which the path leads; else all in one."""
+    """Yield the members of a list or an object on the path; other values as a whole."""
     if path is None or not content or not isinstance(content, (dict, list)):
         yield _encoder.encode(content)
         return
@@ -50,7 +50,7 @@ def _parts(content: Any, path: tuple[str, ...] | None) -> Iterator[str]:
 
 
 def tagged(request: Request, answer: Response) -> Response:
-    """The answer with an entity tag; 304 where the client has it already."""
+    """Return the response with an entity tag, or 304 if the client has this version."""
     tag = f'"{hashlib.sha256(bytes(answer.body)).hexdigest()[:32]}"'
     headers = {"etag": tag, "cache-control": "private, no-cache"}
     if has_tag(request.headers.get("if-none-match", ""), tag):
@@ -59,20 +59,22 @@ def tagged(request: Request, answer: Response) -> Response:
     return answer
 
 
-def has_tag(told: str, tag: str) -> bool:
-    """Whether a header `If-None-Match` names a tag; weak or not is one for a GET."""
-    return any(one.strip().removeprefix("W/") in (tag, "*") for one in told.split(","))
+def has_tag(header: str, tag: str) -> bool:
+    """Return whether an `If-None-Match` header names a tag. For GET, weak tags match, too."""
+    return any(
+        candidate.strip().removeprefix("W/") in (tag, "*") for candidate in header.split(",")
+    )
 
 
 def text_of(at: float) -> str:
-    """A time as RFC 3339 has it, in UTC and with milliseconds."""
-    found = datetime.datetime.fromtimestamp(at, datetime.timezone.utc)
-    return found.isoformat(timespec="milliseconds").replace("+00:00", "Z")
+    """Return a time as RFC 3339 text, in UTC and with milliseconds."""
+    moment = datetime.datetime.fromtimestamp(at, datetime.timezone.utc)
+    return moment.isoformat(timespec="milliseconds").replace("+00:00", "Z")
 
 
-def times(**some: float | None) -> dict[str, Any]:
-    """Each time in seconds since 1970, and beside it as text: `started` and `started_at`."""
-    told: dict[str, Any] = {}
-    for name, at in some.items():
-        told[name], told[f"{name}_at"] = at, None if at is None else text_of(at)
-    return told
+def times(**moments: float | None) -> dict[str, Any]:
+    """Return each time in seconds since 1970, and as text: `started` and `started_at`."""
+    fields: dict[str, Any] = {}
+    for name, at in moments.items():
+        fields[name], fields[f"{name}_at"] = at, None if at is None else text_of(at)
+    return fields

@@ -1,4 +1,4 @@
-"""What the routes share."""
+"""The service: its store, limits, figures and peers, which the routes share."""
 
 from __future__ import annotations
 
@@ -36,12 +36,12 @@ from sagas.inspection.stored_values import stored
 from sagas.inspection.views import SagaView
 from sagas.runtime.leased_tasks import Queue
 from sagas.server import declared_steps, private_files, webhook_file
-from sagas.server.auth import Rates, Sessions, Tokens, Who
+from sagas.server.auth import Rates, Sessions, Tokens, Principal
 from sagas.server.event_stream import Hub
 from sagas.server.figures import Figures
 from sagas.server.metrics import Metrics
 from sagas.server.middleware import SLASH, parted
-from sagas.server.places import Places
+from sagas.server.places import ConcurrencyLimits
 from sagas.server.quotas import Quotas
 from sagas.server.settings import Settings
 from sagas.server.stream_limits import Streams
@@ -56,20 +56,20 @@ T = TypeVar("T")
 logger, http = logging.getLogger("sagas.server"), logging.getLogger("sagas.http")
 MOST_WORKERS = MOST_THERE = 1000
 SHARED = 200
-"""Workers that one service tells another of."""
-FAILED = 5.0
-"""Seconds for which a commit that failed says that none can be made, unless one is made: behind
-that requests have to come again to tell.
+"""Maximum number of workers that one service reports to another."""
+FAILED_COMMIT = 5.0
+"""Seconds for which a failed commit makes the service not ready, unless a later commit succeeds.
+After that, new requests have to show whether commits succeed.
 """
-TOLD = 1.0
-"""Seconds for which what another service said of a saga is told again."""
+PEER_ANSWER_KEPT = 1.0
+"""Seconds for which another service's answer about a saga is reused."""
 MOST_DETAIL = 500
-"""Characters of an event's detail that other services are told."""
+"""Maximum characters of an event's detail that other services receive."""
 
 
 @dataclasses.dataclass(slots=True)
 class Seen:
-    """A worker: when it asked last, and for which steps."""
+    """A worker: when it last polled, and for which steps."""
 
     name: str
     at: float
@@ -77,7 +77,7 @@ class Seen:
 
 
 class Service:
-    """One store, served. `began` and `ended` are its life; all else is for between."""
+    """A served store. Use the other methods only between `begin` and `end`."""
 
     def __init__(self, settings: Settings) -> None:
         self.settings = settings
@@ -88,7 +88,7 @@ class Service:
         self.rates = Rates(settings.rate)
         self.refusals = Rates(5.0)
         self.quotas = Quotas(settings.quota, self.look)
-        self.places = Places(settings.places)
+        self.places = ConcurrencyLimits(settings.places)
         streams = settings.streams
         self.streams = Streams(streams.most, streams.most_each, streams.kept)
         self.store: Store = opening.open(
@@ -105,9 +105,9 @@ class Service:
         hooks = webhook_file.read(file, allow) if file else []
         self.webhooks = Webhooks(hooks, self.store.deliveries, allow)
         self._peers: Peers | None = None
-        self._there: dict[
+        self._peer_attempts: dict[
             str, tuple[float, list[ActiveAttempt]]
-        ] = {}  # what other nodes said of sagas, and until when that is told again
+        ] = {}  # attempts that other nodes reported, and until when these are valid
         self.pages: list[re.Pattern[str]] = []
         self.workers: OrderedDict[str, Seen] = OrderedDict()
         self.claims = WaitingClaims()
@@ -117,7 +117,7 @@ class Service:
     # -- life
 
     async def begin(self) -> None:
-        """Opens the store. Raises what `Store` raises."""
+        """Open the store. Raises the errors of `Store`."""
         self.stopping: asyncio.Future[None] = asyncio.get_running_loop().create_future()
         await self.store.__aenter__()
         await self._meet()
@@ -127,17 +127,17 @@ class Service:
 
     @property
     def is_stopping(self) -> bool:
-        """Whether it takes no further request."""
+        """Return whether it accepts no further requests."""
         return self.stopping.done()
 
     def stop(self) -> None:
-        """Ends what waits long: streams and takers."""
+        """End long waits: streams and claims."""
         if not self.stopping.done():
             self.stopping.set_result(None)
         self.hub.close()
 
     async def end(self) -> None:
-        """Closes the store."""
+        """Close the store."""
         self.stop()
         await self.webhooks.end()
         await self.figures.rest()
@@ -148,7 +148,7 @@ class Service:
         self.threads.close()
 
     async def _meet(self) -> None:
-        """Over PostgreSQL: what other services of the database tell, and what they are told."""
+        """Exchange events and workers with other services of the same PostgreSQL database."""
         peers = self.store.workers.peers()
         if peers:
             peers.on_message, peers.missed = self._heard, self.hub.missed
@@ -156,14 +156,17 @@ class Service:
             await peers.open()
             self._peers = peers
 
-    def _heard(self, told: Any) -> None:
-        self.hub.publish(Event(**told))
+    def _heard(self, fields: Any) -> None:
+        self.hub.publish(Event(**fields))
 
-    async def _workers(self, told: None) -> list[Any]:
-        return [[one.name, one.at, one.steps] for one in list(self.workers.values())[-SHARED:]]
+    async def _workers(self, argument: None) -> list[Any]:
+        return [
+            [worker.name, worker.at, worker.steps]
+            for worker in list(self.workers.values())[-SHARED:]
+        ]
 
     async def _begun(self, key: str) -> list[Any]:
-        return [dataclasses.astuple(one) for one in self.store.active_attempts(key)]
+        return [dataclasses.astuple(attempt) for attempt in self.store.active_attempts(key)]
 
     def _event(self, event: Event) -> None:
         if event.name == "commit_failed":
@@ -173,114 +176,127 @@ class Service:
         self.metrics.event(event)
         self.webhooks.event(event)
         self.hub.publish(event)
-        if self._peers and self._peers.others and not self._peers.broadcast(told := told_of(event)):
-            self._peers.broadcast({**told, "detail": None})
+        if (
+            self._peers
+            and self._peers.others
+            and not self._peers.broadcast(fields := event_fields(event))
+        ):
+            self._peers.broadcast({**fields, "detail": None})
         if (hook := self.settings.store.on_event) is not None:
             hook(event)
 
     def ready(self) -> str | None:
-        """None where it takes requests; else why not."""
+        """Return None if it accepts requests, else the reason why not."""
         if self.stopping.done():
-            return "it is about to stop"
-        if self.unwritten is not None and time.monotonic() < self.unwritten + FAILED:
+            return "the service is stopping"
+        if self.unwritten is not None and time.monotonic() < self.unwritten + FAILED_COMMIT:
             return "the store could not be written"
         if not self.store.holds():
             return "the store cannot be reached"
         return None
 
     async def in_time(self, work: Awaitable[T]) -> T:
-        """What another node may have to answer. Raises `OwnerUnavailable` where it takes too long;
-        then
-        it may still be done.
+        """Await work that another node may have to answer.
+
+        Raises `OwnerUnavailable` if it takes too long. The work may still be done.
         """
         try:
             async with asyncio.timeout(self.settings.patience):
                 return await work
         except TimeoutError:
             raise OwnerUnavailable(
-                "the node that has the saga has not answered yet: look at the saga, and ask again "
-                "in a while"
+                "the node that executes the saga has not answered yet. Read the saga, then retry"
             ) from None
 
     # -- looks
 
     async def look(self, question: Question[T]) -> T:
-        """Ask the store, in a thread."""
+        """Ask the store a question in a thread."""
         return await self.threads.reads.ask(question)
 
     async def kept(self, key: str, *, is_page: bool = False) -> SagaView | None:
-        """A saga with all that is kept of it; large values as they are stored. `is_page`: it is
-        for a page."""
+        """Return the stored view of a saga. Large values stay in their stored form.
+
+        `is_page`: it is for a page of the dashboard.
+        """
         pool = self.threads.pages if is_page else self.threads.reads
         return await pool.ask(one_saga.view(key, stored))
 
     async def saga(self, key: str, *, is_page: bool = False) -> SagaView | None:
-        """The same, and of what has begun what the node knows that drives it."""
+        """Return the view of a saga with the active attempts that its node reports."""
         view = await self.kept(key, is_page=is_page)
         if view is None or not any(step.state in activity.BEGUN for step in view.steps):
             return view
-        return activity.known(
+        return activity.with_active_attempts(
             view, self.store.active_attempts(key) or await self._begun_there(view), self.store.now()
         )
 
     async def _begun_there(self, view: SagaView) -> list[ActiveAttempt]:
-        """What has begun of a saga at the node that drives it; none where it does not say."""
+        """Return the active attempts that another node reports; none if it does not answer."""
         if self._peers is None:
             return []
-        until, found = self._there.get(view.key, (0.0, list[ActiveAttempt]()))
+        until, attempts = self._peer_attempts.get(view.key, (0.0, list[ActiveAttempt]()))
         if until > time.monotonic():  # callers ask again and again
-            return found
+            return attempts
         try:
             node = await self._peers.owner(tokens.shard_of(view.token))
             is_other = node and node != self._peers.node
-            told = await self._peers.call(node, "begun", view.key) if node and is_other else []
-            found = [ActiveAttempt(*one) for one in told]
+            rows = await self._peers.call(node, "begun", view.key) if node and is_other else []
+            attempts = [ActiveAttempt(*row) for row in rows]
         except (SagasError, TypeError):  # it does not answer, or is of another release
-            found = []
-        if len(self._there) >= MOST_THERE:
-            self._there.clear()
-        self._there[view.key] = time.monotonic() + TOLD, found
-        return found
+            attempts = []
+        if len(self._peer_attempts) >= MOST_THERE:
+            self._peer_attempts.clear()
+        self._peer_attempts[view.key] = time.monotonic() + PEER_ANSWER_KEPT, attempts
+        return attempts
 
-    async def queues(self, who: Who) -> list[Queue]:
-        """What waits for workers, at any node, as far as it is theirs to see."""
-        found = await self.store.workers.queues()
+    async def queues(self, principal: Principal) -> list[Queue]:
+        """Return the queues of all nodes that a principal may see."""
+        all_queues = await self.store.workers.queues()
         return [
-            one for one in found if who.does(f"{one.saga}/{one.step}{'/undo' if one.undo else ''}")
+            queue
+            for queue in all_queues
+            if principal.does(f"{queue.saga}/{queue.step}{'/undo' if queue.undo else ''}")
         ]
 
-    async def seen(self, who: Who) -> list[Seen]:
-        """The workers that asked lately, at any node, the latest first, with the steps that are
-        theirs to see."""
-        told = await self._peers.call_all("workers") if self._peers else []
-        others = [Seen(*one) for some in told for one in some]
-        found: dict[str, Seen] = {}
-        for one in sorted([*self.workers.values(), *others], key=lambda one: one.at):
+    async def seen(self, principal: Principal) -> list[Seen]:
+        """Return the workers that polled recently, at any node, the latest first.
+
+        Each has only the steps that the principal may see.
+        """
+        replies = await self._peers.call_all("workers") if self._peers else []
+        others = [Seen(*worker) for reply in replies for worker in reply]
+        latest: dict[str, Seen] = {}
+        for worker in sorted([*self.workers.values(), *others], key=lambda worker: worker.at):
             steps = (
-                one.steps
-                if who.definitions is None
-                else [step for step in one.steps if who.does(step)]
+                worker.steps
+                if principal.definitions is None
+                else [step for step in worker.steps if principal.does(step)]
             )
-            found.pop(one.name, None)
+            latest.pop(worker.name, None)
             if steps:
-                found[one.name] = Seen(one.name, one.at, steps)
-        return list(reversed(found.values()))
+                latest[worker.name] = Seen(worker.name, worker.at, steps)
+        return list(reversed(latest.values()))
 
     # -- what is whose to see
 
-    async def check_sees(self, who: Who, key: str) -> None:
-        """Raises `NoSuchSaga` where the saga is of a definition, or has a key, that is not theirs
-        to see: in the words for a key that nobody has."""
-        if not who.scope.has_key(key):
+    async def check_sees(self, principal: Principal, key: str) -> None:
+        """Raise `NoSuchSaga` if a principal may not see a saga.
+
+        The message is the same as for a key that no saga has.
+        """
+        if not principal.scope.has_key(key):
             raise NoSuchSaga(f"no saga has the key {key!r}")
-        if who.definitions is not None:
+        if principal.definitions is not None:
             row = await self.look(one_saga.find(key))
-            if row is None or not who.scope.has_saga(row.saga, key):
+            if row is None or not principal.scope.has_saga(row.saga, key):
                 raise NoSuchSaga(f"no saga has the key {key!r}")
 
     async def is_approval(self, key: str, step: str) -> bool:
-        """Whether a saga's step is an approval. Raises `NoSuchSaga`, and `DefinitionError` where
-        this service does not have its definition."""
+        """Return whether a saga's step is an approval.
+
+        Raises `NoSuchSaga`, and `DefinitionError` if this service does not have its definition.
+        """
 
         def question() -> Question[bool]:
             row = yield from one_saga.there(key)
@@ -290,57 +306,66 @@ class Service:
         return await self.look(question())
 
     def approvals(self, name: str, definition: str) -> set[str]:
-        """The steps of a saga's definition that are approvals. Raises `DefinitionError` where this
-        service does not have it."""
+        """Return the approval steps of a saga's definition.
+
+        Raises `DefinitionError` if this service does not have it.
+        """
         for saga in self.settings.sagas:
             if (saga.name, saga.version) == (name, version_of(definition)):
                 return declared_steps.approvals(saga, definition)
         raise DefinitionError(
             f"this service does not have the definition {name!r} of version "
-            f"{version_of(definition)}, so it cannot tell which steps are approvals"
+            f"{version_of(definition)}, so it does not know which steps are approvals"
         )
 
     async def start(
         self,
-        who: Who,
+        principal: Principal,
         size: int,
         saga: Saga,
         key: str,
-        given: Any,
+        input: Any,
         labels: Labels | None = None,
         deadline: float | None = None,
         traceparent: str | None = None,
     ) -> Run:
-        """Starts a saga, of which `size` bytes were sent. Raises what `Store.start` raises, and
-        `StoreUnavailable` where that takes too long; of a key's saga that is not theirs to see
-        nothing is told. Raises `Problem` where the token has too many open sagas."""
-        token = None if self.tokens is None else who.name
-        place = token and await self.quotas.take(who, size, lambda: self._is_there(key))
+        """Start a saga. `size` is the number of bytes that the client sent.
+
+        Raises:
+            StoreUnavailable: The store does not confirm the start in time.
+            KeyConflict: The key has another saga. Its details are hidden from principals that
+                may not see it.
+            Problem: The token has too many open sagas.
+        """
+        token = None if self.tokens is None else principal.name
+        pending = token and await self.quotas.take(principal, size, lambda: self._is_there(key))
         is_new = False
         try:
             async with asyncio.timeout(self.settings.patience):
                 run = await self.store._start(
-                    token, saga, key, given, labels, deadline, traceparent
+                    token, saga, key, input, labels, deadline, traceparent
                 )
             is_new = run.new
             self.store._replies(key)
             return run
         except TimeoutError:
             raise StoreUnavailable(
-                f"the store has not kept the start of {key!r} in {self.settings.patience:g} s, and "
-                "may still do so. Send the same request again"
+                f"the store has not confirmed the start of {key!r} within "
+                f"{self.settings.patience:g} s, and may still store it. Retry the same request"
             ) from None
         except KeyConflict:
-            if who.definitions is None:
+            if principal.definitions is None:
                 raise
             try:
-                await self.check_sees(who, key)
+                await self.check_sees(principal, key)
             except NoSuchSaga:
-                raise KeyConflict(f"the key {key!r} is another saga's: take another key") from None
+                raise KeyConflict(
+                    f"the key {key!r} belongs to another saga: use another key"
+                ) from None
             raise
         finally:
-            if place:
-                self.quotas.done(place, is_new)
+            if pending:
+                self.quotas.done(pending, is_new)
 
     async def _is_there(self, key: str) -> bool:
         return await self.look(one_saga.find(key)) is not None
@@ -348,62 +373,65 @@ class Service:
     # -- names
 
     def is_page(self, address: str) -> bool:
-        """Whether an address is one of the dashboard's own pages, with its query."""
+        """Return whether an address is one of the dashboard's pages."""
         path = address.partition("#")[0].partition("?")[0]
         if not address.isascii() or not address.isprintable() or "\\" in address:
             return False
         name = parted(path.encode())
         return name is not None and any(page.fullmatch(name) for page in self.pages)
 
-    def saga_named(self, who: Who, name: str, version: int | None) -> Saga:
-        """The definition of a name; without a version its newest. Raises `DefinitionError`, which
-        names those that are theirs to see."""
-        found = [
+    def saga_named(self, principal: Principal, name: str, version: int | None) -> Saga:
+        """Return the definition with a name; without a version, the newest one.
+
+        Raises `DefinitionError`, which lists the definitions that the principal may see.
+        """
+        matches = [
             saga
             for saga in self.settings.sagas
             if saga.name == name and version in (None, saga.version)
         ]
-        if not found:
-            there = ", ".join(self.names(who))
+        if not matches:
+            names = ", ".join(self.names(principal))
+            of_version = "" if version is None else f" of version {version}"
             raise DefinitionError(
-                "there is no definition "
-                f"{name!r}{'' if version is None else f' of version {version}'}, but {there[:400]}"
+                f"the service has no definition {name!r}{of_version}. "
+                f"It has: {names[:400] or 'none'}"
             )
-        return max(found, key=lambda saga: saga.version)
+        return max(matches, key=lambda saga: saga.version)
 
-    def names(self, who: Who) -> list[str]:
-        """The definitions that are theirs to see."""
-        return sorted({saga.name for saga in self.settings.sagas if who.sees(saga.name)})
+    def names(self, principal: Principal) -> list[str]:
+        """Return the definitions that a principal may see."""
+        return sorted({saga.name for saga in self.settings.sagas if principal.sees(saga.name)})
 
-    def words(self) -> set[str]:
-        """The steps, and compensations, that workers may ask for, as they ask for them."""
-        return self._words
+    def task_names(self) -> set[str]:
+        """Return the names of all tasks that workers may claim."""
+        return self._task_names
 
     @functools.cached_property
-    def _words(self) -> set[str]:
-        found = set()
+    def _task_names(self) -> set[str]:
+        result = set()
         for saga in self.settings.sagas:
             for name, step in saga.declared_steps:
-                found.add(f"{saga.name}/{name}")
+                result.add(f"{saga.name}/{name}")
                 if step.has_compensation:
-                    found.add(f"{saga.name}/{name}/undo")
-        return found
+                    result.add(f"{saga.name}/{name}/undo")
+        return result
 
     def saw(self, worker: str, steps: list[str]) -> None:
-        """A worker asked for tasks."""
+        """Record that a worker polled for tasks."""
         self.workers.pop(worker, None)
         self.workers[worker] = Seen(worker, time.time(), steps)
         if len(self.workers) > MOST_WORKERS:
             self.workers.popitem(last=False)
 
     def request(self, scope: Any, status: int, seconds: float) -> None:
-        """A request is over: it is counted and logged."""
+        """Count and log a finished request."""
         path = scope["path"].replace(SLASH, "%2F")
         waits = path.endswith(("/wait", "/claim", "/events"))
         self.metrics.request(scope["method"], status, seconds, waits)
         level = logging.ERROR if status >= 500 else logging.INFO
         if http.isEnabledFor(level):
-            told = {
+            fields = {
                 "method": scope["method"],
                 "path": path,
                 "status": status,
@@ -411,13 +439,13 @@ class Service:
                 "from": (scope.get("client") or ["?"])[0],
             }
             if "sagas.who" in scope:
-                told["who"] = scope["sagas.who"]
-            http.log(level, "%s %s %d", scope["method"], path, status, extra={"sagas": told})
+                fields["who"] = scope["sagas.who"]
+            http.log(level, "%s %s %d", scope["method"], path, status, extra={"sagas": fields})
 
 
-def told_of(event: Event) -> dict[str, Any]:
-    """An event for other services."""
-    told = {name: value for name, value in dataclasses.asdict(event).items() if value is not None}
+def event_fields(event: Event) -> dict[str, Any]:
+    """Return an event as it is sent to other services."""
+    fields = {name: value for name, value in dataclasses.asdict(event).items() if value is not None}
     if event.detail is not None:
-        told["detail"] = event.detail[:MOST_DETAIL]
-    return told
+        fields["detail"] = event.detail[:MOST_DETAIL]
+    return fields

@@ -22,8 +22,7 @@ LOOPBACK: tuple[Network, ...] = (
 
 @dataclasses.dataclass(frozen=True, slots=True)
 class StreamSettings:
-    """How many streams of events there may be at once: in all, and of one token; `kept` of all are
-    for the dashboard."""
+    """Limits of event streams: in total, per token, and reserved for the dashboard."""
 
     most: int = 200
     most_each: int = 50
@@ -31,10 +30,16 @@ class StreamSettings:
 
 
 @dataclasses.dataclass(frozen=True, slots=True)
-class PlaceSettings:
-    """How many connections and requests there may be at once: in all; that wait for a saga or for
-    tasks, of one token; with a request at work, of one token; of one address. `kept`: of all
-    connections, those for health and operators alone, at most a quarter.
+class ConcurrencySettings:
+    """Limits of connections and of concurrent requests.
+
+    Attributes:
+        connections: Connections in total.
+        waits: Requests of one token that wait for a saga.
+        claims: Claims of one token.
+        connections_of_token: Connections of one token with an active request.
+        connections_of_address: Connections of one address.
+        kept: Connections reserved for health checks and operators, at most a quarter of all.
     """
 
     connections: int = 2000
@@ -47,7 +52,7 @@ class PlaceSettings:
 
 @dataclasses.dataclass(frozen=True, slots=True)
 class WebhookSettings:
-    """The file of webhooks, if there is one, and whether they may post to this machine."""
+    """The file of webhooks, if any, and whether they may post to this machine."""
 
     file: pathlib.Path | None = None
     allow_local: bool = False
@@ -58,8 +63,8 @@ class StoreSettings:
     """How the store is opened.
 
     Attributes:
-        options: Arguments of `sagas.open`, without those that the service has for itself.
-        on_event: What is called with each event, behind the service itself.
+        options: Arguments of `sagas.open`, without those that the service sets itself.
+        on_event: A function that is called with each event, after the service itself.
     """
 
     options: Mapping[str, Any] = dataclasses.field(default_factory=dict)
@@ -68,13 +73,15 @@ class StoreSettings:
 
 @dataclasses.dataclass(frozen=True, slots=True)
 class Settings:
-    """`tokens` is None where it listens on the loopback only, and everybody there may do
-    everything.
+    """Settings of the service. Sizes are in bytes, times in seconds.
 
-    Sizes are in bytes, times in seconds. `rate`: requests a second that each token (without
-    tokens: each address) may make on the average; it may save up two seconds' worth. `quota`: what
-    each token may have open.
-    `trusted_proxies`: the networks whose word is taken for whose request it is.
+    Attributes:
+        tokens: The token file. None: it listens on the loopback only, and every local user has full
+            access.
+        rate: Average requests per second of each token, or without tokens of each address. Up to
+            two seconds' worth accumulate.
+        quota: The default quota of each token.
+        trusted_proxies: The networks of proxies whose forwarding headers are trusted.
     """
 
     path: str
@@ -85,7 +92,7 @@ class Settings:
     webhooks: WebhookSettings = WebhookSettings()
     most_body: int = 1 << 20
     streams: StreamSettings = StreamSettings()
-    places: PlaceSettings = PlaceSettings()
+    places: ConcurrencySettings = ConcurrencySettings()
     trusted_proxies: tuple[Network, ...] = LOOPBACK
     rate: float = 5000.0
     quota: Quota = Quota()
@@ -99,7 +106,7 @@ class Settings:
 
 
 def is_loopback(host: str) -> bool:
-    """Whether an address, or `localhost`, is this machine's own."""
+    """Return whether an address, or `localhost`, is this machine's own."""
     try:
         return ipaddress.ip_address(host.strip("[]")).is_loopback
     except ValueError:
@@ -107,7 +114,7 @@ def is_loopback(host: str) -> bool:
 
 
 def is_address(host: str) -> bool:
-    """Whether it is the address of a machine, and nothing else."""
+    """Return whether a text is an IP address."""
     try:
         ipaddress.ip_address(host)
     except ValueError:
@@ -117,7 +124,7 @@ def is_address(host: str) -> bool:
 
 @functools.lru_cache(1024)
 def is_among(host: str, networks: tuple[Network, ...]) -> bool:
-    """Whether an address is in one of these networks."""
+    """Return whether an address is in one of these networks."""
     try:
         address = ipaddress.ip_address(host)
     except ValueError:

@@ -1,4 +1,4 @@
-"""Shapes of what a task says about its saga, as the OpenAPI document has them."""
+"""Shapes of a task's description of its saga, as in the OpenAPI document."""
 
 from __future__ import annotations
 
@@ -12,7 +12,10 @@ SHAPE = Record(
             Mapped(Number(least=0, whole=True)),
             "how many items there are of each step, and of each inclusion: `ship`, `hotel[1]/room`",
         ),
-        "keys": Field(Mapped(Several(Text())), "of the same, the keys of items of an object"),
+        "keys": Field(
+            Mapped(Several(Text())),
+            "the keys of items that are those of an object, by the same names",
+        ),
     },
-    "From what the result of a step that was declared is made.",
+    "Describes how results of items form the result of a declared step.",
 )

@@ -1,4 +1,4 @@
-"""Shapes of JSON: they read what requests have, and describe themselves as JSON Schema."""
+"""Shapes of JSON: they validate requests, and describe themselves as JSON Schema."""
 
 from __future__ import annotations
 
@@ -15,11 +15,11 @@ Schema = dict[str, Any]
 MOST_SHOWN = 80
 WHOLE = re.compile("-?[0-9]{1,20}")
 DECIMAL = re.compile(r"-?[0-9]{1,20}(\.[0-9]{1,20})?([eE][+-]?[0-9]{1,3})?")
-"""Numbers of a query as JSON has them: no underscores, and no digits beyond ASCII."""
+"""Numbers of a query, in JSON's syntax: without underscores, and with ASCII digits only."""
 
 
 class Invalid(ValueError):
-    """A value is not of its shape. `field` is its place: `next.steps.0`."""
+    """A value does not match its shape. `field` is its path, such as `next.steps.0`."""
 
     def __init__(self, field: str, text: str) -> None:
         super().__init__(text)
@@ -27,24 +27,24 @@ class Invalid(ValueError):
 
 
 class Shape(abc.ABC):
-    """What a value has to be."""
+    """The expected form of a value."""
 
     @abc.abstractmethod
     def read(self, value: Any, field: str) -> Any:
-        """The value. Raises `Invalid`."""
+        """Return the validated value. Raises `Invalid`."""
 
     @abc.abstractmethod
     def schema(self) -> Schema:
-        """The shape as JSON Schema."""
+        """Return the JSON Schema."""
 
     def of_text(self, text: str, field: str) -> Any:
-        """The value of a parameter of a query, or of a path. Raises `Invalid`."""
+        """Return the value of a query or path parameter. Raises `Invalid`."""
         return self.read(text, field)
 
 
 @dataclasses.dataclass(frozen=True)
 class Anything(Shape):
-    """Any JSON."""
+    """Any JSON value."""
 
     def read(self, value: Any, field: str) -> Any:
         return value
@@ -55,7 +55,9 @@ class Anything(Shape):
 
 @dataclasses.dataclass(frozen=True)
 class Text(Shape):
-    """A text of so many characters. `pattern` is of all of it; `strip`: without blanks around."""
+    """A string with limits on its length. `pattern` must match all of it. `strip` removes outer
+    blanks.
+    """
 
     most: int | None = None
     least: int = 0
@@ -66,29 +68,31 @@ class Text(Shape):
     def read(self, value: Any, field: str) -> str:
         if not isinstance(value, str):
             raise Invalid(field, "must be a string")
-        found = value.strip() if self.strip else value
-        if len(found) < self.least:
+        text = value.strip() if self.strip else value
+        if len(text) < self.least:
             least = "not be empty" if self.least == 1 else f"have at least {self.least} characters"
             raise Invalid(field, f"must {least}")
-        if self.most is not None and len(found) > self.most:
+        if self.most is not None and len(text) > self.most:
             raise Invalid(field, f"must have at most {self.most} characters")
-        if self.pattern is not None and not re.fullmatch(self.pattern, found):
+        if self.pattern is not None and not re.fullmatch(self.pattern, text):
             raise Invalid(field, f"must match {self.pattern}")
-        return found
+        return text
 
     def schema(self) -> Schema:
-        words = {
+        keywords = {
             "minLength": self.least or None,
             "maxLength": self.most,
             "pattern": None if self.pattern is None else f"^{self.pattern}$",
             "format": self.form,
         }
-        return {"type": "string"} | {name: one for name, one in words.items() if one is not None}
+        return {"type": "string"} | {
+            name: value for name, value in keywords.items() if value is not None
+        }
 
 
 @dataclasses.dataclass(frozen=True)
 class Choice(Shape):
-    """One of some texts."""
+    """One of several strings."""
 
     some: tuple[str, ...]
 
@@ -103,7 +107,7 @@ class Choice(Shape):
 
 @dataclasses.dataclass(frozen=True)
 class Number(Shape):
-    """A number within bounds; `whole`: an integer."""
+    """A number within bounds. `whole`: an integer."""
 
     least: float | None = None
     most: float | None = None
@@ -127,9 +131,11 @@ class Number(Shape):
         return self.read(int(text) if self.whole else float(text), field)
 
     def schema(self) -> Schema:
-        words = {"minimum": self.least, "maximum": self.most}
+        keywords = {"minimum": self.least, "maximum": self.most}
         kind = "integer" if self.whole else "number"
-        return {"type": kind} | {name: one for name, one in words.items() if one is not None}
+        return {"type": kind} | {
+            name: value for name, value in keywords.items() if value is not None
+        }
 
 
 @dataclasses.dataclass(frozen=True)
@@ -161,15 +167,15 @@ class Nullable(Shape):
         return self.shape.of_text(text, field)
 
     def schema(self) -> Schema:
-        told = self.shape.schema()
-        if "$ref" in told or "enum" in told:
-            return {"oneOf": [told, {"type": "null"}]}
-        return told if "type" not in told else {**told, "type": [told["type"], "null"]}
+        inner = self.shape.schema()
+        if "$ref" in inner or "enum" in inner:
+            return {"oneOf": [inner, {"type": "null"}]}
+        return inner if "type" not in inner else {**inner, "type": [inner["type"], "null"]}
 
 
 @dataclasses.dataclass(frozen=True)
 class Several(Shape):
-    """A list of so many values of one shape."""
+    """A list of values of one shape."""
 
     of: Shape
     least: int = 0
@@ -180,64 +186,64 @@ class Several(Shape):
             raise Invalid(field, "must be a list")
         if len(value) < self.least or (self.most is not None and len(value) > self.most):
             raise Invalid(field, f"must have from {self.least} to {self.most} entries")
-        return [self.of.read(one, f"{field}.{place}") for place, one in enumerate(value)]
+        return [self.of.read(item, f"{field}.{index}") for index, item in enumerate(value)]
 
     def schema(self) -> Schema:
-        words = {"minItems": self.least or None, "maxItems": self.most}
-        found = {"type": "array", "items": self.of.schema()}
-        return found | {name: one for name, one in words.items() if one is not None}
+        keywords = {"minItems": self.least or None, "maxItems": self.most}
+        result = {"type": "array", "items": self.of.schema()}
+        return result | {name: value for name, value in keywords.items() if value is not None}
 
 
 @dataclasses.dataclass(frozen=True)
 class Mapped(Shape):
-    """An object with any keys, whose values are of one shape."""
+    """An object with any keys, whose values have one shape."""
 
     of: Shape
 
     def read(self, value: Any, field: str) -> dict[str, Any]:
         if not isinstance(value, dict):
             raise Invalid(field, "must be an object")
-        return {name: self.of.read(one, f"{field}.{name}") for name, one in value.items()}
+        return {name: self.of.read(item, f"{field}.{name}") for name, item in value.items()}
 
     def schema(self) -> Schema:
         return {"type": "object", "additionalProperties": self.of.schema()}
 
 
 REQUIRED: Any = object()
-"""The default of a field that has to be there."""
+"""The default of a required field."""
 
 
 @dataclasses.dataclass(frozen=True)
 class Field:
-    """A field of an object, or a parameter of a query; without a default it has to be there."""
+    """A field of an object, or a parameter of a query. Without a default, it is required."""
 
     shape: Shape
-    told: str = ""
+    description: str = ""
     default: Any = REQUIRED
     example: Any = None
 
     @property
     def is_required(self) -> bool:
-        """Whether it has to be there."""
+        """Return whether it is required."""
         return self.default is REQUIRED
 
     def schema(self) -> Schema:
-        """Its shape, with what is told of it."""
-        found = self.shape.schema()
-        if self.told:
-            found = {**found, "description": self.told}
+        """Return the schema of its shape, with its description."""
+        result = self.shape.schema()
+        if self.description:
+            result = {**result, "description": self.description}
         if not self.is_required and self.default is not None:
-            found = {**found, "default": self.default}
-        return found
+            result = {**result, "default": self.default}
+        return result
 
 
 @dataclasses.dataclass(frozen=True, eq=False)
 class Record(Shape):
-    """An object with these fields and no others. `name`: as the document has it."""
+    """An object with exactly these fields. `name`: its name in the OpenAPI document."""
 
     name: str
     fields: Mapping[str, Field]
-    told: str = ""
+    description: str = ""
     example: Any = None
 
     def read(self, value: Any, field: str) -> dict[str, Any]:
@@ -249,54 +255,54 @@ class Record(Shape):
         return {"$ref": f"#/components/schemas/{self.name}"}
 
     def whole(self) -> Schema:
-        """The schema itself, which others refer to."""
+        """Return the full schema, which other schemas refer to."""
         required = [name for name, field in self.fields.items() if field.is_required]
-        found: Schema = {
+        result: Schema = {
             "type": "object",
             "properties": {name: field.schema() for name, field in self.fields.items()},
             "additionalProperties": False,
         }
         if required:
-            found["required"] = required
-        if self.told:
-            found["description"] = self.told
-        return found if self.example is None else {**found, "examples": [self.example]}
+            result["required"] = required
+        if self.description:
+            result["description"] = self.description
+        return result if self.example is None else {**result, "examples": [self.example]}
 
     @property
     def is_optional(self) -> bool:
-        """Whether an empty object is one."""
+        """Return whether an empty object is valid."""
         return not any(field.is_required for field in self.fields.values())
 
 
-def read_fields(fields: Mapping[str, Field], value: dict[str, Any], place: str) -> dict[str, Any]:
-    """The values of all fields; those that are not there by their defaults. Raises `Invalid`."""
+def read_fields(fields: Mapping[str, Field], value: dict[str, Any], path: str) -> dict[str, Any]:
+    """Return the values of all fields, with defaults for missing ones. Raises `Invalid`."""
     for name in value:
         if name not in fields:
             shown = name[:MOST_SHOWN]
-            raise Invalid(within(place, shown), f"there is no such field{meant(shown, [*fields])}")
-    found: dict[str, Any] = {}
+            raise Invalid(within(path, shown), f"unknown field{meant(shown, [*fields])}")
+    result: dict[str, Any] = {}
     for name, field in fields.items():
         if name in value:
-            found[name] = field.shape.read(value[name], within(place, name))
+            result[name] = field.shape.read(value[name], within(path, name))
         elif field.is_required:
-            raise Invalid(within(place, name), "it is missing")
+            raise Invalid(within(path, name), "is required")
         else:
-            found[name] = field.default
-    return found
+            result[name] = field.default
+    return result
 
 
-def within(place: str, name: str) -> str:
-    """The place of a field of an object."""
-    return f"{place}.{name}" if place else name
+def within(path: str, name: str) -> str:
+    """Return the path of a field of an object."""
+    return f"{path}.{name}" if path else name
 
 
 def records(shape: Shape) -> dict[str, Record]:
-    """The records that a shape is made of, by their names."""
+    """Return the records that a shape consists of, by name."""
     if isinstance(shape, Record):
-        found = {shape.name: shape}
+        result = {shape.name: shape}
         for field in shape.fields.values():
-            found |= records(field.shape)
-        return found
+            result |= records(field.shape)
+        return result
     if isinstance(shape, Nullable):
         return records(shape.shape)
     return records(shape.of) if isinstance(shape, (Several, Mapped)) else {}

@@ -10,7 +10,7 @@ from typing import Union
 from sagas.definition.groups import Block, Group
 from sagas.engine.plan import Choice
 from sagas.inspection import wording
-from sagas.inspection.group_boxes import Told, counted, urgency
+from sagas.inspection.group_boxes import StepDisplay, counted, urgency
 from sagas.inspection.views import StepView
 from sagas.server.table_rows import FEW, Rows, folded
 from sagas.server.unfolding import Unfolding
@@ -18,24 +18,24 @@ from sagas.server.unfolding import Unfolding
 
 @dataclasses.dataclass(frozen=True, slots=True)
 class StepRow:
-    """A row: of a step, or of a group.
+    """A row of a step or of a group.
 
     Attributes:
-        title: The step's name; of a group its name and how many it has.
-        told: The state that is shown.
+        title: The step's name; for a group, its name and size.
+        display: The state that is shown.
         needs: The names of the steps and groups that it needs.
-        attempts: How often the action began.
-        step: The step; None of a group.
-        item: Of which item it is, in words.
-        href: Where a click on a group leads.
+        attempts: How often the action was started.
+        step: The step. None for a group.
+        item: A description of its item.
+        href: The target of a click on a group.
         is_open: Whether the group is unfolded.
-        note: What is said of a group: its first error.
-        decision: What the plan decided of a group.
-        depth: In how many unfolded groups it is.
+        note: The first error of a group.
+        decision: What the plan decided about a group.
+        depth: How many unfolded groups enclose it.
     """
 
     title: str
-    told: Told
+    display: StepDisplay
     needs: list[str]
     attempts: int
     step: StepView | None = None
@@ -49,7 +49,7 @@ class StepRow:
 
 @dataclasses.dataclass(slots=True)
 class Node:
-    """An unfolded group with what is in it."""
+    """An unfolded group with its parts."""
 
     group: Group
     parts: list[Part] = dataclasses.field(default_factory=list)
@@ -62,18 +62,18 @@ class StepTable:
     """The rows of a saga's steps.
 
     Attributes:
-        blocks: What is shown as one.
+        blocks: The steps that are shown as one.
     """
 
     def __init__(
         self,
         unfolding: Unfolding,
         steps: Sequence[StepView],
-        tolds: Sequence[Told],
+        displays: Sequence[StepDisplay],
         choices: Mapping[str, Choice],
         items: Mapping[str, str],
     ) -> None:
-        self._unfolding, self._steps, self._tolds = unfolding, steps, tolds
+        self._unfolding, self._steps, self._displays = unfolding, steps, displays
         self._choices, self._items = choices, items
         self.blocks = unfolding.groups.blocks(len(steps), unfolding.names)
         self._name_of = {
@@ -83,7 +83,7 @@ class StepTable:
         }
 
     def titles(self) -> dict[str, str]:
-        """By the names of the steps that are folded, the titles of their groups."""
+        """Return the titles of folded groups, by the names of their steps."""
         return {
             self._steps[step].name: block.group.title
             for block in self.blocks
@@ -92,7 +92,9 @@ class StepTable:
         }
 
     def rows(self) -> Rows:
-        """The rows. Of many the urgent ones come first, and the others are folded."""
+        """Return the rows. If there are many, the urgent ones come first and the others are
+        folded.
+        """
         top = self._tree()
         few = folded(top, lambda part: (self._urgency(part),))
         shown, more = list[StepRow](), list[StepRow]()
@@ -105,8 +107,8 @@ class StepTable:
     def _tree(self) -> list[Part]:
         top, nodes = list[Part](), dict[str, Node]()
         for block in self.blocks:
-            parts, some = top, self._unfolding.groups.of(block.steps[0])
-            for group in some[: some.index(block.group)] if block.group else some:
+            parts, enclosing = top, self._unfolding.groups.of(block.steps[0])
+            for group in enclosing[: enclosing.index(block.group)] if block.group else enclosing:
                 if group.name not in nodes:
                     nodes[group.name] = Node(group)
                     parts.append(nodes[group.name])
@@ -115,35 +117,35 @@ class StepTable:
         return top
 
     def _urgency(self, part: Part) -> int:
-        """Of a group it is that of its most urgent step; an unfolded one stays in sight."""
+        """Return the rank of a part. An unfolded group always stays visible."""
         if isinstance(part, Node):
             return 0
-        return min(urgency(self._tolds[step]) for step in part.steps)
+        return min(urgency(self._displays[step]) for step in part.steps)
 
     def _add(self, part: Part, depth: int, shown: list[StepRow], more: list[StepRow]) -> None:
-        """Add the rows of a part. The items after the first ones are among the others."""
+        """Add the rows of a part. Items after the first ones are folded."""
         if isinstance(part, Block):
-            of = part.group
-            shown.append(self._group(of, depth) if of else self._step(part.steps[0], depth))
+            group = part.group
+            shown.append(self._group(group, depth) if group else self._step(part.steps[0], depth))
             return
         shown.append(self._group(part.group, depth))
-        items = [one for one in part.parts if isinstance(one, Block) and one.item_of]
-        for place, one in enumerate(sorted(items, key=self._urgency)):
-            self._add(one, depth + 1, shown if place < FEW else more, more)
+        items = [item for item in part.parts if isinstance(item, Block) and item.item_of]
+        for index, item in enumerate(sorted(items, key=self._urgency)):
+            self._add(item, depth + 1, shown if index < FEW else more, more)
         for other in part.parts:
             if not (isinstance(other, Block) and other.item_of):
                 self._add(other, depth + 1, shown, more)
 
     def _needs(self, steps: Sequence[int]) -> list[str]:
-        own = {self._name_of[self._steps[step].name] for step in steps}
+        own_names = {self._name_of[self._steps[step].name] for step in steps}
         needed = (self._name_of[need] for step in steps for need in self._steps[step].needs)
-        return [name for name in dict.fromkeys(needed) if len(steps) == 1 or name not in own]
+        return [name for name in dict.fromkeys(needed) if len(steps) == 1 or name not in own_names]
 
     def _step(self, number: int, depth: int) -> StepRow:
         step = self._steps[number]
         return StepRow(
             step.name,
-            self._tolds[number],
+            self._displays[number],
             self._needs([number]),
             step.attempts,
             step,
@@ -155,7 +157,7 @@ class StepTable:
         steps = [self._steps[step] for step in group.steps]
         return StepRow(
             group.title,
-            counted([self._tolds[step] for step in group.steps]),
+            counted([self._displays[step] for step in group.steps]),
             self._needs(group.steps),
             sum(step.attempts for step in steps),
             href=self._unfolding.link(group),
@@ -166,23 +168,23 @@ class StepTable:
         )
 
     def _decisions(self, steps: list[StepView]) -> str:
-        """What the plan decided of a group's steps, and what that costs."""
-        some = [self._choices[step.name] for step in steps if step.name in self._choices]
-        counts = Counter(wording.DECISIONS[choice.decision] for choice in some)
+        """Describe what the plan decided about a group's steps, and the cost."""
+        choices = [self._choices[step.name] for step in steps if step.name in self._choices]
+        counts = Counter(wording.DECISIONS[choice.decision] for choice in choices)
         cost = sum(
-            (choice.cost_to_keep if choice.kept else choice.cost_to_drop) or 0 for choice in some
+            (choice.cost_to_keep if choice.kept else choice.cost_to_drop) or 0 for choice in choices
         )
-        told = ", ".join(f"{word} {count:,}" for word, count in counts.items())
-        return f"{told}: costs {cost:,}" if cost else told
+        text = ", ".join(f"{decision} {count:,}" for decision, count in counts.items())
+        return f"{text}: costs {cost:,}" if cost else text
 
 
 def errors(steps: Sequence[StepView]) -> str:
-    """The first error of a group's steps, and how many more there are."""
-    found = [f"{step.name}: {step.raised or step.said}" for step in steps if _is_bad(step)]
-    if not found:
+    """Return the first error of a group's steps, and how many more there are."""
+    listed = [f"{step.name}: {step.raised or step.said}" for step in steps if _is_bad(step)]
+    if not listed:
         return ""
-    more = f" and {len(found) - 1:,} more" if len(found) > 1 else ""
-    return wording.short(found[0]) + more
+    more = f" and {len(listed) - 1:,} more" if len(listed) > 1 else ""
+    return wording.short(listed[0]) + more
 
 
 def _is_bad(step: StepView) -> bool:

@@ -14,38 +14,38 @@ from sagas.server.middleware import FOLLOWED, Receive, Scope, Send
 
 
 class Streams:
-    """`most` in all, `each` of one maker, and `kept` of all for the dashboard alone."""
+    """Limits of streams: `most` in total, `each` per client, and `kept` for the dashboard alone."""
 
     def __init__(self, most: int, each: int, kept: int) -> None:
         self.most, self.each, self.kept = most, each, kept
-        self._there: Counter[tuple[str, bool]] = Counter()
+        self._open: Counter[tuple[str, bool]] = Counter()
 
-    def full(self, maker: str, dashboard: bool) -> str | None:
-        """Why this maker gets no further one; None where there is room."""
-        if self._there[maker, dashboard] >= self.each:
+    def full(self, client_key: str, dashboard: bool) -> str | None:
+        """Return why a client gets no further stream, or None."""
+        if self._open[client_key, dashboard] >= self.each:
             return f"you have {self.each} event streams: close some"
         most = self.most if dashboard else self.most - self.kept
-        others = sum(count for (_, shown), count in self._there.items() if not shown)
-        total = self._there.total()
+        others = sum(count for (_, shown), count in self._open.items() if not shown)
+        total = self._open.total()
         if total >= self.most or (not dashboard and others >= most):
-            return f"there are {most} event streams: ask again in a while"
+            return f"there are {most} event streams: retry later"
         return None
 
-    def take(self, maker: str, dashboard: bool) -> Callable[[], None]:
-        """One more; gives what ends it."""
-        place = maker, dashboard
-        self._there[place] += 1
+    def take(self, client_key: str, dashboard: bool) -> Callable[[], None]:
+        """Count one more stream. Returns a function that ends it."""
+        key = client_key, dashboard
+        self._open[key] += 1
 
         def leave() -> None:
-            self._there[place] -= 1
-            if self._there[place] <= 0:
-                del self._there[place]
+            self._open[key] -= 1
+            if self._open[key] <= 0:
+                del self._open[key]
 
         return leave
 
 
 class Stream(StreamingResponse):
-    """An answer that leaves its place once it is over, however it ends."""
+    """A streaming response that frees its slot when it ends."""
 
     def __init__(self, content: Any, leave: Callable[[], None]) -> None:
         super().__init__(
@@ -54,7 +54,7 @@ class Stream(StreamingResponse):
         self._leave = leave
 
     async def __call__(self, scope: Scope, receive: Receive, send: Send) -> None:
-        """Sends it, until the client sends something behind its request."""
+        """Send the stream until the client sends something after its request."""
         sending = asyncio.ensure_future(super().__call__(scope, receive, send))
         try:
             await asyncio.wait({sending, scope[FOLLOWED]}, return_when=asyncio.FIRST_COMPLETED)

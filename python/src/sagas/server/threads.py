@@ -1,7 +1,8 @@
 """The threads of a service: for reads of the store, for answers and for pages.
 
-What takes longer than a moment is done in a thread, since the event loop has to answer workers
-meanwhile. Each kind has threads of its own: a page may take seconds, and no read waits for it.
+Work that takes longer than a moment is done in a thread, because the event loop must answer
+workers in the meantime. Each kind has its own threads: a page may take seconds, and no read
+waits for it.
 """
 
 from __future__ import annotations
@@ -16,21 +17,22 @@ from typing import Any, TypeVar
 
 from sagas.inspection.question import Question, StoreReader
 from sagas.server import renderer
-from sagas.server.fair_queue import MAKER, ComputingTime, FairQueue
+from sagas.server.fair_queue import CURRENT_CLIENT, ComputingTime, FairQueue
 from sagas.storage.interface import Reader
 
 T = TypeVar("T")
 READERS = ANSWERERS = 2
 LARGE = 1 << 18
-"""Characters of JSON from which on it is read or written in a thread: that takes 10 ms or more."""
+"""Characters of JSON from which it is parsed or serialized in a thread: that takes 10 ms or more.
+"""
 
 
 Job = tuple[Callable[[], Any], "asyncio.Future[Any]"]
-"""Work, and what becomes of it."""
+"""Work, and the future of its result."""
 
 
 class Timed:
-    """Work that knows how long it has taken, and computed, once it is done."""
+    """Work that records how long it took and computed."""
 
     def __init__(self, work: Callable[[], Any]) -> None:
         self._work, self.seconds, self.computed = work, 0.0, 0.0
@@ -45,8 +47,10 @@ class Timed:
 
 
 class Pool:
-    """Threads of one kind, as many as there are connections by which they read, or `count`. They
-    are shared by those for whom they work."""
+    """Threads of one kind, shared fairly among clients.
+
+    There are as many threads as `readers`, or `count`.
+    """
 
     def __init__(
         self,
@@ -67,21 +71,21 @@ class Pool:
             self._readers.put(StoreReader(reader))
 
     def begin(self, work: Callable[[], object]) -> None:
-        """Do work in a thread, for which nobody waits."""
+        """Run work in a thread without waiting for it."""
         self._threads.submit(work)
 
     async def do(self, work: Callable[[], T]) -> T:
-        """Do work in a thread, for whoever the running task works for."""
+        """Run work in a thread, on behalf of the current task's client."""
         answer: asyncio.Future[T] = asyncio.get_running_loop().create_future()
-        self._queue.put(MAKER.get(), (work, answer), time.monotonic())
+        self._queue.put(CURRENT_CLIENT.get(), (work, answer), time.monotonic())
         self._fill()
         return await answer
 
     def _fill(self) -> None:
-        """Begin what may be done now, and look again when the next rest ends."""
+        """Start the work that may run now, and look again when the next rest ends."""
         while item := self._queue.take(time.monotonic()):
             name, (work, answer) = item
-            if answer.done():  # its caller no longer waits
+            if answer.done():  # no caller waits any more
                 self._queue.done(name, 0.0, 0.0, time.monotonic())
                 continue
             task = Timed(work)
@@ -89,9 +93,9 @@ class Pool:
             doing.add_done_callback(functools.partial(self._settle, name, answer, task))
         now = time.monotonic()
         if (moment := self._queue.next_take(now)) is not None and self._timer is None:
-            self._timer = asyncio.get_running_loop().call_later(moment - now, self._rested)
+            self._timer = asyncio.get_running_loop().call_later(moment - now, self._end_rest)
 
-    def _rested(self) -> None:
+    def _end_rest(self) -> None:
         self._timer = None
         self._fill()
 
@@ -102,7 +106,7 @@ class Pool:
         if doing.cancelled():
             answer.cancel()
         elif answer.done():
-            doing.exception()  # nobody waits for it any more
+            doing.exception()  # no caller waits any more
         elif error := doing.exception():
             answer.set_exception(error)
         else:
@@ -115,7 +119,7 @@ class Pool:
         return await self.do(lambda: self._answer(question))
 
     def _answer(self, question: Question[T]) -> T:
-        """The thread holds a connection until it is done, even if nobody waits any more."""
+        """Answer a question. The thread keeps its connection even if no caller waits."""
         reader = self._readers.get()
         try:
             return reader.ask(question)
@@ -123,7 +127,7 @@ class Pool:
             self._readers.put(reader)
 
     def close(self) -> None:
-        """End the threads, once they have done what they were asked for, and the connections."""
+        """Finish the requested work, and close threads and connections."""
         if self._timer is not None:
             self._timer.cancel()
         self._threads.shutdown(wait=True)
@@ -132,12 +136,12 @@ class Pool:
 
 
 class Threads:
-    """The threads of a service. `connect` opens a connection that reads.
+    """The threads of a service. `connect` opens a read-only connection.
 
     Attributes:
         reads: For reads of the store.
-        answers: For answers of the API that may be large.
-        pages: For pages of the dashboard, and for the reads of whole sagas for them.
+        answers: For API responses that may be large.
+        pages: For pages of the dashboard, and for their reads of whole sagas.
     """
 
     def __init__(self, connect: Callable[[], Reader]) -> None:
@@ -149,6 +153,6 @@ class Threads:
         self.pages.begin(renderer.compile_all)
 
     def close(self) -> None:
-        """End them all."""
+        """Close all threads."""
         for pool in (self.pages, self.answers, self.reads):
             pool.close()

@@ -1,4 +1,4 @@
-"""Which groups of steps a page shows in parts, as its address says, and the links to others."""
+"""The groups of steps that a page shows unfolded, and the links to other states."""
 
 from __future__ import annotations
 
@@ -10,15 +10,15 @@ from sagas.server.shapes import Field, Text
 
 FIELD = Field(
     Text(most=8192),
-    "the groups whose parts are drawn, by declared names with commas between them; * is each",
+    "comma-separated declared names of the groups whose parts are drawn; *: all groups",
     default=None,
 )
-PLACE = "steps"
-"""The part of a page at which a link leads."""
+ANCHOR = "steps"
+"""The part of a page that a link leads to."""
 
 
 def names_in(text: str | None) -> frozenset[str]:
-    """The declared names in a text with commas between them."""
+    """Return the comma-separated names in a text."""
     return frozenset(part for part in (text or "").split(",") if part)
 
 
@@ -27,16 +27,16 @@ class Unfolding:
 
     Attributes:
         groups: All groups.
-        names: The names of those that are unfolded.
+        names: The names of the unfolded groups.
     """
 
-    def __init__(self, groups: Groups, asked: str | None, base: str) -> None:
+    def __init__(self, groups: Groups, requested: str | None, base: str) -> None:
         self.groups, self._base = groups, base
-        names = names_in(asked)
+        names = names_in(requested)
         self.names = frozenset(groups.by_name) if ALL in names else groups.known(names)
 
     def link(self, group: Group) -> str:
-        """The page with a group unfolded, or folded with all that is in it."""
+        """Return the page with a group unfolded, or with it and its parts folded."""
         if group.name in self.names:
             inner = f"{group.name}/"
             return self._address(
@@ -46,17 +46,17 @@ class Unfolding:
 
     @property
     def all(self) -> str | None:
-        """The page with all groups unfolded; None if they are, or there are none."""
+        """Return the page with all groups unfolded, or None if there is nothing to unfold."""
         if self.names == frozenset(self.groups.by_name):
             return None
-        return f"{self._base}?{urlencode({'unfold': ALL}, safe=ALL)}#{PLACE}"
+        return f"{self._base}?{urlencode({'unfold': ALL}, safe=ALL)}#{ANCHOR}"
 
     @property
     def none(self) -> str | None:
-        """The page with all groups folded; None if they are."""
-        return f"{self._base}#{PLACE}" if self.names else None
+        """Return the page with all groups folded, or None if they are."""
+        return f"{self._base}#{ANCHOR}" if self.names else None
 
     def _address(self, names: Iterable[str]) -> str:
-        some = ",".join(sorted(names))
-        query = f"?{urlencode({'unfold': some}, safe=',/')}" if some else ""
-        return f"{self._base}{query}#{PLACE}"
+        joined = ",".join(sorted(names))
+        query = f"?{urlencode({'unfold': joined}, safe=',/')}" if joined else ""
+        return f"{self._base}{query}#{ANCHOR}"

@@ -1,6 +1,6 @@
 """Runs the application under uvicorn: its settings, and a prompt stop.
 
-docs/dev/adr has what is used of uvicorn and of Starlette.
+docs/dev/adr lists what is used of uvicorn and of Starlette.
 """
 
 from __future__ import annotations
@@ -30,17 +30,20 @@ SIGNALS = signal.SIGTERM, signal.SIGINT
 
 
 def protocol(connections: Connections) -> type[asyncio.Protocol]:
-    """The protocol of uvicorn's choice, within a `Connection`."""
+    """Return uvicorn's protocol, wrapped in a `Connection`."""
 
     class Counted(Connection):
-        def __init__(self, **words: Any) -> None:
-            super().__init__(AutoHTTPProtocol(**words), connections)
+        def __init__(self, **options: Any) -> None:
+            super().__init__(AutoHTTPProtocol(**options), connections)
 
     return Counted
 
 
 def most_connections(wanted: int) -> int:
-    """As many as are wanted, or as descriptors allow; their limit is raised as far as it may be."""
+    """Return how many of the wanted connections the descriptor limit allows.
+
+    The limit is raised as far as possible.
+    """
     soft, hard = resource.getrlimit(resource.RLIMIT_NOFILE)
     need = wanted + SPARE + FOR_STORE
     if soft != resource.RLIM_INFINITY and soft < need:
@@ -52,7 +55,7 @@ def most_connections(wanted: int) -> int:
 
 
 def config_of(app: Any, connections: Connections) -> uvicorn.Config:
-    """The settings of uvicorn. It logs nothing: the application answers for each fault."""
+    """Return the settings of uvicorn. It logs nothing, because the application reports errors."""
     return uvicorn.Config(
         app,
         http=protocol(connections),
@@ -70,7 +73,7 @@ def config_of(app: Any, connections: Connections) -> uvicorn.Config:
 
 
 class Serving:
-    """A server at work, which ends streams and long waits when it is asked to stop."""
+    """A running server. When it is stopped, it ends streams and long waits."""
 
     def __init__(
         self,
@@ -83,7 +86,7 @@ class Serving:
         self._overdue, self._deadline = overdue, list[asyncio.TimerHandle]()
 
     async def run(self, listening: socket.socket, opened: Callable[[], None]) -> None:
-        """Serves until a signal; `opened` is called once it answers."""
+        """Serve until a signal. `opened` is called when the server answers."""
         work = asyncio.ensure_future(self._server.serve(sockets=[listening]))
         try:
             while not self._server.started and not work.done():
@@ -104,7 +107,7 @@ class Serving:
 
     @contextlib.contextmanager
     def _signals(self) -> Any:
-        """Signals are this server's, in place of uvicorn's own handlers."""
+        """Handle signals in place of uvicorn's own handlers."""
         loop = asyncio.get_running_loop()
         is_main = threading.current_thread() is threading.main_thread()
         for number in SIGNALS if is_main else ():
@@ -118,8 +121,10 @@ class Serving:
                 loop.remove_signal_handler(number)
 
     def stop(self) -> None:
-        """Takes no further request, and ends what waits. What is at work has its time; if it is
-        asked again, none."""
+        """Accept no further requests, and end those that wait.
+
+        Active requests get some time. A second call aborts them at once.
+        """
         is_first = not self._service.stopping.done()
         self._server.should_exit = True
         self._service.stop()
@@ -137,7 +142,7 @@ class Serving:
             last.start()
 
     def _abort(self) -> None:
-        """Ends each request and its connection."""
+        """Abort each request and its connection."""
         self._server.force_exit = True
         self._connections.abort()
 
@@ -148,10 +153,11 @@ async def run(
     opened: Callable[[], None],
     overdue: Callable[[], None] | None = None,
 ) -> None:
-    """Serves at a socket until it is asked to stop; `opened` is called once it answers. Raises
-    what `Store` raises.
+    """Serve at a socket until the server is stopped. Raises the errors of `Store`.
 
-    `overdue` is called in a thread where a stop takes longer than all of its parts may."""
+    `opened` is called when the server answers. `overdue` is called in a thread if the stop
+    takes too long.
+    """
     connections = Connections(
         most_connections(settings.places.connections),
         settings.head_time,

@@ -1,4 +1,4 @@
-"""The claims of workers that wait for tasks: a worker that stops ends its own."""
+"""The claims of workers that wait for tasks. A worker that stops can end its own."""
 
 from __future__ import annotations
 
@@ -8,15 +8,18 @@ from collections.abc import Iterator
 
 
 class WaitingClaims:
-    """The claims that wait, by the worker. A name that two workers share is no harm: the claim of
-    the other is answered too, and it claims again."""
+    """Waiting claims by worker.
+
+    Two workers may share a name: then both claims are answered, and the other worker claims
+    again.
+    """
 
     def __init__(self) -> None:
         self._ends: dict[str, set[asyncio.Future[None]]] = {}
 
     @contextlib.contextmanager
     def waiting(self, worker: str) -> Iterator[asyncio.Future[None]]:
-        """A claim waits meanwhile. Gives what is done once it shall be answered."""
+        """Register a waiting claim. Yields a future: when it is done, answer the claim."""
         end = asyncio.get_running_loop().create_future()
         claims = self._ends.setdefault(worker, set())
         claims.add(end)

@@ -1,4 +1,4 @@
-"""The file of webhooks: where what is posted, and by which secret it is signed."""
+"""The file of webhooks: what is posted where, and the secret that signs it."""
 
 from __future__ import annotations
 
@@ -20,7 +20,7 @@ KEYS = ("name", "url", "secret", "types", "definitions")
 PREFIX = "whsec_"
 LEAST_SECRET = 24  # bytes
 SENT = re.compile("[!-~]+")
-"""What a request may have in its host, path and query."""
+"""Valid characters of a request's host, path and query."""
 
 
 class WebhookFault(Exception):
@@ -29,7 +29,7 @@ class WebhookFault(Exception):
 
 @dataclasses.dataclass(frozen=True, slots=True)
 class Webhook:
-    """Where events of some types are posted. `definitions`: of these alone; None: of all."""
+    """Where events of some types are posted. `definitions`: only events of these. None: of all."""
 
     name: str
     url: str
@@ -38,13 +38,15 @@ class Webhook:
     definitions: frozenset[str] | None
 
     def wants(self, kind: str, saga: str) -> bool:
-        """Whether it is told of this."""
+        """Return whether an event is posted to it."""
         return kind in self.types and (self.definitions is None or saga in self.definitions)
 
 
 def is_local(host: str) -> bool:
-    """Whether an address, or `localhost`, is this machine or on its link. Other names are resolved
-    when something is posted."""
+    """Return whether an address, or `localhost`, is this machine or on its link.
+
+    Other names are resolved when something is posted.
+    """
     try:
         address = ipaddress.ip_address(host.partition("%")[0])
     except ValueError:
@@ -55,32 +57,34 @@ def is_local(host: str) -> bool:
 
 
 def read(path: pathlib.Path, allow_local: bool = False) -> list[Webhook]:
-    """The tables `[[webhook]]` of a file. `allow_local`: whether they may post to this machine.
-    Raises `WebhookFault`."""
+    """Read the tables `[[webhook]]` of a file. Raises `WebhookFault`.
+
+    `allow_local`: whether they may post to this machine.
+    """
     try:
         private_files.check(path)
-        told = tomllib.loads(path.read_text(encoding="utf-8"))
+        document = tomllib.loads(path.read_text(encoding="utf-8"))
     except (OSError, UnicodeDecodeError, tomllib.TOMLDecodeError) as error:
         raise WebhookFault(f"{path}: cannot be read: {error}") from error
     except RecursionError:
         raise WebhookFault(f"{path}: cannot be read: too many lists in one another") from None
-    entries = told.get("webhook", [])
-    if set(told) - {"webhook"} or not isinstance(entries, list):
+    entries = document.get("webhook", [])
+    if set(document) - {"webhook"} or not isinstance(entries, list):
         raise WebhookFault(f"{path}: only [[webhook]] tables are allowed")
-    found: dict[str, Webhook] = {}
-    for place, entry in enumerate(entries, 1):
+    hooks: dict[str, Webhook] = {}
+    for number, entry in enumerate(entries, 1):
         try:
-            one = _read_one(entry, allow_local)
+            hook = _read_one(entry, allow_local)
         except ValueError as error:
-            raise WebhookFault(f"{path}: webhook {place}: {error}") from None
-        if one.name in found:
-            raise WebhookFault(f"{path}: webhook {place}: duplicate name {one.name!r}")
-        found[one.name] = one
-    return list(found.values())
+            raise WebhookFault(f"{path}: webhook {number}: {error}") from None
+        if hook.name in hooks:
+            raise WebhookFault(f"{path}: webhook {number}: duplicate name {hook.name!r}")
+        hooks[hook.name] = hook
+    return list(hooks.values())
 
 
 def _read_one(entry: Any, allow_local: bool) -> Webhook:
-    """One of them. Raises `ValueError`."""
+    """Return the webhook of a table. Raises `ValueError`."""
     unknown = sorted(set(entry) - set(KEYS)) if isinstance(entry, dict) else ["?"]
     if unknown:
         raise ValueError(f"unknown key {unknown[0]!r}; the keys are {', '.join(KEYS)}")
@@ -94,28 +98,28 @@ def _read_one(entry: Any, allow_local: bool) -> Webhook:
             "--local-webhooks if it is meant"
         )
     types = _texts(entry.get("types", list(TYPES)), "types")
-    if beyond := sorted(types - set(TYPES)):
-        raise ValueError(f"unknown type {beyond[0]!r}; the types are {', '.join(TYPES)}")
-    some = entry.get("definitions")
+    if unknown_types := sorted(types - set(TYPES)):
+        raise ValueError(f"unknown type {unknown_types[0]!r}; the types are {', '.join(TYPES)}")
+    definitions = entry.get("definitions")
     return Webhook(
         name,
         url,
         _secret(entry.get("secret")),
         types,
-        None if some is None else _texts(some, "definitions"),
+        None if definitions is None else _texts(definitions, "definitions"),
     )
 
 
-def _url(told: Any) -> str:
-    """A URL that can be posted to. No part of it is in what is raised."""
+def _url(value: Any) -> str:
+    """Return a valid URL. Error messages contain no part of it."""
     fault = ValueError(
         "url must be an http or https address with a valid host and port and a percent-encoded "
         "path, for example https://example.org/hook"
     )
-    if not isinstance(told, str):
+    if not isinstance(value, str):
         raise fault
     try:
-        parts = urlsplit(told)
+        parts = urlsplit(value)
         host, _ = (parts.hostname or "").encode("idna").decode(), parts.port
     except ValueError:
         raise fault from None
@@ -124,24 +128,24 @@ def _url(told: Any) -> str:
         raise fault
     if parts.username or parts.password:
         raise ValueError("url must not contain a user or a password; receivers check the signature")
-    return told
+    return value
 
 
-def _texts(told: Any, word: str) -> frozenset[str]:
-    if not isinstance(told, list) or not told or not all(isinstance(one, str) for one in told):
-        raise ValueError(f"{word} must be a list of one or more texts")
-    return frozenset(told)
+def _texts(value: Any, key: str) -> frozenset[str]:
+    if not isinstance(value, list) or not value or not all(isinstance(text, str) for text in value):
+        raise ValueError(f"{key} must be a list of one or more texts")
+    return frozenset(value)
 
 
-def _secret(told: Any) -> bytes:
-    """The bytes of a secret, as Standard Webhooks writes it."""
+def _secret(value: Any) -> bytes:
+    """Return the bytes of a secret in the format of Standard Webhooks."""
     hint = f"secret must be {PREFIX} followed by at least {LEAST_SECRET} random bytes in base64"
-    if not isinstance(told, str) or not told.startswith(PREFIX):
+    if not isinstance(value, str) or not value.startswith(PREFIX):
         raise ValueError(hint)
     try:
-        found = base64.b64decode(told.removeprefix(PREFIX), validate=True)
+        secret = base64.b64decode(value.removeprefix(PREFIX), validate=True)
     except binascii.Error:
         raise ValueError(hint) from None
-    if len(found) < LEAST_SECRET:
+    if len(secret) < LEAST_SECRET:
         raise ValueError(hint)
-    return found
+    return secret

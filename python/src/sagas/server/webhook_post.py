@@ -18,26 +18,26 @@ from sagas.server.webhook_file import Webhook, is_local
 from sagas.storage.deliveries import Claimed
 
 MOST_ANSWER = 1 << 16
-"""Bytes that are read of an answer. Its body is not read."""
+"""Maximum bytes of an answer's head. The body is not read."""
 STATUS = re.compile(rb"HTTP/1\.[01] ([1-5][0-9]{2})(?: |\r?\n)")
 
 
 class InvalidAnswer(Exception):
-    """What the receiver sent is not the beginning of an answer of HTTP. Its bytes are not told."""
+    """The receiver's answer does not begin as HTTP. The message does not contain its bytes."""
 
 
 class LocalReceiver(Exception):
-    """The receiver's name leads to this machine, or to its link."""
+    """The receiver's name resolves to this machine or its link."""
 
 
 def signed(secret: bytes, id: str, at: int, body: bytes) -> str:
-    """The signature of a post: `v1,` and an HMAC in base64."""
+    """Return the signature of a post: `v1,` and an HMAC in base64."""
     code = hmac.new(secret, f"{id}.{at}.".encode() + body, hashlib.sha256).digest()
     return f"v1,{base64.b64encode(code).decode()}"
 
 
 def request_of(hook: Webhook, parts: SplitResult, delivery: Claimed) -> bytes:
-    """The bytes of a post."""
+    """Return the bytes of a post."""
     at, body = int(time.time()), delivery.body.encode()
     host = (parts.hostname or "").encode("idna").decode()
     host = f"[{host}]" if ":" in host else host
@@ -72,23 +72,23 @@ async def post(hook: Webhook, delivery: Claimed, seconds: float, allow_local: bo
         security = {}
         if is_secure:
             security = {"ssl": ssl.create_default_context(), "server_hostname": parts.hostname}
-        back, there = await asyncio.open_connection(
+        reader, writer = await asyncio.open_connection(
             address, port, limit=MOST_ANSWER, **security  # type: ignore[arg-type]
         )
         try:
-            there.write(request_of(hook, parts, delivery))
-            await there.drain()
-            return await _status(back)
+            writer.write(request_of(hook, parts, delivery))
+            await writer.drain()
+            return await _status(reader)
         finally:
-            there.transport.abort()
+            writer.transport.abort()
 
 
-async def _status(back: asyncio.StreamReader) -> int:
-    """The status of the answer, past those that only say that there will be one."""
+async def _status(reader: asyncio.StreamReader) -> int:
+    """Return the status of the answer, after any informational (1xx) answers."""
     left, is_first = MOST_ANSWER, True
     while True:
         try:
-            line = await back.readline()
+            line = await reader.readline()
         except ValueError:  # it is longer than the limit
             raise InvalidAnswer("its answer has too many bytes") from None
         left -= len(line)
@@ -97,14 +97,14 @@ async def _status(back: asyncio.StreamReader) -> int:
         if is_first:
             status = STATUS.match(line)
             if not status:
-                raise InvalidAnswer("its answer is not HTTP" if line else "it gave no answer")
+                raise InvalidAnswer("its answer is not HTTP" if line else "it sent no answer")
             if status[1][0] != ord("1"):
                 return int(status[1])
         is_first = not line.strip()  # the empty line ends the head of an answer in between
 
 
 async def _address_of(host: str, port: int, allow_local: bool) -> str:
-    """The first address of a host that may be posted to."""
+    """Return the first address of a host that may be posted to."""
     addresses = await _resolved(host, port)
     for address in addresses:
         if allow_local or not is_local(address):
@@ -113,8 +113,11 @@ async def _address_of(host: str, port: int, allow_local: bool) -> str:
 
 
 async def _resolved(host: str, port: int) -> list[str]:
-    """The addresses of a host. The thread is a daemon: a name server that does not answer holds up
-    neither others nor a stop."""
+    """Return the addresses of a host.
+
+    The thread is a daemon, so a name server that does not answer delays neither others nor a
+    stop.
+    """
     try:
         return [str(ipaddress.ip_address(host))]
     except ValueError:
@@ -138,7 +141,7 @@ async def _resolved(host: str, port: int) -> list[str]:
             result = error
         try:
             loop.call_soon_threadsafe(settle, result)
-        except RuntimeError:  # the loop is closed: nobody waits
+        except RuntimeError:  # the loop is closed: no caller waits
             pass
 
     threading.Thread(target=ask, name="sagas-resolve", daemon=True).start()

@@ -5,10 +5,10 @@ from __future__ import annotations
 from starlette.responses import Response
 
 from sagas.inspection import attention_pages
-from sagas.inspection.attention_pages import Entry, Place
+from sagas.inspection.attention_pages import Entry, EntryPosition
 from sagas.inspection.question import Question
 from sagas.server import answers, json_views
-from sagas.server.auth import May
+from sagas.server.auth import Permission
 from sagas.server.operations import Answer, Call, Routes
 from sagas.server.responses import parted
 from sagas.server.routes import filters
@@ -20,78 +20,84 @@ KINDS = attention_pages.KINDS
 KIND = "|".join(KINDS)
 
 
-def place_of(cursor: str | None) -> tuple[str | None, Place]:
-    """The kind and the place in a cursor."""
+def parse_cursor(cursor: str | None) -> tuple[str | None, EntryPosition]:
+    """Return the kind and the position in a cursor."""
     if cursor is None:
         return None, None
     kind, _, rest = cursor.partition(".")
     position, _, step = rest.rpartition(".")
-    at, id = filters.place_of(position)
+    at, id = filters.parse_position(position)
     return kind, (at, id, int(step))
 
 
 def cursor_of(entry: Entry) -> str:
-    """What `place_of` reads."""
-    return f"{entry.kind}.{filters.cursor_of((entry.started, entry.id))}.{entry.place}"
+    """Return the cursor of an entry, which `parse_cursor` reads."""
+    return f"{entry.kind}.{filters.cursor_of((entry.started, entry.id))}.{entry.step_index}"
 
 
 def pages(
-    kinds: list[str], of: Filter, step: str | None, after: Place, newest: bool, limit: int
+    kinds: list[str],
+    sagas: Filter,
+    step: str | None,
+    after: EntryPosition,
+    newest: bool,
+    limit: int,
 ) -> Question[list[Entry]]:
-    """A page over several kinds, one behind the other."""
-    found: list[Entry] = []
+    """Return a page of entries of several kinds, one kind after the other."""
+    entries: list[Entry] = []
     for kind in kinds:
-        left = limit - len(found)
+        left = limit - len(entries)
         more = yield from attention_pages.entries(
-            kind, of, step, after=after, newest=newest, most=left
+            kind, sagas, step, after=after, newest=newest, limit=left
         )
-        found, after = found + more, None
-        if len(found) >= limit:
+        entries, after = entries + more, None
+        if len(entries) >= limit:
             break
-    return found
+    return entries
 
 
 @routes.get(
     "/attention",
     "listAttention",
-    may=May.LOOK,
+    permission=Permission.LOOK,
     query=filters.SAGAS
     | filters.MORE
     | {
-        "kind": Field(Choice(KINDS), "of this kind", default=None),
-        "step": Field(Text(most=32), "of this step", default=None),
+        "kind": Field(Choice(KINDS), "only entries of this kind", default=None),
+        "step": Field(Text(most=32), "only entries of this step", default=None),
         "order": Field(
-            Choice(("oldest", "newest")), "which are first, of each kind", default="oldest"
+            Choice(("oldest", "newest")), "which entries of each kind come first", default="oldest"
         ),
         "after": Field(
             Text(most=90, pattern=rf"({KIND})\.{filters.POSITION}\.-?[0-9]{{1,4}}"),
-            "`next` of the page before",
+            "`next` of the previous page",
             default=None,
         ),
         "limit": filters.LIMIT,
     },
-    answers={200: Answer("A page.", answers.ATTENTION)},
+    answers={200: Answer("A page of entries.", answers.ATTENTION)},
 )
 async def listed(call: Call) -> Response:
-    """List what needs a person.
+    """List what needs an operator.
 
-    Stuck sagas, compensations that failed permanently, reports that were not used, attempts with an
-    unknown outcome, attempts that are exhausted, stored values that cannot be read, sagas of
-    damaged shards, and approvals: one kind after the other."""
+    These are stuck sagas, permanently failed compensations, unused reports, attempts with an
+    unknown outcome, exhausted attempts, stored values that cannot be read, sagas of damaged
+    shards, and approvals: one kind after the other.
+    """
     query = call.query
-    kind, after = place_of(query["after"])
+    kind, after = parse_cursor(query["after"])
     kinds = [query["kind"]] if query["kind"] else list(KINDS)
     left = kinds[kinds.index(kind) :] if kind in kinds else kinds
-    of, limit = filters.of(call.who, query), query["limit"]
-    found = await call.service.look(
-        pages(left, of, query["step"], after, query["order"] == "newest", limit)
+    sagas, limit = filters.of(call.principal, query), query["limit"]
+    matching = await call.service.look(
+        pages(left, sagas, query["step"], after, query["order"] == "newest", limit)
     )
-    _, counts = await call.service.figures.of(call.who.scope)
-    last = found[-1] if len(found) == limit else None
+    _, counts = await call.service.figures.of(call.principal.scope)
+    last = matching[-1] if len(matching) == limit else None
     more = last and cursor_of(last)
 
-    def told() -> Response:
-        entries = [json_views.entry(one) for one in found]
+    def answer() -> Response:
+        entries = [json_views.entry(entry) for entry in matching]
         return parted({"counts": counts, "entries": entries, "next": more}, "entries")
 
-    return await call.service.threads.answers.do(told)
+    return await call.service.threads.answers.do(answer)

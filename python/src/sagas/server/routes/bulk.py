@@ -1,4 +1,4 @@
-"""Routes of actions on many sagas: a count first, then the action."""
+"""Routes of bulk actions: first a count, then the action."""
 
 from __future__ import annotations
 
@@ -12,7 +12,7 @@ from sagas.base.errors import SagasError, StepNotWaiting
 from sagas.inspection import attention_pages, lists, unmatched
 from sagas.inspection.question import Question
 from sagas.server import answers, problems
-from sagas.server.auth import May
+from sagas.server.auth import Permission
 from sagas.server.operations import Answer, Call, Handler, Routes
 from sagas.server.problems import Problem
 from sagas.server.responses import Json
@@ -25,211 +25,223 @@ from sagas.server.shapes import Anything, Choice, Field, Flag, Nullable, Number,
 from sagas.storage.filters import Filter
 
 routes = Routes("operators", "/v1/bulk")
-MOST = 1000
-"""How many one request changes at most."""
+MOST_TARGETS = 1000
+"""The maximum number of changes by one request."""
 SHOWN = 20
 AT_ONCE = 50
 Target = tuple[str, str, bool]
-"""A saga, a step of it or nothing, and whether its compensation is meant."""
-Deed = Callable[[Target], Awaitable[Any]]
-SAGAS = Record("SagaFilter", {**filters.SAGAS, **filters.LABELS}, "What is left out selects all.")
+"""A saga's key, a step or "", and whether its compensation is the target."""
+Action = Callable[[Target], Awaitable[Any]]
+SAGAS = Record(
+    "SagaFilter", {**filters.SAGAS, **filters.LABELS}, "Selects sagas. Omitted fields select all."
+)
 STEPS = Record(
     "AttentionFilter",
     {
         **filters.SAGAS,
         **filters.LABELS,
-        "kind": Field(Choice(tuple(KINDS[3:])), "of attempts that wait"),
-        "step": Field(Text(most=32), "of this step; of one with items: of all its items"),
+        "kind": Field(Choice(tuple(KINDS[3:])), "only attempts of this kind"),
+        "step": Field(Text(most=32), "only this step; for a step with items, all of them"),
         "undo": UNDO,
     },
 )
-HEALED = Record(
+RESOLVABLE = Record(
     "ResolvableFilter",
     {
         **filters.SAGAS,
         **filters.LABELS,
-        "kind": Field(Choice(tuple(KINDS[:3])), "what they need a person for"),
+        "kind": Field(Choice(tuple(KINDS[:3])), "only entries of this kind"),
     },
 )
 MODE: Mapping[str, Field] = {
-    "dry_run": Field(Flag(), "count them, and change nothing", default=True),
+    "dry_run": Field(Flag(), "only count, and change nothing", default=True),
     "count": Field(
         Nullable(Number(0, 10**9, whole=True)),
-        "how many the dry run counted; required where it is none",
+        "the count of the dry run; required unless this is one",
         default=None,
     ),
-    "limit": Field(Number(1, MOST, whole=True), "how many are changed at most", default=MOST),
+    "limit": Field(
+        Number(1, MOST_TARGETS, whole=True), "maximum number of changes", default=MOST_TARGETS
+    ),
 }
 
 
-def record(name: str, of: Record, more: Mapping[str, Field]) -> Record:
-    """The body of a deed."""
-    return Record(name, {"filter": Field(of), **MODE, **more})
+def record(name: str, filter_record: Record, more: Mapping[str, Field]) -> Record:
+    """Return the body of a bulk action."""
+    return Record(name, {"filter": Field(filter_record), **MODE, **more})
 
 
-def sagas_of(of: Filter) -> Question[tuple[int, list[Target]]]:
-    """The sagas of a filter that nobody has asked to abort: how many, and the first of them."""
-    total, keys = yield from lists.to_abort(of, MOST)
+def sagas_of(sagas: Filter) -> Question[tuple[int, list[Target]]]:
+    """Count the sagas of a filter without an abort request, and return the first of them."""
+    total, keys = yield from lists.to_abort(sagas, MOST_TARGETS)
     return total, [(key, "", False) for key in keys]
 
 
 def entries_of(
-    kind: str, of: Filter, step: str | None, undo: bool | None
+    kind: str, sagas: Filter, step: str | None, undo: bool | None
 ) -> Question[tuple[int, list[Target]]]:
-    """The same of what needs a person; without a step each saga once."""
+    """Count the entries of a filter, and return the first. Without a step, each saga once."""
     by_saga = step is None
-    total = yield from attention_pages.count(kind, of, step, undo, by_saga=by_saga)
-    found = yield from attention_pages.entries(kind, of, step, undo, most=MOST)
-    some: dict[Target, None] = {}
-    for one in found:
-        some[(one.key, "", False) if by_saga else (one.key, one.step or "", one.undo)] = None
-    return total, list(some)
+    total = yield from attention_pages.count(kind, sagas, step, undo, by_saga=by_saga)
+    entries = yield from attention_pages.entries(kind, sagas, step, undo, limit=MOST_TARGETS)
+    targets: dict[Target, None] = {}
+    for entry in entries:
+        targets[
+            (entry.key, "", False) if by_saga else (entry.key, entry.step or "", entry.undo)
+        ] = None
+    return total, list(targets)
 
 
-async def warnings_of(call: Call, of: Filter) -> list[str]:
-    """What may be misspelt in a filter that selects nothing."""
+async def warnings_of(call: Call, sagas: Filter) -> list[str]:
+    """Return what may be misspelled in a filter that selects nothing."""
     names = [name for saga in call.service.store.sagas for name, _ in saga.declared_steps]
     step = call.body["filter"].get("step")
-    return await call.service.look(unmatched.of(of, step, names))
+    return await call.service.look(unmatched.of(sagas, step, names))
 
 
-async def carried_out(
+async def count_and_act(
     call: Call,
-    of: Filter,
+    sagas: Filter,
     question: Question[tuple[int, list[Target]]],
-    deed: Deed,
+    action: Action,
     undoing: int = 0,
 ) -> Response:
-    """Counts; then, where it is no dry run and the count is still the same, does it to each.
-    `undoing`: how many are left out, because they undo children."""
+    """Count the targets. If it is not a dry run and the count is unchanged, act on each.
+
+    `undoing`: how many are excluded because they undo children.
+    """
     body, (total, targets) = call.body, await call.service.look(question)
-    warnings = [] if total else await warnings_of(call, of)
+    warnings = [] if total else await warnings_of(call, sagas)
     done, refused = 0, list[Any]()
     if not body["dry_run"]:
         if body["count"] is None:
-            raise Problem("InvalidRequest", "count: give what the dry run counted", "count")
+            raise Problem("InvalidRequest", "count: pass the count of the dry run", "count")
         if body["count"] != total:
             raise Problem(
                 "CountChanged",
-                f"the filter selects {total} now, and not {body['count']}: nothing was changed; "
-                "make another dry run",
+                f"the filter now selects {total} instead of {body['count']}. Nothing was changed; "
+                "repeat the dry run",
                 "count",
             )
-        done, refused = await each(call.service, targets[: body["limit"]], deed)
-    told = {
+        done, refused = await each(call.service, targets[: body["limit"]], action)
+    fields = {
         "count": total,
         "dry_run": body["dry_run"],
         "keys": [key for key, *_ in targets[:SHOWN]],
     }
     left = total - done - len(refused)
-    told |= {"done": done, "refused": refused, "left": max(0, left), "undoing": undoing}
-    return Json(told | {"warnings": warnings})
+    fields |= {"done": done, "refused": refused, "left": max(0, left), "undoing": undoing}
+    return Json(fields | {"warnings": warnings})
 
 
 async def each(
-    service: Service, targets: list[Target], deed: Deed
+    service: Service, targets: list[Target], action: Action
 ) -> tuple[int, list[dict[str, Any]]]:
-    """Does it to each, some at once, so that they share commits: how many were done, and which were
-    refused, and why."""
+    """Act on each target, several at once so that they share commits.
+
+    Returns how many were done, and which were refused and why.
+    """
     refused: list[dict[str, Any]] = []
 
-    async def one(target: Target) -> None:
+    async def act_on(target: Target) -> None:
         try:
-            await service.in_time(deed(target))
+            await service.in_time(action(target))
         except SagasError as error:
             refused.append({"key": target[0], "problem": problems.body(problems.of(error))})
 
     for first in range(0, len(targets), AT_ONCE):
-        await asyncio.gather(*map(one, targets[first : first + AT_ONCE]))
+        await asyncio.gather(*map(act_on, targets[first : first + AT_ONCE]))
     service.figures.forget()
     return len(targets) - len(refused), refused
 
 
-def deed_of(service: Service, verb: str, words: dict[str, Any], result: Any, error: Any) -> Deed:
-    """What is done to each. `words`: who does it, and why."""
+def action_of(
+    service: Service, verb: str, options: dict[str, Any], result: Any, error: Any
+) -> Action:
+    """Return the action on one target. `options`: the name of the principal, and the note."""
     store = service.store
 
     async def do(target: Target) -> None:
         key, step, undo = target
         if verb == "abort":
-            if not await store.abort(key, **words):
+            if not await store.abort(key, **options):
                 raise StepNotWaiting(f"saga {key!r} has ended, or was aborted before")
         elif verb == "resolve":
-            await store.resolve(key, str(words["note"]), by=words["by"])
+            await store.resolve(key, str(options["note"]), by=options["by"])
         elif verb == "compensate":
-            await store.compensate(key, step, **words)
+            await store.compensate(key, step, **options)
         elif verb == "retry":
-            await store.retry(key, step, undo=undo, **words)
+            await store.retry(key, step, undo=undo, **options)
         elif verb == "done":
-            await store.complete(key, step, result, undo=undo, **words)
+            await store.complete(key, step, result, undo=undo, **options)
         else:
-            await store.fail(key, step, error, undo=undo, **words)
+            await store.fail(key, step, error, undo=undo, **options)
 
     return do
 
 
-def declare(name: str, body: Record, verb: str, told: str) -> Handler:
-    """The route of a deed."""
+def declare(name: str, body: Record, verb: str, description: str) -> Handler:
+    """Declare the route of a bulk action."""
 
     async def handler(call: Call) -> Response:
-        given, sent = call.body["filter"], call.body
-        if given["labels"] is not None and not given["labels"]:
-            why = "this selects every saga. Leave it out to mean that"
+        selection, sent = call.body["filter"], call.body
+        if selection["labels"] is not None and not selection["labels"]:
+            why = "an empty object selects every saga. Leave out the field to do so"
             raise Problem("InvalidRequest", f"filter.labels: {why}", "filter.labels")
-        words = {"by": call.who.name, "note": sent["note"]}
-        deed = deed_of(call.service, verb, words, sent.get("result"), sent.get("error"))
-        if "kind" not in given:
-            of = filters.of(call.who, given, "open")
-            undoing = await call.service.look(lists.undoing(of))
-            return await carried_out(call, of, sagas_of(of), deed, undoing)
-        of = filters.of(call.who, given)
-        entries = entries_of(given["kind"], of, given.get("step"), given.get("undo"))
-        return await carried_out(call, of, entries, deed)
+        options = {"by": call.principal.name, "note": sent["note"]}
+        action = action_of(call.service, verb, options, sent.get("result"), sent.get("error"))
+        if "kind" not in selection:
+            sagas = filters.of(call.principal, selection, "open")
+            undoing = await call.service.look(lists.undoing(sagas))
+            return await count_and_act(call, sagas, sagas_of(sagas), action, undoing)
+        sagas = filters.of(call.principal, selection)
+        entries = entries_of(selection["kind"], sagas, selection.get("step"), selection.get("undo"))
+        return await count_and_act(call, sagas, entries, action)
 
-    handler.__doc__ = told
-    answer = Answer("What the filter selects, and what was done.", answers.BULK)
+    handler.__doc__ = description
+    answer = Answer("What the filter selects, and what was changed.", answers.BULK)
     return routes.post(
         f"/{name}",
         f"{name}Many",
-        may=May.OPERATE,
+        permission=Permission.OPERATE,
         body=body,
         answers={200: answer},
         problems=("CountChanged",),
     )(handler)
 
 
-BEHIND = (
-    "Count them first: `dry_run` is true by default. Then send the count with `dry_run` false. At "
-    "most 1,000 are changed at once, the oldest first; repeat it while `left` is not 0."
+DRY_RUN_FIRST = (
+    "First make a dry run, which is the default. Then send its count with `dry_run` false. One "
+    "request changes at most 1,000, the oldest first. Repeat it while `left` is not 0."
 )
 abort = declare(
     "abort",
     record("AbortMany", SAGAS, {"note": NOTE}),
     "abort",
-    "Abort the open sagas of a filter.\n\nThose that were asked before, and those that undo "
-    f"children, are left out. {BEHIND}",
+    "Abort the open sagas of a filter.\n\nSagas with an earlier abort request, and sagas "
+    f"that undo children, are excluded. {DRY_RUN_FIRST}",
 )
 resolve = declare(
     "resolve",
-    record("ResolveMany", HEALED, {"note": NEEDED_NOTE}),
+    record("ResolveMany", RESOLVABLE, {"note": NEEDED_NOTE}),
     "resolve",
-    f"Mark the sagas of a filter as resolved.\n\n{BEHIND}",
+    f"Mark the sagas of a filter as resolved.\n\n{DRY_RUN_FIRST}",
 )
 retry = declare(
     "retry",
     record("RetryMany", STEPS, {"note": NOTE}),
     "retry",
-    f"Attempt a step of each saga of a filter again.\n\n{BEHIND}",
+    f"Retry a step of each saga of a filter.\n\n{DRY_RUN_FIRST}",
 )
 complete = declare(
     "complete",
     record("CompleteMany", STEPS, {"result": Field(Anything()), "note": NOTE}),
     "done",
-    f"Report that a step of each saga of a filter is done.\n\n{BEHIND}",
+    f"Report that a step of each saga of a filter is done.\n\n{DRY_RUN_FIRST}",
 )
 fail = declare(
     "fail",
     record("FailMany", STEPS, {"error": ERROR, "note": NOTE}),
     "failed",
-    f"Report that a step of each saga of a filter failed permanently.\n\n{BEHIND}",
+    f"Report that a step of each saga of a filter failed permanently.\n\n{DRY_RUN_FIRST}",
 )

@@ -1,4 +1,4 @@
-"""Pages of definitions: how their sagas go."""
+"""Pages of definitions: their steps, and the state of their sagas."""
 
 from __future__ import annotations
 
@@ -13,11 +13,11 @@ from sagas.definition.groups import Block, Groups
 from sagas.definition.saga import Saga
 from sagas.inspection import definitions, picture
 from sagas.inspection.definitions import AtStep
-from sagas.inspection.group_boxes import Box, Told
+from sagas.inspection.group_boxes import Box, StepDisplay
 from sagas.inspection.lists import COUNTED
 from sagas.inspection.question import Question
 from sagas.server import declared_steps
-from sagas.server.dashboard_session import closed, looker, shows
+from sagas.server.dashboard_session import login_redirect, viewer_of, show_page
 from sagas.server.declared_steps import DeclaredStep
 from sagas.server.operations import Call, Routes
 from sagas.server.table_rows import folded
@@ -28,61 +28,69 @@ routes = Routes("pages", is_page=True)
 
 @routes.get("/ui/definitions")
 async def listed(call: Call) -> Response:
-    """All of them, with how many sagas there are."""
-    if answer := closed(call.request):
+    """Show all definitions with counts of their sagas."""
+    if answer := login_redirect(call.request):
         return answer
-    service, who = call.service, looker(call.request)
+    service, principal = call.service, viewer_of(call.request)
     since = service.hub.now
-    counts, _ = await service.figures.of(who.scope)
-    none = dict.fromkeys(COUNTED, 0)
-    found = {name: counts.get(name, none) for name in sorted({*counts, *service.names(who)})}
-    return shows(
+    counts, _ = await service.figures.of(principal.scope)
+    no_counts = dict.fromkeys(COUNTED, 0)
+    counts_by_name = {
+        name: counts.get(name, no_counts) for name in sorted({*counts, *service.names(principal)})
+    }
+    return show_page(
         call.request,
         "definitions.html",
         here="definitions",
         live="/ui/events",
         since=since,
-        counts=found,
+        counts=counts_by_name,
     )
 
 
 @routes.get("/ui/definitions/{name}", query={"unfold": FIELD})
-async def one(call: Call) -> Response:
-    """One of them: its steps with what is at each, durations, and the costs of recoveries. Of one
-    that only another service has, or none any more, its sagas alone."""
+async def saga(call: Call) -> Response:
+    """Show a definition: its steps with their attempts, durations, and the costs of recoveries.
+
+    If only another service has it, or none any more, only its sagas are shown.
+    """
     request, name = call.request, call.path["name"]
-    if answer := closed(request):
+    if answer := login_redirect(request):
         return answer
-    service, who = call.service, looker(request)
-    some = [saga for saga in service.settings.sagas if saga.name == name and who.sees(name)]
+    service, principal = call.service, viewer_of(request)
+    versions = [
+        saga for saga in service.settings.sagas if saga.name == name and principal.sees(name)
+    ]
     since = service.hub.now
-    counts, _ = await service.figures.of(who.scope)
-    if not some and name not in counts:
-        told: dict[str, Any] = {"title": "There is no such definition", "back": "/ui/definitions"}
-        return shows(request, "fault.html", 404, text=f"No definition is named {name}.", **told)
+    counts, _ = await service.figures.of(principal.scope)
+    if not versions and name not in counts:
+        values: dict[str, Any] = {"title": "Unknown definition", "back": "/ui/definitions"}
+        return show_page(
+            request, "fault.html", 404, text=f"No definition is named {name}.", **values
+        )
 
     def question() -> Question[tuple[dict[str, AtStep], list[tuple[float, int, int]]]]:
-        return (yield from definitions.at_steps(name, who.scope)), (
-            yield from definitions.costs(name, time.time(), who.scope)
+        return (yield from definitions.at_steps(name, principal.scope)), (
+            yield from definitions.costs(name, time.time(), principal.scope)
         )
 
     at, costs = await service.look(question())
-    of = counts.get(name, dict.fromkeys(COUNTED, 0))
-    over = of["completed"] + of["recovered"] + of["resolved"] + of["stuck"]
-    more: dict[str, Any] = {"name": name, "saga": None, "of": of, "costs": costs}
-    more |= {"share": (over - of["completed"]) / over if over else None}
+    phases = counts.get(name, dict.fromkeys(COUNTED, 0))
+    over = phases["completed"] + phases["recovered"] + phases["resolved"] + phases["stuck"]
+    more: dict[str, Any] = {"name": name, "saga": None, "of": phases, "costs": costs}
+    more |= {"share": (over - phases["completed"]) / over if over else None}
     more |= {"most": max((cost for _, _, cost in costs), default=0)}
-    if some:
-        more |= await steps_told(call, max(some, key=lambda one: one.version), at)
-    return shows(
+    if versions:
+        more |= await step_values(call, max(versions, key=lambda saga: saga.version), at)
+    return show_page(
         request, "definition.html", here="definitions", live="/ui/events", since=since, **more
     )
 
 
-async def steps_told(call: Call, saga: Saga, at: dict[str, AtStep]) -> dict[str, Any]:
-    """What the page has of the steps."""
+async def step_values(call: Call, saga: Saga, at: dict[str, AtStep]) -> dict[str, Any]:
+    """Return the template values of the steps."""
     declared = declared_steps.of(saga)
-    groups = Groups([one.origin for one in declared])
+    groups = Groups([step.origin for step in declared])
     unfolding = Unfolding(groups, call.query["unfold"], f"/ui/definitions/{saga.name}")
     steps = rows_of(call, saga, declared, at, unfolding)
     picture = functools.partial(drawn, saga, declared, steps)
@@ -102,9 +110,9 @@ class Row:
         title: The declared name, or the group's title.
         steps: The numbers of the steps.
         needs: The names of what it needs.
-        at: What is at it.
-        step: The step; None of a group.
-        href: Where a click on a group leads.
+        at: Counts of its attempts.
+        step: The step. None for a group.
+        href: The target of a click on a group.
         durations: Of the action, and of the compensation.
     """
 
@@ -124,7 +132,7 @@ def rows_of(
     at: dict[str, AtStep],
     unfolding: Unfolding,
 ) -> list[Row]:
-    """The rows of the table, which are the boxes of the picture."""
+    """Return the rows of the table, which are also the boxes of the picture."""
     blocks = unfolding.groups.blocks(len(declared), unfolding.names)
     name_of = {
         declared[step].name: block.group.name if block.group else declared[step].name
@@ -133,44 +141,44 @@ def rows_of(
     }
 
     def row(block: Block) -> Row:
-        some = [declared[step] for step in block.steps]
-        own = {name_of[one.name] for one in some}
-        needed = dict.fromkeys(name_of[need] for one in some for need in one.needs)
-        needs = [name for name in needed if name not in own]
-        here = total([at.get(one.name, AtStep()) for one in some])
+        steps = [declared[step] for step in block.steps]
+        own_names = {name_of[step.name] for step in steps}
+        needed = dict.fromkeys(name_of[need] for step in steps for need in step.needs)
+        needs = [name for name in needed if name not in own_names]
+        tally = total([at.get(step.name, AtStep()) for step in steps])
         if block.group is not None:
             href = unfolding.link(block.group)
-            return Row(block.group.title, block.steps, needs, here, href=href)
-        times = durations_of(call, saga, some[0].name)
-        return Row(some[0].name, block.steps, needs, here, some[0], durations=times)
+            return Row(block.group.title, block.steps, needs, tally, href=href)
+        times = durations_of(call, saga, steps[0].name)
+        return Row(steps[0].name, block.steps, needs, tally, steps[0], durations=times)
 
     return [row(block) for block in blocks]
 
 
-def total(some: list[AtStep]) -> AtStep:
-    """What is at several steps."""
-    return AtStep(*map(sum, zip(*map(dataclasses.astuple, some))))
+def total(tallies: list[AtStep]) -> AtStep:
+    """Add up the counts of several steps."""
+    return AtStep(*map(sum, zip(*map(dataclasses.astuple, tallies))))
 
 
 def durations_of(call: Call, saga: Saga, step: str) -> tuple[Any, Any]:
-    """Of its action, and of its compensation."""
-    found = call.service.metrics.durations
-    return found.of((saga.name, step, False)), found.of((saga.name, step, True))
+    """Return the durations of a step's action and of its compensation."""
+    durations = call.service.metrics.durations
+    return durations.of((saga.name, step, False)), durations.of((saga.name, step, True))
 
 
 def drawn(saga: Saga, declared: list[DeclaredStep], rows: list[Row]) -> str:
-    """The steps with what is at each."""
+    """Draw the steps with the counts of their attempts."""
     boxes = []
     for row in rows:
-        here = row.at
-        state = f"{here.open:,} open" if here.open else "none open"
-        state += f", {here.waits:,} wait" if here.waits else ""
-        counts = ((here.person, "for a person"), (here.failed, "failed"))
+        tally = row.at
+        state = f"{tally.open:,} open" if tally.open else "none open"
+        state += f", {tally.waits:,} wait" if tally.waits else ""
+        counts = ((tally.person, "for an operator"), (tally.failed, "failed"))
         note = row.step.note if row.step else ""
-        why = ", ".join([f"{count:,} {word}" for count, word in counts if count] or [note])
-        tone = "person" if here.person else "failed" if here.failed else ""
-        icon = "running" if here.open else "waiting"
-        told = Told(state, why, False, tone or icon, icon)
-        boxes.append(Box(row.title, told, row.steps, row.href, row.step is None))
-    needs = [(one.name, one.needs) for one in declared]
+        why = ", ".join([f"{count:,} {label}" for count, label in counts if count] or [note])
+        tone = "person" if tally.person else "failed" if tally.failed else ""
+        icon = "running" if tally.open else "waiting"
+        display = StepDisplay(state, why, False, tone or icon, icon)
+        boxes.append(Box(row.title, display, row.steps, row.href, row.step is None))
+    needs = [(step.name, step.needs) for step in declared]
     return picture.drawn(needs, boxes, f"{saga.name}: its steps, and what is at each")

@@ -9,7 +9,7 @@ from starlette.responses import Response
 from sagas.definition.saga import Saga
 from sagas.inspection.lists import COUNTED
 from sagas.server import answers, declared_steps
-from sagas.server.auth import May
+from sagas.server.auth import Permission
 from sagas.server.declared_steps import COMPUTED, DeclaredStep
 from sagas.server.operations import Answer, Call, Routes
 from sagas.server.responses import Json
@@ -18,24 +18,24 @@ routes = Routes("definitions", "/v1")
 KINDS = {"approval": "approval", "wait": "wait", "child": "child"}
 
 
-def told_of(saga: Saga, counts: dict[str, int]) -> dict[str, Any]:
-    """A definition with its steps."""
-    steps = [step_of(one) for one in declared_steps.of(saga)]
+def definition_json(saga: Saga, counts: dict[str, int]) -> dict[str, Any]:
+    """Return a definition with its steps."""
+    steps = [step_of(step) for step in declared_steps.of(saga)]
     return {"name": saga.name, "version": saga.version, "steps": steps, "sagas": counts}
 
 
-def step_of(one: DeclaredStep) -> dict[str, Any]:
-    """A step with its costs."""
-    step, costs = one.step, one.costs
+def step_of(declared: DeclaredStep) -> dict[str, Any]:
+    """Return a step with its costs."""
+    step, costs = declared.step, declared.costs
     kind = KINDS.get(step.kind) or ("worker" if step.run.external else "function")
     return {
-        "name": one.name,
+        "name": declared.name,
         "kind": kind,
-        "needs": one.needs,
-        **{word: None if cost == COMPUTED else cost for word, cost in costs.items()},
-        "computed": [word for word, cost in costs.items() if cost == COMPUTED],
-        "for_each": one.for_each,
-        "conditional": one.conditional,
+        "needs": declared.needs,
+        **{name: None if cost == COMPUTED else cost for name, cost in costs.items()},
+        "computed": [name for name, cost in costs.items() if cost == COMPUTED],
+        "for_each": declared.for_each,
+        "conditional": declared.conditional,
         "tries": step.run.tries,
         "undo_tries": step.undo.tries,
     }
@@ -44,16 +44,19 @@ def step_of(one: DeclaredStep) -> dict[str, Any]:
 @routes.get(
     "/definitions",
     "listDefinitions",
-    may=May.LOOK,
+    permission=Permission.LOOK,
     answers={200: Answer("Each version of each definition.", answers.DEFINITIONS)},
 )
 async def listed(call: Call) -> Response:
     """List definitions.
 
-    Those that the token may see, with their steps and how many sagas there are."""
-    counts, _ = await call.service.figures.of(call.who.scope)
-    none = dict.fromkeys(COUNTED, 0)
-    some = [saga for saga in call.service.settings.sagas if call.who.sees(saga.name)]
-    some.sort(key=lambda saga: (saga.name, saga.version))
-    found = [told_of(saga, counts.get(saga.name, none)) for saga in some]
-    return Json({"definitions": found})
+    Returns those that the token may see, with their steps and the number of their sagas.
+    """
+    counts, _ = await call.service.figures.of(call.principal.scope)
+    no_counts = dict.fromkeys(COUNTED, 0)
+    visible = [saga for saga in call.service.settings.sagas if call.principal.sees(saga.name)]
+    visible.sort(key=lambda saga: (saga.name, saga.version))
+    listed_definitions = [
+        definition_json(saga, counts.get(saga.name, no_counts)) for saga in visible
+    ]
+    return Json({"definitions": listed_definitions})

@@ -10,7 +10,7 @@ from typing import Any
 from sagas.definition.labels import checked
 from sagas.inspection.pages import Position
 from sagas.server.access import check_definition
-from sagas.server.auth import Who
+from sagas.server.auth import Principal
 from sagas.server.shapes import (
     DECIMAL,
     Field,
@@ -24,10 +24,10 @@ from sagas.server.shapes import (
 )
 from sagas.storage.filters import Filter
 
-LIMIT = Field(Number(1, 1000, whole=True), "how many at most", default=100)
+LIMIT = Field(Number(1, 1000, whole=True), "maximum number of entries", default=100)
 POSITION = r"-?[0-9]+(\.[0-9]+)?-[0-9]+"
 CURSOR = Text(most=64, pattern=POSITION)
-"""A place in the list: when a saga started, and its id, as 1795934845.949-1048577."""
+"""A position in the list: when a saga started, and its id, such as 1795934845.949-1048577."""
 
 
 class Moment(Shape):
@@ -38,12 +38,12 @@ class Moment(Shape):
             return Number(0, 1e11).read(value, field)
         try:
             text = str(value)
-            found = datetime.datetime.fromisoformat(text if text.isascii() else "")
+            moment = datetime.datetime.fromisoformat(text if text.isascii() else "")
         except ValueError:
-            raise Invalid(field, "it is a time, as 2027-01-31T12:00:00Z") from None
-        if found.tzinfo is None:
-            raise Invalid(field, "it has an offset, as 2027-01-31T12:00:00Z")
-        return found.timestamp()
+            raise Invalid(field, "must be a time, for example 2027-01-31T12:00:00Z") from None
+        if moment.tzinfo is None:
+            raise Invalid(field, "must have an offset, for example 2027-01-31T12:00:00Z")
+        return moment.timestamp()
 
     def of_text(self, text: str, field: str) -> float:
         if DECIMAL.fullmatch(text):
@@ -55,43 +55,51 @@ class Moment(Shape):
 
 
 LABEL = Text(most=400, pattern="[^=]+=.*")
-MORE = {"label": Field(Several(LABEL, most=16), "with this label, as `customer=7`", default=None)}
-"""Of a query; a body has `labels` as an object."""
-LABELS = {"labels": Field(Mapped(Text()), "with these labels", default=None)}
+MORE = {
+    "label": Field(
+        Several(LABEL, most=16), "only sagas with this label, such as `customer=7`", default=None
+    )
+}
+"""Parameters of a query. A body has `labels` as an object."""
+LABELS = {"labels": Field(Mapped(Text()), "only sagas with these labels", default=None)}
 SAGAS: dict[str, Field] = {
-    "definition": Field(Text(most=64), "of this definition", default=None),
-    "search": Field(Text(most=512), "whose key contains this", default=None),
-    "started_after": Field(Moment(), "started then or later", default=None),
-    "started_before": Field(Moment(), "started earlier", default=None),
-    "error": Field(Text(most=512), "of which an attempt raised what contains this", default=None),
+    "definition": Field(Text(most=64), "only sagas of this definition", default=None),
+    "search": Field(Text(most=512), "only sagas whose key contains this", default=None),
+    "started_after": Field(Moment(), "only sagas started at this time or later", default=None),
+    "started_before": Field(Moment(), "only sagas started before this time", default=None),
+    "error": Field(Text(most=512), "only sagas with an error that contains this", default=None),
 }
 
 
-def of(who: Who, told: Mapping[str, Any], phase: str | None = None) -> Filter:
-    """The filter, of sagas that are theirs to see. Raises `Problem`."""
-    check_definition(who, told["definition"], starts=False)
-    words = {name: told[name] for name in ("search", "started_after", "started_before", "error")}
-    labels = checked(told.get("labels") or labels_of(told.get("label") or ()))
-    return Filter(phase=phase, saga=told["definition"], labels=labels, scope=who.scope, **words)
+def of(principal: Principal, parameters: Mapping[str, Any], phase: str | None = None) -> Filter:
+    """Return the filter of sagas that the principal may see. Raises `Problem`."""
+    check_definition(principal, parameters["definition"], starts=False)
+    fields = {
+        name: parameters[name] for name in ("search", "started_after", "started_before", "error")
+    }
+    labels = checked(parameters.get("labels") or labels_of(parameters.get("label") or ()))
+    return Filter(
+        phase=phase, saga=parameters["definition"], labels=labels, scope=principal.scope, **fields
+    )
 
 
-def labels_of(told: Iterable[str]) -> dict[str, str]:
-    """Labels as a query has them, each `name=value`."""
-    return dict(one.partition("=")[::2] for one in told)
+def labels_of(texts: Iterable[str]) -> dict[str, str]:
+    """Return labels from a query's texts, each `name=value`."""
+    return dict(text.partition("=")[::2] for text in texts)
 
 
-def cursor_of(place: tuple[float, int]) -> str:
-    """The text of a place, which is read as exactly the same."""
-    at, id = place
+def cursor_of(position: tuple[float, int]) -> str:
+    """Return the text of a position. Parsing it returns exactly the same position."""
+    at, id = position
     return f"{Decimal(repr(at)):f}-{id}"  # no exponent, which has signs
 
 
 def position_of(cursor: str | None) -> Position:
-    """The place in a cursor."""
-    return None if cursor is None else place_of(cursor)
+    """Return the position in a cursor."""
+    return None if cursor is None else parse_position(cursor)
 
 
-def place_of(cursor: str) -> tuple[float, int]:
-    """What `cursor_of` wrote; an id that is too large is behind all."""
+def parse_position(cursor: str) -> tuple[float, int]:
+    """Parse the text of `cursor_of`. An id that is too large is after all others."""
     at, _, id = cursor.rpartition("-")
     return float(at), min(int(id), 2**62)

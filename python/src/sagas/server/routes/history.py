@@ -1,11 +1,11 @@
-"""Routes of what happened to a saga: its events, and what each attempt did."""
+"""Routes of a saga's history: its events, and what each attempt did."""
 
 from __future__ import annotations
 
 from starlette.responses import Response
 
 from sagas.server import answers, json_views
-from sagas.server.auth import May
+from sagas.server.auth import Permission
 from sagas.server.operations import Answer, Call, Routes
 from sagas.server.responses import Json, parted
 from sagas.server.routes.sagas import kept_of, view_of
@@ -17,15 +17,16 @@ routes = Routes("sagas", "/v1")
 @routes.get(
     "/sagas/{key}/log",
     "getHistory",
-    may=May.LOOK,
+    permission=Permission.LOOK,
     problems=("NoSuchSaga",),
-    answers={200: Answer("Its events, in their order.", answers.HISTORY)},
+    answers={200: Answer("The events of the saga, in order.", answers.HISTORY)},
 )
 async def log(call: Call) -> Response:
     """Get the history of a saga.
 
-    Each event with its time and what came of it, and what people did."""
-    view = await kept_of(call.service, call.who, call.key)
+    Returns each event with its time and result, and the commands of operators.
+    """
+    view = await kept_of(call.service, call.principal, call.key)
     return await call.service.threads.answers.do(
         lambda: parted({"events": json_views.log(view)}, "events")
     )
@@ -34,13 +35,14 @@ async def log(call: Call) -> Response:
 @routes.get(
     "/sagas/{key}/timeline",
     "getTimeline",
-    may=May.LOOK,
+    permission=Permission.LOOK,
     problems=("NoSuchSaga",),
-    answers={200: Answer("Its attempts, in the order of their begins.", TIMELINE)},
+    answers={200: Answer("The attempts of the saga, in the order of their starts.", TIMELINE)},
 )
 async def timeline(call: Call) -> Response:
     """Get when each attempt of a saga was queued, ran, waited and backed off.
 
-    With the workers that had it, and with what people decided and why."""
+    Returns also the workers that had it, and the decisions of operators with their reasons.
+    """
     view, now = await view_of(call), call.service.store.now()
     return await call.service.threads.answers.do(lambda: Json(json_views.timeline(view, now)))

@@ -15,17 +15,17 @@ from sagas.inspection.attention_pages import KINDS, Entry
 from sagas.inspection.question import Question
 from sagas.server import json_texts
 from sagas.server.access import service_of
-from sagas.server.dashboard_session import closed, looker, sent_fields, shows
+from sagas.server.dashboard_session import login_redirect, viewer_of, session_and_fields, show_page
 from sagas.server.operations import Call, Routes
 from sagas.server.routes import bulk
 from sagas.server.routes.inbox_selection import (
     Selection,
     id_of,
-    place_of,
+    id_of_entry,
     seen,
     selected,
 )
-from sagas.server.routes.inbox_words import SAID, TITLES, VERBS, question_of
+from sagas.server.routes.inbox_words import EXPLANATIONS, TITLES, VERBS, question_of
 from sagas.server.routes.pages import work_of
 from sagas.server.shapes import Choice, Field, Number, Text
 from sagas.storage.filters import Filter
@@ -34,7 +34,7 @@ routes = Routes("pages", is_page=True)
 SHOWN, MEMBERS, LISTED = 12, 5, 50
 """Groups on a page, sagas of each, and sagas on a page of one group."""
 MOST_GROUPED = 2000
-"""Entries that are put into groups."""
+"""Maximum number of entries that are grouped."""
 MOST_FIELDS = 1000
 KIND = Field(Choice(KINDS), default=None)
 QUERY = {
@@ -49,57 +49,61 @@ QUERY = {
 
 @dataclasses.dataclass(frozen=True, slots=True)
 class Wanted:
-    """What a page, or a form, is about."""
+    """What a page or a form is about."""
 
     kind: str
     of: Filter
     newest: bool
 
     def question(self) -> Question[list[Entry]]:
-        """Its entries, as far as they are put into groups."""
-        return attention_pages.entries(self.kind, self.of, newest=self.newest, most=MOST_GROUPED)
+        """Return the question for its entries."""
+        return attention_pages.entries(self.kind, self.of, newest=self.newest, limit=MOST_GROUPED)
 
 
-def filter_of(request: Request, told: dict[str, Any]) -> Filter:
-    """The sagas that are asked for, of those that are theirs to see."""
+def filter_of(request: Request, fields: dict[str, Any]) -> Filter:
+    """Return the filter of the requested sagas that the user may see."""
     return Filter(
-        saga=told.get("definition") or None,
-        search=told.get("search") or None,
-        scope=looker(request).scope,
+        saga=fields.get("definition") or None,
+        search=fields.get("search") or None,
+        scope=viewer_of(request).scope,
     )
 
 
-def wanted_of(request: Request, told: dict[str, Any], kind: str) -> Wanted:
-    """What is asked for."""
-    return Wanted(kind, filter_of(request, told), told.get("order") == "newest")
+def wanted_of(request: Request, fields: dict[str, Any], kind: str) -> Wanted:
+    """Return the requested kind, filter and order."""
+    return Wanted(kind, filter_of(request, fields), fields.get("order") == "newest")
 
 
-def counts_of(of: Filter) -> Question[dict[str, int]]:
-    """How many entries of each kind a filter selects."""
-    found = dict[str, int]()
+def counts_of(sagas: Filter) -> Question[dict[str, int]]:
+    """Count the entries of each kind that a filter selects."""
+    counts = dict[str, int]()
     for kind in KINDS:
-        found[kind] = yield from attention_pages.count(kind, of)
-    return found
+        counts[kind] = yield from attention_pages.count(kind, sagas)
+    return counts
 
 
-def address(given: dict[str, Any], **change: Any) -> str:
-    """The inbox with these parameters; those that are as without them are left out."""
-    words = {
+def address(parameters: dict[str, Any], **change: Any) -> str:
+    """Return the inbox's address with these parameters. Defaults are left out."""
+    query = {
         name: value
-        for name, value in {**given, **change}.items()
+        for name, value in {**parameters, **change}.items()
         if value not in (None, "") and value != QUERY[name].default
     }
-    return f"/ui?{urlencode(words)}" if words else "/ui"
+    return f"/ui?{urlencode(query)}" if query else "/ui"
 
 
-def listed(found: list[Entry], group: str | None, page: int) -> dict[str, Any]:
-    """What a page has of the entries: groups, or the entries of one group."""
-    groups = attention_pages.groups(found)
-    one = next((of for of in groups if id_of(of) == group), None) if group else None
-    size = LISTED if one else SHOWN
-    shown: list[Any] = [*groups] if one is None else [*one.entries]
+def listed(entries: list[Entry], group: str | None, page: int) -> dict[str, Any]:
+    """Return the template values for entries: groups, or the entries of one group."""
+    groups = attention_pages.groups(entries)
+    chosen = (
+        next((candidate for candidate in groups if id_of(candidate) == group), None)
+        if group
+        else None
+    )
+    size = LISTED if chosen else SHOWN
+    shown: list[Any] = [*groups] if chosen is None else [*chosen.entries]
     return {
-        "group": one,
+        "group": chosen,
         "page": page,
         "more": len(shown) > page * size,
         "shown": shown[(page - 1) * size : page * size],
@@ -108,53 +112,65 @@ def listed(found: list[Entry], group: str | None, page: int) -> dict[str, Any]:
 
 @routes.get("/ui", query=QUERY)
 async def inbox(call: Call) -> Response:
-    """What needs a person: the kind that is asked for, or the first of which there is something."""
+    """Show what needs an operator: the requested kind, or the first kind that has entries."""
     request, query = call.request, dict(call.query)
-    if answer := closed(request):
+    if answer := login_redirect(request):
         return answer
-    service, who = call.service, looker(request)
+    service, principal = call.service, viewer_of(request)
     since = service.hub.now
-    counts, asked = await service.figures.of(who.scope)
+    counts, needed = await service.figures.of(principal.scope)
     is_filtered = bool(query["definition"] or query["search"])
     if is_filtered:
-        asked = await service.look(counts_of(filter_of(request, query)))
-    kind = query["kind"] or next((kind for kind in KINDS if asked[kind]), KINDS[0])
-    found = await service.look(wanted_of(request, query, kind).question())
-    given = {name: query[name] for name in ("kind", "definition", "search", "order", "group")}
+        needed = await service.look(counts_of(filter_of(request, query)))
+    kind = query["kind"] or next((kind for kind in KINDS if needed[kind]), KINDS[0])
+    entries = await service.look(wanted_of(request, query, kind).question())
+    parameters = {name: query[name] for name in ("kind", "definition", "search", "order", "group")}
 
     def url(**change: Any) -> str:
-        return address(given, **change)
+        return address(parameters, **change)
 
     total = {
-        phase: sum(of[phase] for of in counts.values())
+        phase: sum(phases[phase] for phases in counts.values())
         for phase in ("open", "completed", "recovered", "resolved")
     }
-    told: dict[str, Any] = {
-        "counts": asked,
-        "asked_all": sum(asked.values()),
+    values: dict[str, Any] = {
+        "counts": needed,
+        "asked_all": sum(needed.values()),
         "totals": total,
         "query": query,
     }
-    work = functools.partial(listed, found, query["group"], query["page"])
-    told |= {"is_filtered": is_filtered, **await service.threads.pages.do(work)}
-    told |= work_of(await service.queues(who)) | {"again": service.figures.lag(who.scope)}
-    told |= {"kind": kind, "titles": TITLES, "said": SAID[kind], "verbs": VERBS[kind], "url": url}
-    told |= {"id_of": id_of, "place_of": place_of, "names": counts}
-    told |= {"cut": asked[kind] if len(found) >= MOST_GROUPED else None, "grouped": MOST_GROUPED}
-    told |= {"members": MEMBERS}
-    return shows(request, "inbox.html", here="inbox", live="/ui/events", since=since, **told)
+    work = functools.partial(listed, entries, query["group"], query["page"])
+    values |= {"is_filtered": is_filtered, **await service.threads.pages.do(work)}
+    values |= work_of(await service.queues(principal)) | {
+        "again": service.figures.lag(principal.scope)
+    }
+    values |= {
+        "kind": kind,
+        "titles": TITLES,
+        "explanation": EXPLANATIONS[kind],
+        "verbs": VERBS[kind],
+        "url": url,
+    }
+    values |= {"id_of": id_of, "id_of_entry": id_of_entry, "names": counts}
+    values |= {
+        "cut": needed[kind] if len(entries) >= MOST_GROUPED else None,
+        "grouped": MOST_GROUPED,
+    }
+    values |= {"members": MEMBERS}
+    return show_page(request, "inbox.html", here="inbox", live="/ui/events", since=since, **values)
 
 
 @routes.post("/ui/inbox")
-async def deed(call: Call) -> Response:
-    """Asks once more, with the number; then does it to each that was asked about, as far as it
-    still waits, and says what came of it."""
+async def act(call: Call) -> Response:
+    """Ask for confirmation with the count. Then act on each confirmed entry that still waits, and
+    show the results.
+    """
     request = call.request
-    session, fields = await sent_fields(request, MOST_FIELDS)
+    session, fields = await session_and_fields(request, MOST_FIELDS)
     form = dict(fields)
     kind, verb = form.get("kind", ""), form.get("verb", "")
     if verb not in VERBS.get(kind, {}):
-        return shows(
+        return show_page(
             request,
             "fault.html",
             422,
@@ -162,14 +178,14 @@ async def deed(call: Call) -> Response:
             back="/ui",
             text="Select sagas in the inbox, then select an action.",
         )
-    found = await call.service.look(wanted_of(request, form, kind).question())
+    entries = await call.service.look(wanted_of(request, form, kind).question())
     waits = form.get("waits")
-    choose = functools.partial(selected, found, fields)
+    choose = functools.partial(selected, entries, fields)
     if waits is not None:
-        choose = functools.partial(seen, found, waits)
+        choose = functools.partial(seen, entries, waits)
     selection = await call.service.threads.pages.do(choose)
     if not selection.entries:
-        return shows(
+        return show_page(
             request,
             "fault.html",
             422,
@@ -178,43 +194,43 @@ async def deed(call: Call) -> Response:
             text="Nothing was selected, or all of it has changed since. Select groups or sagas.",
         )
     if waits is None:
-        return asked_again(request, form, selection)
+        return confirmation_page(request, form, selection)
     if fault := fault_of(form):
-        return asked_again(request, form, selection, fault)
-    words = {"by": session.who.name, "note": form.get("note", "").strip()[:2000] or None}
+        return confirmation_page(request, form, selection, fault)
+    options = {"by": session.principal.name, "note": form.get("note", "").strip()[:2000] or None}
     result = json_texts.read(form.get("result") or "null")
     error = form.get("failed", "").strip()[:2000]
-    work = bulk.deed_of(service_of(request), verb, words, result, error)
+    work = bulk.action_of(service_of(request), verb, options, result, error)
     targets = selection.targets(verb)
-    done, refused = await bulk.each(call.service, targets[: bulk.MOST], work)
-    told: dict[str, Any] = {
+    done, refused = await bulk.each(call.service, targets[: bulk.MOST_TARGETS], work)
+    values: dict[str, Any] = {
         "done": done,
         "refused": len(refused),
         "shown": refused[:LISTED],
-        "left": len(targets) - bulk.MOST,
+        "left": len(targets) - bulk.MOST_TARGETS,
         "changed": len(waits.split()) - len(selection.entries),
     }
-    return shows(request, "inbox_done.html", here="inbox", kind=kind, **told)
+    return show_page(request, "inbox_done.html", here="inbox", kind=kind, **values)
 
 
-def asked_again(
+def confirmation_page(
     request: Request, form: dict[str, str], selection: Selection, fault: str | None = None
 ) -> Response:
-    """The question, with what was selected and said."""
+    """Return the confirmation page, with the selection and the form's values."""
     kind, verb = form["kind"], form["verb"]
     targets = selection.targets(verb)
-    asked: dict[str, Any] = {"form": form, "targets": targets, "verb": verb, "kind": kind}
-    asked |= question_of(kind, verb, targets).of(targets, verb)
-    asked |= {"waits": selection.waits, "fault": fault}
-    return shows(request, "inbox_confirm.html", 422 if fault else 200, here="inbox", **asked)
+    values: dict[str, Any] = {"form": form, "targets": targets, "verb": verb, "kind": kind}
+    values |= question_of(kind, verb, targets).of(targets, verb)
+    values |= {"waits": selection.waits, "fault": fault}
+    return show_page(request, "inbox_confirm.html", 422 if fault else 200, here="inbox", **values)
 
 
 def fault_of(form: dict[str, str]) -> str | None:
-    """What is wrong with what was said."""
+    """Return what is wrong with a form, or None."""
     if form["verb"] == "resolve" and not form.get("note", "").strip():
-        return "Say what was done about it."
+        return "Describe what was done."
     if form["verb"] == "failed" and not form.get("failed", "").strip():
-        return "Say why."
+        return "Enter a reason."
     try:
         json_texts.read(form.get("result") or "null")
     except ValueError:

@@ -1,4 +1,4 @@
-"""The entries that a form of the inbox is about."""
+"""The entries that a form of the inbox selects."""
 
 from __future__ import annotations
 
@@ -15,52 +15,51 @@ Fields = list[tuple[str, str]]
 
 
 def id_of(group: Group) -> str:
-    """The name of a group in forms and addresses."""
+    """Return the identifier of a group in forms and addresses."""
     return hashlib.sha256(f"{group.saga}\n{group.cause}".encode()).hexdigest()[:16]
 
 
-def place_of(entry: Entry) -> str:
-    """The name of an entry in forms."""
-    return f"{entry.id}.{entry.place}.{'undo' if entry.undo else 'run'}"
+def id_of_entry(entry: Entry) -> str:
+    """Return the identifier of an entry in forms."""
+    return f"{entry.id}.{entry.step_index}.{'undo' if entry.undo else 'run'}"
 
 
 def wait_of(entry: Entry) -> str:
-    """The name of what an entry waits for. Once the same step waits again it is another one."""
-    wait = entry.id, entry.place, entry.undo, entry.since
+    """Return the identifier of what an entry waits for. It changes if the same step waits again."""
+    wait = entry.id, entry.step_index, entry.undo, entry.since
     return hashlib.sha256(json.dumps(wait).encode()).hexdigest()[:16]
 
 
 @dataclasses.dataclass(frozen=True, slots=True)
 class Selection:
-    """Entries of one kind. `waits`: the names of what they wait for, as a form has them."""
+    """Entries of one kind. `waits`: the identifiers of what they wait for, as a form has them."""
 
     entries: list[Entry]
     waits: str
 
     def targets(self, verb: str) -> list[Target]:
-        """What a verb is done to: steps; or whole sagas, each once."""
+        """Return the targets of an action: steps, or each saga once."""
         is_whole = verb in WHOLE
         return list(
             dict.fromkeys(
-                (one.key, "", False) if is_whole else (one.key, one.step or "", one.undo)
-                for one in self.entries
+                (entry.key, "", False) if is_whole else (entry.key, entry.step or "", entry.undo)
+                for entry in self.entries
             )
         )
 
 
-def selected(found: list[Entry], fields: Fields) -> Selection:
-    """What was selected of the entries that are there: whole groups, and single ones."""
+def selected(entries: list[Entry], fields: Fields) -> Selection:
+    """Return the selected entries: whole groups, and single ones."""
     groups = {value for name, value in fields if name == "group"}
-    ones = {value for name, value in fields if name == "one"}
+    ids = {value for name, value in fields if name == "one"}
     chosen = []
-    for group in attention_pages.groups(found):
+    for group in attention_pages.groups(entries):
         is_chosen = id_of(group) in groups
-        chosen += [one for one in group.entries if is_chosen or place_of(one) in ones]
+        chosen += [entry for entry in group.entries if is_chosen or id_of_entry(entry) in ids]
     return Selection(chosen, " ".join(map(wait_of, chosen)))
 
 
-def seen(found: list[Entry], waits: str) -> Selection:
-    """What a form's reader saw of the entries that are there: neither those that came later, nor
-    those that wait again."""
+def seen(entries: list[Entry], waits: str) -> Selection:
+    """Return the entries that the user saw, without later entries and those that wait again."""
     names = set(waits.split())
-    return Selection([one for one in found if wait_of(one) in names], waits)
+    return Selection([entry for entry in entries if wait_of(entry) in names], waits)

@@ -1,4 +1,4 @@
-"""The words of the inbox: kinds, actions on many entries, and their questions."""
+"""The texts of the inbox: kinds, bulk actions, and their confirmations."""
 
 from __future__ import annotations
 
@@ -16,11 +16,11 @@ TITLES = {
     "damaged": "Damaged",
     "approval": "Approvals",
 }
-SAID = {
+EXPLANATIONS = {
     "stuck": "No plan is feasible. Repair by hand what is needed, then resolve them.",
-    "undo_failed": "A compensation failed permanently, and the effect of its step is still there.",
+    "undo_failed": "A compensation failed permanently, and the effect of its step still exists.",
     "unused_report": "A success was reported before the step began, and its saga ended without it. "
-    "What was done elsewhere is still there.",
+    "Its effect still exists.",
     "unknown": "The outcome of the step is unknown. Check the external system, then report it.",
     "exhausted": "The attempts of the step are used up. Fix the cause, then retry it.",
     "cannot_decode": "No program can read a stored value. Open the store with a program that can.",
@@ -39,22 +39,23 @@ VERBS: dict[str, dict[str, str]] = {
     "approval": {"done": "Approve…", "failed": "Refuse…", "abort": "Abort…"},
 }
 WHOLE = ("resolve", "abort")
-"""The verbs that are for whole sagas, and not for steps of them."""
+"""Actions on whole sagas, not on steps."""
 FAILS = "Each step fails permanently, and its saga follows a plan of least cost."
 
 
 @dataclasses.dataclass(frozen=True, slots=True)
 class Question:
-    """What is asked before many are changed.
+    """The confirmation of a bulk action.
 
-    `title` has a place for how many there are; `button`: of one, and of more."""
+    `title` has a placeholder for the count. `button`: for one target, and for several.
+    """
 
     title: str
     button: tuple[str, str]
     text: str
 
     def of(self, targets: list[Target], verb: str) -> dict[str, str]:
-        """Its words for these targets."""
+        """Return the texts for these targets."""
         is_one = len(targets) == 1
         are = "is" if is_one or is_undo(targets) else "are"
         title = self.title.format(many(targets, verb), are=are)
@@ -79,13 +80,13 @@ QUESTIONS = {
     "done": Question(
         "Report that {} {are} done?",
         ("It is done", "They are done"),
-        "The sagas continue with it. Report this only of effects that are there: sagas cannot "
+        "The sagas continue with it. Report this only of effects that exist: sagas cannot "
         "check it.",
     ),
     "failed": Question(
         "Report that {} had no effect?",
         ("It had no effect", "They had no effect"),
-        f"{FAILS} Report this only of effects that are not there: no compensation undoes an effect "
+        f"{FAILS} Report this only if there was no effect: no compensation undoes an effect "
         "that you deny.",
     ),
     "abort": Question(
@@ -107,25 +108,25 @@ OF_COMPENSATIONS = {
     "failed": Question(
         "Report that {} had no effect?",
         ("It had no effect", "They had no effect"),
-        "Each compensation fails permanently, and the effect of its step stays until a person "
+        "Each compensation fails permanently, and the effect of its step stays until an operator "
         "repairs it. This cannot be undone.",
     ),
 }
 
 
 def question_of(kind: str, verb: str, targets: list[Target]) -> Question:
-    """What is asked before a verb is done to entries of a kind."""
+    """Return the confirmation for an action on entries of a kind."""
     special = OF_COMPENSATIONS if is_undo(targets) else OF_APPROVALS if kind == "approval" else {}
     return special.get(verb, QUESTIONS[verb])
 
 
 def is_undo(targets: list[Target]) -> bool:
-    """Whether they are compensations alone."""
+    """Return whether all targets are compensations."""
     return all(undo for _, _, undo in targets)
 
 
 def many(targets: list[Target], verb: str) -> str:
-    """How many there are: sagas, or steps of so many sagas, or their compensations."""
+    """Describe how many targets there are: sagas, steps or compensations."""
     sagas = counted(len({key for key, _, _ in targets}), "saga")
     if verb in WHOLE:
         return sagas
@@ -133,6 +134,6 @@ def many(targets: list[Target], verb: str) -> str:
     return f"{undoing}{counted(len(targets), 'step')} of {sagas}"
 
 
-def counted(count: int, word: str) -> str:
-    """A number with its noun."""
-    return f"{count:,} {word}{'' if count == 1 else 's'}"
+def counted(count: int, noun: str) -> str:
+    """Return a number with its noun."""
+    return f"{count:,} {noun}{'' if count == 1 else 's'}"

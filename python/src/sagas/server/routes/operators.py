@@ -1,4 +1,4 @@
-"""Routes of operators: metrics, health, resolve, queues."""
+"""Routes for operators: metrics, health, resolve and queues."""
 
 from __future__ import annotations
 
@@ -6,7 +6,7 @@ from starlette.responses import Response
 
 from sagas.definition.children import key_of
 from sagas.server import answers, json_views
-from sagas.server.auth import May
+from sagas.server.auth import Permission
 from sagas.server.metrics import TYPE
 from sagas.server.operations import Answer, Call, Routes
 from sagas.server.problems import Problem
@@ -14,19 +14,31 @@ from sagas.server.responses import Json
 from sagas.server.shapes import Field, Nullable, Record, Text
 
 routes = Routes("operators")
-NOTE = Field(Text(most=2000, least=1, strip=True), "what was done; stored with who and when")
+NOTE = Field(
+    Text(most=2000, least=1, strip=True),
+    "what was done; stored with the name of the token and the time",
+)
 WHY = Record(
     "CompensateRequest",
-    {"note": Field(Nullable(Text(most=2000)), "why; stored with who and when", default=None)},
+    {
+        "note": Field(
+            Nullable(Text(most=2000)),
+            "the reason; stored with the name of the token and the time",
+            default=None,
+        )
+    },
 )
 RESOLVE = Record("ResolveRequest", {"note": NOTE}, example={"note": "bought one by hand"})
 
 
-@routes.get("/health/live", "isLive", answers={200: Answer("It lives.", answers.HEALTH)})
+@routes.get(
+    "/health/live", "isLive", answers={200: Answer("The process is alive.", answers.HEALTH)}
+)
 async def live(call: Call) -> Response:
-    """Whether the process is alive.
+    """Check that the process is alive.
 
-    200 as long as its loop turns: a supervisor restarts it where this is not answered."""
+    Returns 200 while the event loop runs. A supervisor restarts a service that does not answer.
+    """
     return Json({"alive": True})
 
 
@@ -34,14 +46,16 @@ async def live(call: Call) -> Response:
     "/health/ready",
     "isReady",
     answers={
-        200: Answer("It takes requests.", answers.READY),
-        503: Answer("It takes none, with the reason.", answers.READY),
+        200: Answer("The service accepts requests.", answers.READY),
+        503: Answer("The service does not accept requests, with the reason.", answers.READY),
     },
 )
 async def ready(call: Call) -> Response:
-    """Whether it takes requests.
+    """Check that the service accepts requests.
 
-    503 where the store cannot be written, or it is about to stop: a proxy asks another one."""
+    Returns 503 if the store cannot be written or the service is stopping. A proxy then uses
+    another service.
+    """
     reason = call.service.ready()
     return Json({"ready": reason is None, "reason": reason}, 200 if reason is None else 503)
 
@@ -49,18 +63,20 @@ async def ready(call: Call) -> Response:
 @routes.get(
     "/metrics",
     "getMetrics",
-    may=May.MEASURE,
-    answers={200: Answer("Prometheus's text format.", media_type="text/plain")},
+    permission=Permission.MEASURE,
+    answers={200: Answer("Metrics in Prometheus's text format.", media_type="text/plain")},
 )
 async def metrics(call: Call) -> Response:
-    """Get figures for Prometheus.
+    """Get metrics for Prometheus.
 
-    Of all definitions: a token that is kept to some has none."""
-    if call.who.definitions is not None:
+    They cover all definitions, so a token that is restricted to some definitions cannot read
+    them.
+    """
+    if call.principal.definitions is not None:
         raise Problem(
             "Forbidden",
-            f"{call.who.name} is kept to some definitions, and figures are of all: "
-            "take a token of the role metrics",
+            f"{call.principal.name} is restricted to some definitions, and metrics cover all: "
+            "use a token with the role metrics",
         )
     return Response(await call.service.metrics.text(), media_type=TYPE)
 
@@ -68,17 +84,18 @@ async def metrics(call: Call) -> Response:
 @routes.post(
     "/v1/sagas/{key}/resolve",
     "resolveSaga",
-    may=May.OPERATE,
+    permission=Permission.OPERATE,
     body=RESOLVE,
-    answers={200: Answer("It is resolved.", answers.RESOLVED)},
+    answers={200: Answer("The saga is resolved.", answers.RESOLVED)},
     problems=("NoSuchSaga", "StepNotWaiting"),
 )
 async def resolve(call: Call) -> Response:
     """Mark a saga as resolved.
 
-    One that is stuck, of which a compensation failed permanently, or with an unused report."""
-    await call.service.check_sees(call.who, call.key)
-    await call.service.store.resolve(call.key, call.body["note"], by=call.who.name)
+    The saga is stuck, a compensation failed permanently, or a report was not used.
+    """
+    await call.service.check_sees(call.principal, call.key)
+    await call.service.store.resolve(call.key, call.body["note"], by=call.principal.name)
     call.service.figures.forget()
     return Json({"key": call.key, "resolved": True})
 
@@ -86,19 +103,20 @@ async def resolve(call: Call) -> Response:
 @routes.post(
     "/v1/sagas/{key}/steps/{step}/compensate",
     "compensateStep",
-    may=May.OPERATE,
+    permission=Permission.OPERATE,
     body=WHY,
-    answers={200: Answer("It is compensated, by another saga.", answers.COMPENSATED)},
+    answers={200: Answer("Another saga compensates the step.", answers.COMPENSATED)},
     problems=("NoSuchSaga", "StepNotWaiting"),
 )
 async def compensate(call: Call) -> Response:
-    """Have a step compensated that was reported before it began, and not used.
+    """Compensate a step whose early report was not used.
 
-    Another saga calls the compensation with the result that was reported, until it succeeds."""
+    Another saga calls the compensation with the reported result until it succeeds.
+    """
     service, step = call.service, call.path["step"]
-    await service.check_sees(call.who, call.key)
-    words = {"by": call.who.name, "note": call.body["note"]}
-    await service.in_time(service.store.compensate(call.key, step, **words))
+    await service.check_sees(call.principal, call.key)
+    options = {"by": call.principal.name, "note": call.body["note"]}
+    await service.in_time(service.store.compensate(call.key, step, **options))
     service.figures.forget()
     return Json({"key": call.key, "step": step, "undo": key_of(call.key, step, undo=True)})
 
@@ -106,13 +124,14 @@ async def compensate(call: Call) -> Response:
 @routes.get(
     "/v1/queues",
     "listQueues",
-    may=May.WORK,
-    answers={200: Answer("By step, over all nodes.", answers.QUEUES)},
+    permission=Permission.WORK,
+    answers={200: Answer("The queues of all nodes, by step.", answers.QUEUES)},
 )
 async def queues(call: Call) -> Response:
-    """List what waits for workers.
+    """List the tasks that wait for workers.
 
-    How many tasks are ready, since when the oldest, and how many are taken; of the steps that the
-    token may claim."""
-    found = await call.service.queues(call.who)
-    return Json({"queues": [json_views.queue(one) for one in found]})
+    Returns, for each step that the token may claim, how many tasks are ready and claimed, and
+    since when the oldest one waits.
+    """
+    visible = await call.service.queues(call.principal)
+    return Json({"queues": [json_views.queue(waiting) for waiting in visible]})

@@ -16,8 +16,8 @@ from sagas.definition import children
 from sagas.inspection.views import SagaView
 from sagas.server import json_texts, problems, step_waits
 from sagas.server.access import service_of
-from sagas.server.auth import Who
-from sagas.server.dashboard_session import closed, looker, sent, shows
+from sagas.server.auth import Principal
+from sagas.server.dashboard_session import login_redirect, viewer_of, session_and_form, show_page
 from sagas.server.operations import Call, Routes
 from sagas.server.routes import saga_pages, schedules
 from sagas.server.routes.pages import address_of
@@ -47,13 +47,13 @@ NO_CHILD = (
     "undo, enter null as the key."
 )
 RESOLVE = {
-    "title": "Mark it as resolved?",
+    "title": "Mark this saga as resolved?",
     "verb": "Mark as resolved",
     "note_title": "What was done about it (a note)",
     "note_needed": True,
     "text": (
-        "No step runs because of this. It records that a person repaired what the saga could "
-        "not, and takes the saga off the inbox."
+        "No step runs because of this. It records that an operator repaired what the saga could "
+        "not, and removes the saga from the inbox."
     ),
 }
 COMPENSATE: dict[str, Any] = {
@@ -69,320 +69,342 @@ REMOVE: dict[str, Any] = {
     "verb": "Remove it",
     "danger": True,
     "text": (
-        "It starts no more sagas, and its times are forgotten. Sagas that it started stay. This "
-        "cannot be undone. The service's log has your name and the time."
+        "It starts no more sagas. Sagas that it started remain. This cannot be undone. The "
+        "service's log records your name and the time."
     ),
 }
 
 
-def asked(
-    request: Request, key: str, words: dict[str, Any], status: int = 200, **more: Any
+def confirmation_page(
+    request: Request, key: str, question: dict[str, Any], status: int = 200, **more: Any
 ) -> Response:
-    """Asks once more what is to be done to a saga."""
+    """Return the confirmation page for an action on a saga."""
     crumbs = [("/ui/sagas", "Sagas"), (address_of(key), key)]
-    told = {"here": "sagas", "crumbs": crumbs, **words, **more}
-    return shows(request, "confirm.html", status, **told)
+    values = {"here": "sagas", "crumbs": crumbs, **question, **more}
+    return show_page(request, "confirm.html", status, **values)
 
 
 async def seen(call: Call) -> SagaView | None:
-    """The saga with what is kept of it; None where there is none that is theirs to see."""
+    """Return the stored view of a saga, or None if the user may not see it."""
     with contextlib.suppress(NoSuchSaga):
-        return await kept_of(call.service, looker(call.request), call.key)
+        return await kept_of(call.service, viewer_of(call.request), call.key)
     return None
 
 
 async def is_approval(call: Call, view: SagaView, step: str, undo: bool) -> bool:
-    """Whether a step waits to be approved, or is to be once it begins."""
-    if any((one.step, one.undo, one.why) == (step, undo, "approval") for one in view.held):
+    """Return whether a step waits for an approval, or will do so when it begins."""
+    if any((entry.step, entry.undo, entry.why) == (step, undo, "approval") for entry in view.held):
         return True
-    if undo or not any((one.name, one.state) == (step, "waiting") for one in view.steps):
+    if undo or not any((entry.name, entry.state) == (step, "waiting") for entry in view.steps):
         return False
     with contextlib.suppress(NoSuchSaga, DefinitionError):
         return await call.service.is_approval(call.key, step)
     return False
 
 
-def step_words(step: str, outcome: str, undo: bool, approval: bool) -> dict[str, Any]:
-    """The question for a step's end."""
-    which = f"undoing {step}" if undo else step
+def step_question(step: str, outcome: str, undo: bool, approval: bool) -> dict[str, Any]:
+    """Return the question before a step's end is reported."""
+    attempt = f"undoing {step}" if undo else f"step {step}"
     if outcome == "retry":
         return {
-            "title": f"Retry {which}?",
+            "title": f"Retry {attempt}?",
             "verb": "Retry it",
             "note_title": "What was repaired (a note)",
             "text": "It is called at once, with the same idempotency key.",
         }
-    if approval and outcome == "done":
+    if approval:
+        return approval_question(step, outcome)
+    if outcome == "done":
         return {
-            "title": f"Approve {step}?",
+            "title": f"Report that {attempt} is done?",
+            "verb": "It is done",
+            "note_title": "A note",
+            "asks_result": not undo,
+            "text": (
+                "The saga continues with it. Report this only if its effect exists: sagas cannot "
+                "check it."
+            ),
+        }
+    failed_text = (
+        "The step fails permanently, and the saga follows a plan of least cost. Report this "
+        "only if it had no effect: no compensation undoes an effect that you deny."
+    )
+    undo_failed_text = (
+        f"The compensation fails permanently, and the effect of {step} stays until an "
+        "operator repairs it. This cannot be undone."
+    )
+    return {
+        "title": f"Report that {attempt} had no effect?",
+        "verb": "It had no effect",
+        "danger": True,
+        "note_title": "A note",
+        "asks_why": True,
+        "text": undo_failed_text if undo else failed_text,
+    }
+
+
+def approval_question(step: str, outcome: str) -> dict[str, Any]:
+    """Return the question before an approval is decided."""
+    if outcome == "done":
+        return {
+            "title": f"Approve step {step}?",
             "verb": "Approve",
             "note_title": "A note",
             "asks_result": True,
             "text": "The saga continues. Steps that need this one get its result.",
         }
-    if approval:
-        return {
-            "title": f"Refuse {step}?",
-            "verb": "Refuse",
-            "danger": True,
-            "note_title": "A note",
-            "asks_why": True,
-            "text": (
-                "The step fails permanently, and the saga follows a plan of least cost. This "
-                "cannot be undone."
-            ),
-        }
-    if outcome == "done":
-        return {
-            "title": f"Report that {which} is done?",
-            "verb": "It is done",
-            "note_title": "A note",
-            "asks_result": not undo,
-            "text": (
-                "The saga continues with it. Report this only if its effect is there: sagas cannot "
-                "check it."
-            ),
-        }
-    if undo:
-        return {
-            "title": f"Report that {which} had no effect?",
-            "verb": "It had no effect",
-            "danger": True,
-            "note_title": "A note",
-            "asks_why": True,
-            "text": (
-                f"The compensation fails permanently, and the effect of {step} stays until a "
-                "person repairs it. This cannot be undone."
-            ),
-        }
     return {
-        "title": f"Report that {which} had no effect?",
-        "verb": "It had no effect",
+        "title": f"Refuse step {step}?",
+        "verb": "Refuse",
         "danger": True,
         "note_title": "A note",
         "asks_why": True,
         "text": (
-            "The step fails permanently, and the saga follows a plan of least cost. Report this "
-            "only if its effect is not there: no compensation undoes an effect that you deny."
+            "The step fails permanently, and the saga follows a plan of least cost. This "
+            "cannot be undone."
         ),
     }
 
 
 @routes.get("/ui/sagas/{key}/abort")
 async def abort_page(call: Call) -> Response:
-    if answer := closed(call.request):
+    if answer := login_redirect(call.request):
         return answer
     effect = await effect_of(call, abort=True)
-    return asked(call.request, call.key, ABORT, effect=effect)
+    return confirmation_page(call.request, call.key, ABORT, effect=effect)
 
 
-async def effect_of(call: Call, **words: Any) -> str | None:
-    """What an abort, or the end of a step, would do now, in words."""
+async def effect_of(call: Call, **event: Any) -> str | None:
+    """Describe what an abort, or the end of a step, would do now."""
     with contextlib.suppress(NoSuchSaga):
-        await call.service.check_sees(looker(call.request), call.key)
+        await call.service.check_sees(viewer_of(call.request), call.key)
         view = await call.service.saga(call.key)
         if view is not None:
-            told = functools.partial(saga_pages.effect, view, **words)
-            return await call.service.threads.pages.do(told)
+            compute = functools.partial(saga_pages.effect, view, **event)
+            return await call.service.threads.pages.do(compute)
     return None
 
 
 @routes.post("/ui/sagas/{key}/abort")
 async def abort(call: Call) -> Response:
     request, key = call.request, call.key
-    session, form = await sent(request)
+    session, form = await session_and_form(request)
     try:
         service = service_of(request)
-        await service.check_sees(session.who, key)
+        await service.check_sees(session.principal, key)
         await service.in_time(
-            service.store.abort(key, by=session.who.name, note=form.get("note") or None)
+            service.store.abort(key, by=session.principal.name, note=form.get("note") or None)
         )
     except SagasError as error:
-        return asked(request, key, ABORT, 409, fault=str(problems.of(error)), note=form.get("note"))
+        return confirmation_page(
+            request, key, ABORT, 409, fault=str(problems.of(error)), note=form.get("note")
+        )
     return back(request, key)
 
 
 @routes.get("/ui/sagas/{key}/resolve")
 async def resolve_page(call: Call) -> Response:
-    return closed(call.request) or asked(call.request, call.key, RESOLVE)
+    return login_redirect(call.request) or confirmation_page(call.request, call.key, RESOLVE)
 
 
 @routes.post("/ui/sagas/{key}/resolve")
 async def resolve(call: Call) -> Response:
     request, key = call.request, call.key
-    session, form = await sent(request)
+    session, form = await session_and_form(request)
     note = form.get("note", "").strip()[:2000]
     if not note:
-        return asked(request, key, RESOLVE, 422, fault="Say what was done about it.")
+        return confirmation_page(request, key, RESOLVE, 422, fault="Describe what was done.")
     try:
-        await service_of(request).check_sees(session.who, key)
-        await service_of(request).store.resolve(key, note, by=session.who.name)
+        await service_of(request).check_sees(session.principal, key)
+        await service_of(request).store.resolve(key, note, by=session.principal.name)
     except SagasError as error:
-        return asked(request, key, RESOLVE, 409, fault=str(problems.of(error)), note=note)
+        return confirmation_page(
+            request, key, RESOLVE, 409, fault=str(problems.of(error)), note=note
+        )
     return back(request, key)
 
 
 @routes.get("/ui/sagas/{key}/steps/{step}/compensate")
 async def compensate_page(call: Call) -> Response:
-    return closed(call.request) or asked(call.request, call.key, compensate_words(call))
+    return login_redirect(call.request) or confirmation_page(
+        call.request, call.key, compensation_question(call)
+    )
 
 
 @routes.post("/ui/sagas/{key}/steps/{step}/compensate")
 async def compensate(call: Call) -> Response:
-    request, key, words = call.request, call.key, compensate_words(call)
-    session, form = await sent(request)
+    request, key, question = call.request, call.key, compensation_question(call)
+    session, form = await session_and_form(request)
     note = form.get("note", "").strip()[:2000] or None
     try:
         service = service_of(request)
-        await service.check_sees(session.who, key)
+        await service.check_sees(session.principal, key)
         step = call.path["step"]
-        await service.in_time(service.store.compensate(key, step, by=session.who.name, note=note))
+        await service.in_time(
+            service.store.compensate(key, step, by=session.principal.name, note=note)
+        )
     except SagasError as error:
-        return asked(request, key, words, 409, fault=str(problems.of(error)), note=note)
+        return confirmation_page(
+            request, key, question, 409, fault=str(problems.of(error)), note=note
+        )
     return back(request, key)
 
 
-def compensate_words(call: Call) -> dict[str, Any]:
-    """The question before a step is compensated."""
-    return COMPENSATE | {"title": f"Compensate {call.path['step']}?"}
+def compensation_question(call: Call) -> dict[str, Any]:
+    """Return the confirmation before a step is compensated."""
+    return COMPENSATE | {"title": f"Compensate step {call.path['step']}?"}
 
 
 @routes.get("/ui/sagas/{key}/steps/{step}/{outcome}", parts={"outcome": OUTCOME}, query=UNDO)
 async def step_page(call: Call) -> Response:
-    return closed(call.request) or await step_asked(call, await seen(call))
+    return login_redirect(call.request) or await step_confirmation(call, await seen(call))
 
 
-async def step_asked(call: Call, view: SagaView | None, status: int = 200, **more: Any) -> Response:
-    """The question for a step's end, with what whoever decides has to see: the saga's input, its
-    results, and what the answer would do. The form has the name of what it answers."""
+async def step_confirmation(
+    call: Call, view: SagaView | None, status: int = 200, **more: Any
+) -> Response:
+    """Return the confirmation of a step's end.
+
+    It shows the saga's input and results, and what the answer would do. The form identifies the
+    wait that it answers.
+    """
     name, outcome, undo = call.path["step"], call.path["outcome"], call.query["undo"]
     approval = view is not None and await is_approval(call, view, name, undo)
-    words = step_words(name, outcome, undo, approval)
+    question = step_question(name, outcome, undo, approval)
     if view is not None:
-        words["given"] = [("Input", view.input), ("Results in effect", view.results)]
-        words["waits"] = step_waits.name_of(view, name, undo)
+        question["given"] = [("Input", view.input), ("Results in effect", view.results)]
+        question["waits"] = step_waits.name_of(view, name, undo)
         if outcome == "done" and not undo and (child := child_of(view, name)):
-            words["result"], words["text"] = child_result(child), f"{words['text']} {NO_CHILD}"
+            question["result"], question["text"] = (
+                child_result(child),
+                f"{question['text']} {NO_CHILD}",
+            )
     if outcome != "retry":
-        words["effect"] = await effect_of(call, **{outcome: name})
-    return asked(call.request, call.key, words, status, **more)
+        question["effect"] = await effect_of(call, **{outcome: name})
+    return confirmation_page(call.request, call.key, question, status, **more)
 
 
 def child_of(view: SagaView, step: str) -> str | None:
-    """The key of the last child that a step of a saga started."""
-    some = [one.key for one in view.children if children.is_of_step(one.key, view.key, step)]
-    return None if children.undoes_child(view.key) else next(reversed(some), None)
+    """Return the key of the last child that a step of a saga started."""
+    keys = [child.key for child in view.children if children.is_of_step(child.key, view.key, step)]
+    return None if children.undoes_child(view.key) else next(reversed(keys), None)
 
 
 def child_result(key: str) -> str:
-    """What a form proposes as the result of a step that starts a child."""
+    """Return the proposed result of a step that starts a child."""
     return json.dumps({"key": key, "phase": "completed", "results": {}}, ensure_ascii=False)
 
 
 def result_of(form: dict[str, str]) -> Any:
-    """The result that a form has, by its type. Raises `ValueError`."""
+    """Return the result that a form has, by its type. Raises `ValueError`."""
     text, kind = form.get("result", ""), form.get("type", "json")
     if kind == "text":
         return text
     if kind == "number":
-        found = json_texts.read(text)
-        if isinstance(found, bool) or not isinstance(found, (int, float)):
+        value = json_texts.read(text)
+        if isinstance(value, bool) or not isinstance(value, (int, float)):
             raise ValueError(text)
-        return found
+        return value
     if kind == "yes":
         return {"yes": True, "true": True, "no": False, "false": False}[text.strip().lower()]
     return json_texts.read(text or "null")
 
 
 @routes.post("/ui/sagas/{key}/steps/{step}/{outcome}", parts={"outcome": OUTCOME}, query=UNDO)
-async def step_said(call: Call) -> Response:
-    session, form = await sent(call.request)
+async def report_step(call: Call) -> Response:
+    session, form = await session_and_form(call.request)
     view = await seen(call)
-    again = functools.partial(
-        step_asked,
+    ask_again = functools.partial(
+        step_confirmation,
         call,
         view,
-        **{word: form.get(word) for word in ("type", "note", "result", "failed")},
+        **{name: form.get(name) for name in ("type", "note", "result", "failed")},
     )
-    if view is not None and (fault := moved_on(call, view, form.get("waits", ""))):
-        return await again(409, fault=fault)
+    if view is not None and (fault := why_outdated(call, view, form.get("waits", ""))):
+        return await ask_again(409, fault=fault)
     if call.path["outcome"] == "failed" and not form.get("failed", "").strip():
-        return await again(422, fault="Say why.")
+        return await ask_again(422, fault="Enter a reason.")
     try:
         result = result_of(form)
     except (ValueError, KeyError):
-        return await again(422, fault=FAULTS.get(form.get("type", ""), FAULTS["json"]))
+        return await ask_again(422, fault=FAULTS.get(form.get("type", ""), FAULTS["json"]))
     try:
-        await report(call, session.who, form, result)
+        await report(call, session.principal, form, result)
     except SagasError as error:
-        return await again(409, fault=str(problems.of(error)))
+        return await ask_again(409, fault=str(problems.of(error)))
     return back(call.request, call.key)
 
 
-def moved_on(call: Call, view: SagaView, answered: str) -> str | None:
-    """Why a form is asked again that was for something else than what the step waits for now. Of
-    a step of which no attempt is under way the store tells."""
+def why_outdated(call: Call, view: SagaView, answered: str) -> str | None:
+    """Return why a form is shown again, if the step now waits for something else.
+
+    If no attempt is active, the store checks the report.
+    """
     step, undo = call.path["step"], call.query["undo"]
     if step_waits.name_of(view, step, undo) in ("", answered):
         return None
-    now = step_waits.words_of(view, step, undo, time.time())
-    return f"The step has gone on since you saw this form: {now}. Check it again."
+    now = step_waits.description_of(view, step, undo, time.time())
+    return f"The step has changed since you opened this form: {now}. Check it again."
 
 
-async def report(call: Call, who: Who, form: dict[str, str], result: Any) -> None:
-    """Does to the step what a form says. Raises what the store raises."""
+async def report(call: Call, principal: Principal, form: dict[str, str], result: Any) -> None:
+    """Report the outcome that a form has. Raises the errors of the store."""
     service, step, outcome = call.service, call.path["step"], call.path["outcome"]
-    await service.check_sees(who, call.key)
+    await service.check_sees(principal, call.key)
     note = form.get("note") or None
-    words: dict[str, Any] = {"undo": call.query["undo"], "by": who.name, "note": note}
+    options: dict[str, Any] = {"undo": call.query["undo"], "by": principal.name, "note": note}
     if outcome == "retry":
-        work = service.store.retry(call.key, step, **words)
+        work = service.store.retry(call.key, step, **options)
     elif outcome == "done":
-        work = service.store.complete(call.key, step, result, **words)
+        work = service.store.complete(call.key, step, result, **options)
     else:
-        work = service.store.fail(call.key, step, form["failed"].strip()[:2000], **words)
+        work = service.store.fail(call.key, step, form["failed"].strip()[:2000], **options)
     await service.in_time(work)
 
 
 @routes.get("/ui/schedules")
 async def schedules_page(call: Call) -> Response:
-    """The schedules, by name."""
-    return closed(call.request) or await shown_schedules(call.request, looker(call.request))
+    """Show the schedules, by name."""
+    return login_redirect(call.request) or await shown_schedules(
+        call.request, viewer_of(call.request)
+    )
 
 
 async def shown_schedules(
-    request: Request, who: Who, status: int = 200, fault: str | None = None
+    request: Request, principal: Principal, status: int = 200, fault: str | None = None
 ) -> Response:
-    found = await schedules.seen(service_of(request), who)
-    words = {"schedules": found, "fault": fault}
-    return shows(request, "schedules.html", status, here="schedules", **words)
+    visible = await schedules.seen(service_of(request), principal)
+    values = {"schedules": visible, "fault": fault}
+    return show_page(request, "schedules.html", status, here="schedules", **values)
 
 
 @routes.get("/ui/schedules/{name}/{change}", parts={"change": Choice(("remove",))})
 async def remove_page(call: Call) -> Response:
-    """Asks before a schedule is removed: unlike a pause, that cannot be undone here."""
-    if answer := closed(call.request):
+    """Ask for confirmation before a schedule is removed, because this cannot be undone."""
+    if answer := login_redirect(call.request):
         return answer
     name = call.path["name"]
-    if name not in {one.name for one in await schedules.seen(call.service, looker(call.request))}:
+    if name not in {
+        schedule.name for schedule in await schedules.seen(call.service, viewer_of(call.request))
+    }:
         raise NoSuchSchedule(f"no schedule has the name {name!r}")
-    told: dict[str, Any] = {"title": f"Remove the schedule {name}?", **REMOVE}
+    values: dict[str, Any] = {"title": f"Remove the schedule {name}?", **REMOVE}
     crumbs = [("/ui/schedules", "Schedules")]
-    return shows(call.request, "confirm.html", here="schedules", crumbs=crumbs, **told)
+    return show_page(call.request, "confirm.html", here="schedules", crumbs=crumbs, **values)
 
 
 @routes.post("/ui/schedules/{name}/{change}", parts={"change": Choice((*schedules.DONE,))})
 async def schedule_changed(call: Call) -> Response:
-    session, _ = await sent(call.request)
-    name, what = call.path["name"], call.path["change"]
+    session, _ = await session_and_form(call.request)
+    name, change = call.path["name"], call.path["change"]
     try:
-        await schedules.change(service_of(call.request), session.who, name, what)
+        await schedules.change(service_of(call.request), session.principal, name, change)
     except SagasError as error:
-        return await shown_schedules(call.request, session.who, 409, str(problems.of(error)))
+        return await shown_schedules(call.request, session.principal, 409, str(problems.of(error)))
     return RedirectResponse("/ui/schedules", 303)
 
 
 def back(request: Request, key: str) -> Response:
-    """To the saga, with the figures counted anew."""
+    """Redirect to the saga, and drop the cached figures."""
     service_of(request).figures.forget()
     return RedirectResponse(address_of(key), 303)

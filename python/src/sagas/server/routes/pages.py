@@ -15,23 +15,23 @@ from sagas.base.errors import SagasError
 from sagas.definition.labels import checked
 from sagas.inspection import lists
 from sagas.inspection import pages as pages_module
-from sagas.inspection import wording as words
+from sagas.inspection import wording
 from sagas.inspection.lists import COUNTED
 from sagas.runtime.leased_tasks import Queue
 from sagas.server import renderer
 from sagas.server.access import address, service_of
-from sagas.server.auth import May, Who
+from sagas.server.auth import Permission, Principal
 from sagas.server.dashboard_session import (
     begin,
-    closed,
+    login_redirect,
     cookie_of,
     form_of,
-    looker,
+    viewer_of,
     page,
-    sent,
+    session_and_form,
     session_of,
-    shows,
-    still_of,
+    show_page,
+    current_session,
 )
 from sagas.server.event_stream import Listener
 from sagas.server.operations import Call, Routes
@@ -46,7 +46,7 @@ from sagas.storage.filters import NOTHING, Filter
 routes = Routes("pages", is_page=True)
 logger = logging.getLogger("sagas.server")
 LISTED, MOST_CLAIMED = 50, 100
-LATELY = 300.0  # seconds since a worker asked; one that is at a long task asks for none
+RECENTLY = 300.0  # seconds since a worker asked; one that is at a long task asks for none
 
 
 @routes.get("/")
@@ -61,16 +61,16 @@ async def icon(call: Call) -> Response:
 
 @routes.get("/ui/static/{name}")
 async def static(call: Call) -> Response:
-    """The style sheet, the script and the icon."""
+    """Return a style sheet, a script or an icon."""
     return file(call.request, call.path["name"])
 
 
 def file(request: Request, name: str) -> Response:
-    """One of them."""
-    found = renderer.STATIC.get(name)
-    if found is None:
-        raise Problem("NotFound", "there is no such file")
-    kind, data, tag = found
+    """Return a static file."""
+    static_file = renderer.STATIC.get(name)
+    if static_file is None:
+        raise Problem("NotFound", "the file does not exist")
+    kind, data, tag = static_file
     headers = {
         "etag": tag,
         "cache-control": "max-age=300",
@@ -90,30 +90,30 @@ async def login_page(call: Call) -> Response:
 
 @routes.post("/ui/login")
 async def login(call: Call) -> Response:
-    """Begins a session with an operator's token."""
+    """Start a session with an operator's token."""
     request = call.request
     service, form = service_of(request), await form_of(request)
     if service.tokens is None:
         return RedirectResponse("/ui", 303)
-    who = service.tokens.find(form.get("token", "").strip())
+    principal = service.tokens.find(form.get("token", "").strip())
     wanted = form.get("next", "/ui")
-    if who is None or not who.may(May.OPERATE):
+    if principal is None or not principal.has_permission(Permission.OPERATE):
         fault = (
-            "This is no operator's token."
+            "This token does not have the role operator."
             if service.refusals.take(address(request))
-            else "Too many wrong tokens from this address; wait a while."
+            else "Too many invalid tokens from this address. Try again later."
         )
         return page(request, "login.html", None, 403, next=wanted, fault=fault)
     response = RedirectResponse(wanted if service.is_page(wanted) else "/ui", 303)
-    begin(request, response, who)
-    logger.info("%s has logged in", who.name)
+    begin(request, response, principal)
+    logger.info("%s has logged in", principal.name)
     return response
 
 
 @routes.post("/ui/logout")
 async def logout(call: Call) -> Response:
     request = call.request
-    await sent(request)
+    await session_and_form(request)
     cookie = cookie_of(request)
     service_of(request).sessions.end(request.cookies.get(cookie, ""))
     response = RedirectResponse("/ui/login", 303)
@@ -125,7 +125,7 @@ async def logout(call: Call) -> Response:
 
 
 def work_of(queues: list[Queue]) -> dict[str, Any]:
-    """What waits for workers, in all."""
+    """Return totals of the tasks that wait for workers."""
     now, ready = time.time(), [queue for queue in queues if queue.ready]
     oldest = max((now - queue.oldest for queue in ready if queue.oldest), default=0.0)
     claimed = sum(queue.claimed for queue in queues)
@@ -141,55 +141,59 @@ LIST = {name: TEXT for name in FILTERED} | {
 
 @routes.get("/ui/sagas", query=LIST)
 async def listed(call: Call) -> Response:
-    """A page of the list, newest first."""
+    """Show a page of the list, newest first."""
     request = call.request
-    if answer := closed(request):
+    if answer := login_redirect(request):
         return answer
-    service, who = service_of(request), looker(request)
+    service, principal = service_of(request), viewer_of(request)
     since, before, after = service.hub.now, call.query["before"], call.query["after"]
-    given = {name: call.query[name] for name in FILTERED}
-    given["phase"] = given["phase"] if given["phase"] in words.PHASES else None
-    phase, fault = given["phase"], None
-    counts, needing = await service.figures.of(who.scope)
-    asked: dict[str, Any] = {"most": LISTED + 1}
-    asked |= {"before": filters.position_of(before), "after": filters.position_of(after)}
+    parameters = {name: call.query[name] for name in FILTERED}
+    parameters["phase"] = parameters["phase"] if parameters["phase"] in wording.PHASES else None
+    phase, fault = parameters["phase"], None
+    counts, needing = await service.figures.of(principal.scope)
+    bounds: dict[str, Any] = {"limit": LISTED + 1}
+    bounds |= {"before": filters.position_of(before), "after": filters.position_of(after)}
     try:
-        of = filter_of(given, who)
+        selected = filter_of(parameters, principal)
     except (ValueError, SagasError) as error:
-        fault, of = f"{error}.", Filter(phase, scope=NOTHING)
-    found = await service.look(pages_module.page(of=of, **asked))
-    more, found = len(found) > LISTED, found[:LISTED]
+        fault, selected = f"{error}.", Filter(phase, scope=NOTHING)
+    sagas = await service.look(pages_module.page(of=selected, **bounds))
+    more, sagas = len(sagas) > LISTED, sagas[:LISTED]
     if after is not None:
-        found.reverse()
-    places = [filters.cursor_of(pages_module.position_of(one)) for one in found[:1] + found[-1:]]
-    newer = places[0] if places and (more if after is not None else before is not None) else None
-    older = places[-1] if places and (more or after is not None) else None
+        sagas.reverse()
+    cursors = [
+        filters.cursor_of(pages_module.position_of(summary)) for summary in sagas[:1] + sagas[-1:]
+    ]
+    newer = cursors[0] if cursors and (more if after is not None else before is not None) else None
+    older = cursors[-1] if cursors and (more or after is not None) else None
 
     def url(**change: Any) -> str:
-        words = {
-            word: value for word, value in {**given, **change}.items() if value not in (None, "")
+        query = {
+            name: value
+            for name, value in {**parameters, **change}.items()
+            if value not in (None, "")
         }
-        return f"/ui/sagas?{urlencode(words)}" if words else "/ui/sagas"
+        return f"/ui/sagas?{urlencode(query)}" if query else "/ui/sagas"
 
-    total = {name: sum(of[name] for of in counts.values()) for name in COUNTED}
+    total = {name: sum(selected[name] for selected in counts.values()) for name in COUNTED}
     shown_of = {**total, "undo_failed": needing["undo_failed"]}
     tabs = [
         (None, "All", sum(total.values())),
         *(
-            (name, words.PHASES[name], shown_of[name])
+            (name, wording.PHASES[name], shown_of[name])
             for name in ("open", "stuck", "completed", "recovered", "undo_failed", "resolved")
         ),
     ]
     is_first = before is None and after is None
-    return shows(
+    return show_page(
         request,
         "list.html",
         here="sagas",
         tabs=tabs,
-        given=given,
+        given=parameters,
         fault=fault,
         counts=counts,
-        sagas=found,
+        sagas=sagas,
         newer=newer,
         older=older,
         url=url,
@@ -198,24 +202,26 @@ async def listed(call: Call) -> Response:
     )
 
 
-def filter_of(given: dict[str, Any], who: Who) -> Filter:
-    """The filter of the list. Raises `ValueError`, `InvalidLabel`."""
-    label = (given["label"] or "").partition("=")
-    if given["label"] and not label[1]:
-        raise ValueError("a label is NAME=VALUE, as customer=7")
+def filter_of(parameters: dict[str, Any], principal: Principal) -> Filter:
+    """Return the filter of the list. Raises `ValueError`, `InvalidLabel`."""
+    label = (parameters["label"] or "").partition("=")
+    if parameters["label"] and not label[1]:
+        raise ValueError("a label must be NAME=VALUE, for example customer=7")
     days: list[float | None] = []
     for name, more in (("since", 0), ("until", 1)):
-        day = given[name] and datetime.datetime.fromisoformat(f"{given[name]}T00:00:00+00:00")
+        day = parameters[name] and datetime.datetime.fromisoformat(
+            f"{parameters[name]}T00:00:00+00:00"
+        )
         days.append(day.timestamp() + more * 86400 if day else None)
     return Filter(
-        phase=given["phase"],
-        saga=given["definition"],
+        phase=parameters["phase"],
+        saga=parameters["definition"],
         labels=checked({label[0]: label[2]} if label[1] else None),
-        search=given["search"],
-        scope=who.scope,
+        search=parameters["search"],
+        scope=principal.scope,
         started_after=days[0],
         started_before=days[1],
-        error=given["error"],
+        error=parameters["error"],
     )
 
 
@@ -225,24 +231,28 @@ def address_of(key: str) -> str:
 
 @routes.get("/ui/workers")
 async def workers(call: Call) -> Response:
-    """What waits for workers, and who they are."""
+    """Show the tasks that wait for workers, and the workers."""
     request = call.request
-    if answer := closed(request):
+    if answer := login_redirect(request):
         return answer
-    service, who = service_of(request), looker(request)
+    service, principal = service_of(request), viewer_of(request)
     since = service.hub.now
     claimed = await service.look(
-        lists.waits(MOST_CLAIMED, person=False, why="external", scope=who.scope)
+        lists.waits(MOST_CLAIMED, person=False, why="external", scope=principal.scope)
     )
-    now, seen = time.time(), (await service.seen(who))[:200]
+    now, seen = time.time(), (await service.seen(principal))[:200]
     queues = []
-    for queue in await service.queues(who):
-        word = f"{queue.saga}/{queue.step}" + ("/undo" if queue.undo else "")
-        able = [one for one in seen if word in one.steps]
-        queues.append((queue, [one.name for one in able if now - one.at < LATELY], able[:1]))
-    known = service.words()
-    strange = {one.name: [step for step in one.steps if step not in known] for one in seen}
-    return shows(
+    for queue in await service.queues(principal):
+        task_name = f"{queue.saga}/{queue.step}" + ("/undo" if queue.undo else "")
+        capable = [worker for worker in seen if task_name in worker.steps]
+        queues.append(
+            (queue, [worker.name for worker in capable if now - worker.at < RECENTLY], capable[:1])
+        )
+    known = service.task_names()
+    unknown_steps = {
+        worker.name: [step for step in worker.steps if step not in known] for worker in seen
+    }
+    return show_page(
         request,
         "workers.html",
         here="workers",
@@ -250,7 +260,7 @@ async def workers(call: Call) -> Response:
         since=since,
         queues=folded(queues, lambda row: (not row[0].ready, bool(row[1]), -row[0].ready)),
         workers=seen,
-        strange=strange,
+        strange=unknown_steps,
         claimed=claimed,
         most_claimed=MOST_CLAIMED,
         few=FEW,
@@ -262,17 +272,17 @@ async def workers(call: Call) -> Response:
     "/ui/events", streams=True, query={"key": TEXT, "since": Field(Text(most=40), default=None)}
 )
 async def events(call: Call) -> Response:
-    """The stream that keeps a page new, from the moment on at which the page was asked for
-    (`since`).
-    """
+    """Stream the events that update a page, from the moment `since` at which it was requested."""
     request, key, since = call.request, call.query["key"], call.query["since"]
     session = session_of(request)
     if session is None:
         raise Problem("NoSession", "log in first")
-    who = session.who
+    principal = session.principal
 
     def still() -> bool:
-        now = still_of(request)
-        return now is not None and now.who == who
+        now = current_session(request)
+        return now is not None and now.principal == principal
 
-    return stream(request, who, Listener(key, None, who.sees_event), since, still, dashboard=True)
+    return stream(
+        request, principal, Listener(key, None, principal.sees_event), since, still, dashboard=True
+    )

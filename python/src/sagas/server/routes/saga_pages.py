@@ -17,7 +17,7 @@ from sagas.definition.groups import Groups
 from sagas.engine.plan import certificate_text
 from sagas.inspection import families, picture, step_items, timeline, timeline_picture, what_if
 from sagas.inspection.views import SagaView, StepView
-from sagas.server.dashboard_session import closed, looker, shows
+from sagas.server.dashboard_session import login_redirect, viewer_of, show_page
 from sagas.server.history_rows import attempt_rows, event_rows
 from sagas.server.operations import Call, Routes
 from sagas.server.routes.pages import address_of
@@ -30,35 +30,40 @@ routes = Routes("pages", is_page=True)
 MOST_EVENTS = 500
 MOST_DRAWN = 1024  # steps
 MOST_EFFECTS = 5
-"""Questions to a person whose effects are computed: each takes a plan."""
+"""Maximum number of questions whose effects are computed. Each needs a plan."""
 
 
 @routes.get("/ui/sagas/{key}", query={"unfold": FIELD})
 async def saga(call: Call) -> Response:
-    """A saga with all that is kept of it."""
+    """Show a saga."""
     request, key = call.request, call.key
-    if answer := closed(request):
+    if answer := login_redirect(request):
         return answer
     service = call.service
     since, view = service.hub.now, None
     with contextlib.suppress(NoSuchSaga):
-        await service.check_sees(looker(request), key)
+        await service.check_sees(viewer_of(request), key)
         view = await service.saga(key, is_page=True)
-        view = view and families.seen_by(view, looker(request).scope)
+        view = view and families.seen_by(view, viewer_of(request).scope)
     if view is None:
-        told: dict[str, Any] = {"title": "There is no such saga", "back": "/ui/sagas"}
-        return shows(request, "fault.html", 404, text=f"No saga has the key {key}.", **told)
-    work = functools.partial(told_of, view, service.approvals, time.time(), call.query["unfold"])
-    told = await service.threads.pages.do(work)
-    return shows(request, "saga.html", since=since, **told)
+        values: dict[str, Any] = {"title": "Unknown saga", "back": "/ui/sagas"}
+        return show_page(request, "fault.html", 404, text=f"No saga has the key {key}.", **values)
+    work = functools.partial(
+        template_values, view, service.approvals, time.time(), call.query["unfold"]
+    )
+    values = await service.threads.pages.do(work)
+    return show_page(request, "saga.html", since=since, **values)
 
 
-def told_of(
+def template_values(
     view: SagaView, approvals_of: Callable[[str, str], set[str]], now: float, unfold: str | None
 ) -> dict[str, Any]:
-    """What the template of a saga asks for. `approvals_of`: of a saga's name and definition."""
-    drawn, tolds = len(view.steps) <= MOST_DRAWN, picture.told_of(view)
-    asks = [one for one in view.held if one.asks]
+    """Return the template values of a saga.
+
+    `approvals_of` returns the approvals of a saga's name and definition.
+    """
+    drawn, displays = len(view.steps) <= MOST_DRAWN, picture.displays_of(view)
+    asks = [wait for wait in view.held if wait.asks]
     attempts = timeline.of(view, now)
     approvals = set[str]()
     if view.phase == "open" and not view.aborted and view.plan is None:
@@ -68,10 +73,15 @@ def told_of(
     unfolding = Unfolding(groups, unfold, base)
     choices = {choice.step: choice for choice in view.plan.choices} if view.plan else {}
     items = step_items.of(groups.origins, [step.name for step in view.steps], view.shape)
-    table = StepTable(unfolding, view.steps, tolds, choices, items)
+    table = StepTable(unfolding, view.steps, displays, choices, items)
     titles = table.titles()
     svg = functools.partial(
-        picture.svg, view, tolds=tolds, groups=groups, unfold=unfolding.names, link=unfolding.link
+        picture.svg,
+        view,
+        displays=displays,
+        groups=groups,
+        unfold=unfolding.names,
+        link=unfolding.link,
     )
     events = event_rows(view.history, titles)
     return {
@@ -83,7 +93,7 @@ def told_of(
         "base": base,
         "unfolding": unfolding,
         "asks": asks,
-        "helds": {one.step: one for one in view.held},
+        "helds": {wait.step: wait for wait in view.held},
         "early": {
             step.name
             for step in view.steps
@@ -103,38 +113,40 @@ def told_of(
         "few": FEW,
         "all_events": len(events),
         "abort": effect(view, abort=True),
-        "effects": effects(view, [(one.step, one.undo) for one in asks[:MOST_EFFECTS]]),
+        "effects": effects(view, [(wait.step, wait.undo) for wait in asks[:MOST_EFFECTS]]),
     }
 
 
 def unused_of(view: SagaView) -> list[str]:
-    """The steps of a saga that has ended whose success was reported, and not used."""
+    """Return the steps of an ended saga whose reported success was not used."""
     if view.phase not in ("recovered", "stuck"):
         return []
     return list(view.unused)
 
 
 def effect(view: SagaView, *, abort: bool = False, **step: str) -> str | None:
-    """What an abort, or the end of a step (`done=`, `failed=`), would come to, in words; None
-    where it would not be accepted."""
+    """Describe what an abort, or the end of a step (`done=`, `failed=`), would lead to.
+
+    Returns None if it would not be accepted.
+    """
     is_refused = abort and (view.aborted or children.undoes_child(view.key))
     if view.phase != "open" or is_refused:
         return None
     for name in step.values():
-        if any((one.name, one.state) == (name, "waiting") for one in view.steps):
+        if any((entry.name, entry.state) == (name, "waiting") for entry in view.steps):
             return f"Store this answer, and use it when {name} starts"
     try:
         if abort:
-            return what_if.words(what_if.of(view, abort=True))
+            return what_if.describe(what_if.of(view, abort=True))
         if "done" in step:
-            return what_if.done_words(view, step["done"])
-        return what_if.words(what_if.of(view, failed=step["failed"]))
+            return what_if.describe_completion(view, step["done"])
+        return what_if.describe(what_if.of(view, failed=step["failed"]))
     except (ValueError, KeyError):
         return None
 
 
 def effects(view: SagaView, steps: list[tuple[str, bool]]) -> dict[tuple[str, bool], Any]:
-    """What would come of each answer to a question, by step and whether it is undone."""
+    """Describe the effect of each answer to a question, by step and whether it is undone."""
     return {
         (step, undo): {
             "done": effect(view, done=step),
@@ -146,7 +158,7 @@ def effects(view: SagaView, steps: list[tuple[str, bool]]) -> dict[tuple[str, bo
 
 
 def failures_of(view: SagaView) -> list[StepView]:
-    """The steps of the chain that have failed, and said why."""
+    """Return the blocking steps that failed with an error."""
     chain = view.plan.blocking_steps if view.plan else []
     return [
         step
@@ -157,10 +169,10 @@ def failures_of(view: SagaView) -> list[StepView]:
 
 @routes.get("/ui/sagas/{key}/certificate")
 async def certificate(call: Call) -> Response:
-    """The plan's certificate, as `sagas check` reads it."""
-    if answer := closed(call.request):
+    """Return the plan's certificate, in the format of `sagas check`."""
+    if answer := login_redirect(call.request):
         return answer
-    view = await kept_of(call.service, looker(call.request), call.key)
+    view = await kept_of(call.service, viewer_of(call.request), call.key)
     if view.plan is None:
         raise NoSuchSaga(f"saga {view.key!r} has no plan")
     return Response(certificate_text(view.plan), media_type="text/plain; charset=utf-8")

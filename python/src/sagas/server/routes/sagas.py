@@ -1,7 +1,5 @@
-"""Routes of callers and approvers.
-
-For callers and approvers: start sagas, see how they stand, wait for them, abort them, and say how
-an approval ended.
+"""Routes for callers and approvers: start, inspect, wait for and abort sagas, and decide
+approvals.
 """
 
 from __future__ import annotations
@@ -27,12 +25,12 @@ from sagas.server.access import (
     SIZE,
     check_definition,
     check_key,
-    is_still,
-    maker,
+    is_unchanged,
+    client_key,
     service_of,
     waiting,
 )
-from sagas.server.auth import May, Who
+from sagas.server.auth import Permission, Principal
 from sagas.server.client_waits import first
 from sagas.server.event_stream import Listener
 from sagas.server.operations import Answer, Call, Routes
@@ -58,32 +56,36 @@ from sagas.server.stream_limits import Stream
 routes = Routes("sagas", "/v1")
 LONGEST = 60.0  # seconds that a wait may take
 FEW = 16
-"""Steps of a saga whose answer is made at once, if none of its values is large."""
+"""Maximum number of steps of a saga whose answer is serialized at once, if no value is large."""
 KEY = Text(most=512, least=1)
 LABELS = Mapped(Text(most=256))
 VERSION = Nullable(Number(1, 1_000_000_000, whole=True))
 DEADLINE = Nullable(Number(0.0, 100 * 365.25 * 86_400))
 TRACE = {"traceparent": Field(Text(), "the W3C trace context of its start", default=None)}
-NOTE = Field(Nullable(Text(most=2000)), "why; it is stored with who and when", default=None)
-UNDO = Field(Flag(), "its compensation is meant", default=False)
-EARLY = Field(Flag(), "until the step begins, the report is stored", default=True)
-ERROR = Field(Text(most=4000), "why, for people", example="too expensive")
+NOTE = Field(
+    Nullable(Text(most=2000)),
+    "the reason; stored with the name of the token and the time",
+    default=None,
+)
+UNDO = Field(Flag(), "whether the report is about the compensation", default=False)
+EARLY = Field(Flag(), "if the step has not begun, store the report until it begins", default=True)
+ERROR = Field(Text(most=4000), "the reason", example="too expensive")
 REPORT = {"undo": UNDO, "early": EARLY, "note": NOTE}
 START = Record(
     "StartRequest",
     {
-        "definition": Field(Text(most=64), "its name"),
+        "definition": Field(Text(most=64), "the name of the definition"),
         "key": Field(
             KEY,
-            "the name of the saga: the same key with the same input is one saga; `/:` is only in "
-            "keys of children",
+            "the key of the saga: repeating a start with the same key and input returns the same "
+            "saga; only keys of children contain `/:`",
         ),
-        "input": Field(Anything(), "what its steps are handed", default=None),
-        "labels": Field(LABELS, "texts by name, by which lists find it", default=None),
-        "version": Field(VERSION, "by default the newest", default=None),
+        "input": Field(Anything(), "the input for its steps", default=None),
+        "labels": Field(LABELS, "texts by name, for filters of lists", default=None),
+        "version": Field(VERSION, "the version; default: the newest", default=None),
         "deadline": Field(
             DEADLINE,
-            "seconds until it is aborted; by default as its definition says. 0 aborts it at once",
+            "seconds until it is aborted; default: that of its definition. 0 aborts it at once",
             default=None,
         ),
     },
@@ -91,64 +93,66 @@ START = Record(
 )
 COMPLETE = Record(
     "CompleteRequest",
-    {"result": Field(Anything(), "null where there is none"), **REPORT},
+    {"result": Field(Anything(), "the result, or null"), **REPORT},
     example={"result": {"by": "Ada"}, "note": "within the limit"},
 )
 FAIL = Record("FailRequest", {"error": ERROR, **REPORT}, example={"error": "too expensive"})
-RETRY = Record("RetryRequest", {"undo": UNDO, "note": NOTE}, example={"note": "it is open"})
+RETRY = Record(
+    "RetryRequest", {"undo": UNDO, "note": NOTE}, example={"note": "the bank is available again"}
+)
 WHY = Record("AbortRequest", {"note": NOTE}, example={"note": "the customer has left"})
 SUPPOSE = Record(
     "WhatIfRequest",
     {
-        "abort": Field(Flag(), "the saga is aborted now", default=False),
-        "fail": Field(Nullable(Text(most=32)), "this step fails now", default=None),
+        "abort": Field(Flag(), "abort the saga", default=False),
+        "fail": Field(Nullable(Text(most=32)), "let this step fail", default=None),
     },
-    "One of both.",
+    "Exactly one of both.",
     {"abort": True},
 )
 SAGA = Answer("The saga.", answers.SAGA, headers={"ETag": "changes with the saga"})
-DECIDED = {200: Answer("It is stored.", answers.DECIDED)}
+DECIDED = {200: Answer("The report is stored.", answers.DECIDED)}
 
 
 def trace_of(request: Request) -> str | None:
-    """The trace context of a request's header; as the standard has it, an invalid one is none."""
-    some = request.headers.getlist("traceparent")
-    return tracing.read(some[0]) if len(some) == 1 else None
+    """Return the trace context of a request's header. An invalid one is ignored, as the standard
+    demands.
+    """
+    headers = request.headers.getlist("traceparent")
+    return tracing.read(headers[0]) if len(headers) == 1 else None
 
 
 async def view_of(call: Call, key: str | None = None) -> SagaView:
-    """A saga with all that is kept of it, and what is known of what has begun. Raises
-    `NoSuchSaga`.
-    """
-    await call.service.check_sees(call.who, key or call.key)
+    """Return the view of a saga, with its active attempts. Raises `NoSuchSaga`."""
+    await call.service.check_sees(call.principal, key or call.key)
     view = there(await call.service.saga(key or call.key), key or call.key)
-    return families.seen_by(view, call.who.scope)
+    return families.seen_by(view, call.principal.scope)
 
 
-async def kept_of(service: Any, who: Who, key: str) -> SagaView:
-    """As `view_of`, with what is kept alone."""
-    await service.check_sees(who, key)
+async def kept_of(service: Any, principal: Principal, key: str) -> SagaView:
+    """Return the stored view of a saga. Raises `NoSuchSaga`."""
+    await service.check_sees(principal, key)
     return there(await service.kept(key), key)
 
 
 async def answered(call: Call) -> Response:
-    """The saga as it is now. Raises `NoSuchSaga`."""
+    """Return the saga's current state as the response. Raises `NoSuchSaga`."""
     view = await view_of(call)
 
-    def told() -> Response:
+    def answer() -> Response:
         return tagged(call.request, parted(json_views.saga(view), "results"))
 
-    return told() if is_small(view) else await call.service.threads.answers.do(told)
+    return answer() if is_small(view) else await call.service.threads.answers.do(answer)
 
 
 def is_small(view: SagaView) -> bool:
-    """Whether its answer is made in less time than a thread takes to begin with it."""
+    """Return whether the answer takes less time than handing it to a thread."""
     values = (view.input, *view.results.values())
     return len(view.steps) <= FEW and not any(isinstance(value, StoredValue) for value in values)
 
 
 def there(view: SagaView | None, key: str) -> SagaView:
-    """Raises `NoSuchSaga` where there is none."""
+    """Return the view. Raises `NoSuchSaga` if it is None."""
     if view is None:
         raise NoSuchSaga(f"no saga has the key {key!r}")
     return view
@@ -157,12 +161,14 @@ def there(view: SagaView | None, key: str) -> SagaView:
 @routes.post(
     "/sagas",
     "startSaga",
-    may=May.START,
+    permission=Permission.START,
     body=START,
     headers=TRACE,
     answers={
-        201: Answer("It was started.", answers.STARTED, headers={"Location": "where it is"}),
-        200: Answer("The key has this very saga already.", answers.STARTED),
+        201: Answer(
+            "The saga was started.", answers.STARTED, headers={"Location": "the path of the saga"}
+        ),
+        200: Answer("The key already has this saga.", answers.STARTED),
     },
     problems=(
         "NoSuchDefinition",
@@ -179,88 +185,102 @@ def there(view: SagaView | None, key: str) -> SagaView:
 async def start(call: Call) -> Response:
     """Start a saga.
 
-    What is answered is stored, so repeat the request until it is answered."""
+    The saga is stored before the response is sent. Repeat the request until it is answered.
+    """
     key, name = call.body["key"], call.body["definition"]
     if key in (".", ".."):
-        raise Problem("InvalidKey", f"the key {key!r} has no address: take another key", "key")
-    check_definition(call.who, name)
-    check_key(call.who, key)
-    saga = call.service.saga_named(call.who, name, call.body["version"])
-    words = [call.body[word] for word in ("input", "labels", "deadline")]
-    words.append(trace_of(call.request))
+        raise Problem(
+            "InvalidKey", f"the key {key!r} cannot be used in a URL: use another key", "key"
+        )
+    check_definition(call.principal, name)
+    check_key(call.principal, key)
+    saga = call.service.saga_named(call.principal, name, call.body["version"])
+    arguments = [call.body[field] for field in ("input", "labels", "deadline")]
+    arguments.append(trace_of(call.request))
     size: int = call.request.scope[SIZE]
-    run = await call.service.start(call.who, size, saga, key, *words)
-    told = {"key": key, "definition": saga.name, "version": saga.version, "new": run.new}
-    return Json(told, 201 if run.new else 200, {"Location": f"/v1/sagas/{quote(key, safe='')}"})
+    run = await call.service.start(call.principal, size, saga, key, *arguments)
+    fields = {"key": key, "definition": saga.name, "version": saga.version, "new": run.new}
+    return Json(fields, 201 if run.new else 200, {"Location": f"/v1/sagas/{quote(key, safe='')}"})
 
 
 @routes.get(
     "/sagas",
     "listSagas",
-    may=May.LOOK,
+    permission=Permission.LOOK,
     query=filters.SAGAS
     | filters.MORE
     | {
         "phase": Field(
             Choice((*answers.PHASES, "undo_failed")),
-            "`undo_failed`: recovered ones with a compensation that failed permanently",
+            "only sagas in this phase; `undo_failed`: recovered ones with a permanently failed "
+            "compensation",
             default=None,
         ),
-        "after": Field(CURSOR, "`next` of the page before", default=None),
+        "after": Field(CURSOR, "`next` of the previous page", default=None),
         "limit": LIMIT,
     },
-    answers={200: Answer("A page.", answers.PAGE)},
+    answers={200: Answer("A page of sagas.", answers.PAGE)},
 )
 async def listed(call: Call) -> Response:
     """List sagas, newest first.
 
-    A page, of the definitions that the token may see."""
+    Returns a page of sagas of the definitions that the token may see.
+    """
     query = call.query
     limit, before = query["limit"], filters.position_of(query["after"])
-    page = pages.page(before=before, most=limit, of=filters.of(call.who, query, query["phase"]))
-    found = await call.service.look(page)
-    last = pages.position_of(found[-1]) if len(found) == limit else None
+    page = pages.page(
+        before=before, limit=limit, of=filters.of(call.principal, query, query["phase"])
+    )
+    summaries = await call.service.look(page)
+    last = pages.position_of(summaries[-1]) if len(summaries) == limit else None
     more = last and filters.cursor_of(last)
-    return Json({"sagas": [json_views.summary(one) for one in found], "next": more})
+    return Json({"sagas": [json_views.summary(summary) for summary in summaries], "next": more})
 
 
-@routes.get("/sagas/{key}", "getSaga", may=May.LOOK, answers={200: SAGA}, problems=("NoSuchSaga",))
+@routes.get(
+    "/sagas/{key}",
+    "getSaga",
+    permission=Permission.LOOK,
+    answers={200: SAGA},
+    problems=("NoSuchSaga",),
+)
 async def get(call: Call) -> Response:
     """Get a saga.
 
-    A step is `running` where it is called now or a worker has it, and `begun` where it waits for
-    something, or the service does not know. With `If-None-Match` the answer is 304 where nothing
-    has changed."""
+    A step is `running` if it is being called or a worker has it. It is `begun` if it waits, or
+    the service does not know. With `If-None-Match`, the response is 304 if nothing has changed.
+    """
     return await answered(call)
 
 
 @routes.get(
     "/sagas/{key}/wait",
     "waitForSaga",
-    may=May.LOOK,
-    query={"seconds": Field(Number(0.0, LONGEST), "how long at most", default=30.0)},
+    permission=Permission.LOOK,
+    query={"seconds": Field(Number(0.0, LONGEST), "maximum seconds to wait", default=30.0)},
     answers={200: SAGA},
     problems=("NoSuchSaga", "Unauthorized", "RightsChanged", "TooManyWaits"),
 )
 async def wait(call: Call) -> Response:
     """Wait until a saga is over.
 
-    Answers as `getSaga`, once it is over or the time has passed; `over` says which. Whatever the
-    client sends behind the request ends the wait."""
-    await call.service.check_sees(call.who, call.key)
-    with waiting(call.request, call.who, Kind.WAIT):
+    Returns the same as `getSaga` when the saga is over or the time has passed; `over` says
+    which. Any further data from the client ends the wait.
+    """
+    await call.service.check_sees(call.principal, call.key)
+    with waiting(call.request, call.principal, Kind.WAIT):
         ending = asyncio.ensure_future(call.service.store.over(call.key))
-        if await first(call.request, call.who, ending, call.query["seconds"]):
-            ending.result()  # raises, where there is no such saga
+        if await first(call.request, call.principal, ending, call.query["seconds"]):
+            ending.result()  # raises if the saga does not exist
     if call.request.scope[GONE].done():
-        return Response()  # nobody hears it
+        return Response()  # the client is gone
     return await answered(call)
 
 
 @routes.post(
     "/sagas/{key}/abort",
     "abortSaga",
-    may=May.START,
+    permission=Permission.START,
     body=WHY,
     answers={200: Answer("Whether it was aborted now.", answers.ABORTED)},
     problems=("NoSuchSaga", "NotAbortable", "OwnerUnavailable"),
@@ -268,63 +288,66 @@ async def wait(call: Call) -> Response:
 async def abort(call: Call) -> Response:
     """Abort a saga.
 
-    No further step of it starts, and what costs least is undone. A saga that undoes a child is not
-    aborted."""
+    No further step starts, and the saga is undone by a least-cost plan. A saga that undoes a
+    child cannot be aborted.
+    """
     service, note = call.service, call.body["note"]
-    await service.check_sees(call.who, call.key)
-    done = await service.in_time(service.store.abort(call.key, by=call.who.name, note=note))
+    await service.check_sees(call.principal, call.key)
+    done = await service.in_time(service.store.abort(call.key, by=call.principal.name, note=note))
     return Json({"key": call.key, "aborted": done})
 
 
 @routes.post(
     "/sagas/{key}/what-if",
     "whatIf",
-    may=May.LOOK,
+    permission=Permission.LOOK,
     body=SUPPOSE,
-    answers={200: Answer("The plan, which nobody goes by.", answers.WHAT_IF)},
+    answers={200: Answer("The plan, which is not executed.", answers.WHAT_IF)},
     problems=("NoSuchSaga", "SagaOver", "NotAbortable"),
 )
 async def what_if(call: Call) -> Response:
     """Compute what an abort, or a failure of a step, would cost now.
 
-    Nothing is changed. Steps that run are taken to succeed, and steps that wait and were not
-    called are given up; `assumed` has the state of each."""
+    Nothing is changed. Running steps are assumed to succeed. Steps that wait and were not
+    called are given up. `assumed` has the state of each step.
+    """
     suppose, step = call.body, call.body["fail"]
     if suppose["abort"] == (step is not None):
-        raise Problem("InvalidRequest", 'give one of {"abort": true} and {"fail": STEP}', "abort")
+        raise Problem("InvalidRequest", 'pass either {"abort": true} or {"fail": STEP}', "abort")
     view = await view_of(call)
     if view.phase != "open":
-        raise Problem("SagaOver", f"saga {call.key!r} is {view.phase}: nothing of it is to be done")
+        raise Problem("SagaOver", f"saga {call.key!r} is {view.phase}: there is nothing to plan")
     if suppose["abort"]:
         children.check_abortable(call.key)
 
-    def told() -> Response:
+    def answer() -> Response:
         try:
-            found = what_if_module.of(view, abort=suppose["abort"], failed=step)
+            forecast = what_if_module.of(view, abort=suppose["abort"], failed=step)
         except ValueError as error:
             raise Problem("InvalidRequest", f"fail: {error}", "fail") from None
-        return Json(json_views.what_if(found))
+        return Json(json_views.what_if(forecast))
 
-    return await call.service.threads.answers.do(told)
+    return await call.service.threads.answers.do(answer)
 
 
 @routes.get(
     "/sagas/{key}/picture.svg",
     "getPicture",
-    may=May.LOOK,
+    permission=Permission.LOOK,
     problems=("NoSuchSaga",),
     query={"unfold": unfolding.FIELD},
-    answers={200: Answer("A picture.", media_type="image/svg+xml")},
+    answers={200: Answer("An SVG picture.", media_type="image/svg+xml")},
 )
 async def picture(call: Call) -> Response:
-    """Get a saga as a picture.
+    """Get a picture of a saga.
 
-    Its steps with their states, and what the plan keeps and why. The items of a step, and the
-    steps of an included saga, are one box."""
+    It shows the steps with their states, and what the plan keeps and why. The items of a step,
+    and the steps of an included saga, are one box.
+    """
     view, unfold = await view_of(call), unfolding.names_in(call.query["unfold"])
     return Response(
         await call.service.threads.answers.do(
-            lambda: renderer.sent(picture_module.document(view, unfold))
+            lambda: renderer.encoded(picture_module.document(view, unfold))
         ),
         media_type="image/svg+xml",
         headers={"Content-Security-Policy": "default-src 'none'; style-src 'unsafe-inline'"},
@@ -334,9 +357,9 @@ async def picture(call: Call) -> Response:
 @routes.get(
     "/sagas/{key}/certificate",
     "getCertificate",
-    may=May.LOOK,
+    permission=Permission.LOOK,
     problems=("NoSuchSaga", "NoPlan"),
-    query={"form": Field(Choice(("json", "text")), "of the answer", default="json")},
+    query={"form": Field(Choice(("json", "text")), "the format of the response", default="json")},
     answers={
         200: Answer(
             "Definition, case and answer; with `form=text` as plain text.",
@@ -348,46 +371,53 @@ async def picture(call: Call) -> Response:
 async def certificate(call: Call) -> Response:
     """Get what `sagas check` needs to verify the plan.
 
-    As text it is for the standard input of `sagas check`."""
-    view = await kept_of(call.service, call.who, call.key)
+    As text, it is the standard input of `sagas check`.
+    """
+    view = await kept_of(call.service, call.principal, call.key)
     if view.plan is None:
-        raise Problem("NoPlan", f"saga {view.key!r} has no plan: nothing of it has failed")
+        raise Problem(
+            "NoPlan", f"saga {view.key!r} has no plan: no step has failed, and it was not aborted"
+        )
     if call.query["form"] == "text":
         return PlainTextResponse(certificate_text(view.plan))
     return Json(json_views.certificate(view.plan))
 
 
 async def check_reports(call: Call, key: str, step: str, undo: bool) -> None:
-    """Raises `Problem` where somebody may not say how this step ended."""
-    who = call.who
-    await call.service.check_sees(who, key)
-    if who.may(May.OPERATE):
+    """Raise `Problem` if the principal may not report this step."""
+    principal = call.principal
+    await call.service.check_sees(principal, key)
+    if principal.has_permission(Permission.OPERATE):
         return
     try:
-        why = f"{step[:64]!r} is no approval: an operator says how any other step ended"
+        why = f"{step[:64]!r} is not an approval: only an operator can report other steps"
         is_approval = not undo and await call.service.is_approval(key, step)
     except DefinitionError as error:
-        is_approval, why = False, f"{error}: ask one that has it"
+        is_approval, why = False, f"{error}. Use a service that has it"
     if not is_approval:
-        raise Problem("Forbidden", f"{who.name} is an approver, and {why}")
+        raise Problem("Forbidden", f"{principal.name} is an approver: {why}")
 
 
 async def decided(call: Call, outcome: str, value: Any) -> Response:
-    """Says how a step ended."""
+    """Report how a step ended."""
     step, body, store = call.path["step"], call.body, call.service.store
     await check_reports(call, call.key, step, body["undo"])
-    words = {word: body[word] for word in ("undo", "early", "note") if word in body}
-    words["by"] = call.who.name
-    deeds: dict[str, Any] = {"complete": store.complete, "fail": store.fail, "retry": store.retry}
+    options = {name: body[name] for name in ("undo", "early", "note") if name in body}
+    options["by"] = call.principal.name
+    commands: dict[str, Any] = {
+        "complete": store.complete,
+        "fail": store.fail,
+        "retry": store.retry,
+    }
     value = () if outcome == "retry" else (value,)
-    await call.service.in_time(deeds[outcome](call.key, step, *value, **words))
+    await call.service.in_time(commands[outcome](call.key, step, *value, **options))
     return Json({"key": call.key, "step": step, "kept": True})
 
 
 @routes.post(
     "/sagas/{key}/steps/{step}/complete",
     "completeStep",
-    may=May.APPROVE,
+    permission=Permission.APPROVE,
     body=COMPLETE,
     answers=DECIDED,
     problems=(
@@ -402,17 +432,18 @@ async def decided(call: Call, outcome: str, value: Any) -> Response:
 async def complete(call: Call) -> Response:
     """Report that a step is done.
 
-    An approval; for operators also a step with an unknown outcome, or one that nobody takes. Of an
-    approval, or a worker's step, that has not begun the report is stored until it begins. The
-    result of a step that starts a child has the key of a child that this step started, or null as
-    the key if there is nothing to undo."""
+    Approvers can report approvals. Operators can also report steps with an unknown outcome, and
+    tasks that no worker claims. If an approval or a worker's step has not begun, the report is
+    stored until it begins. The result of a step that starts a child must have the key of a
+    child that this step started, or a null key if there is nothing to undo.
+    """
     return await decided(call, "complete", call.body["result"])
 
 
 @routes.post(
     "/sagas/{key}/steps/{step}/fail",
     "failStep",
-    may=May.APPROVE,
+    permission=Permission.APPROVE,
     body=FAIL,
     answers=DECIDED,
     problems=("NoSuchSaga", "StepNotWaiting", "ConflictingReport", "OwnerUnavailable"),
@@ -420,61 +451,72 @@ async def complete(call: Call) -> Response:
 async def fail(call: Call) -> Response:
     """Report that a step failed permanently.
 
-    As `completeStep`: an approval is refused."""
+    The same rules as for `completeStep` apply. An approval is rejected.
+    """
     return await decided(call, "fail", call.body["error"])
 
 
 @routes.post(
     "/sagas/{key}/steps/{step}/retry",
     "retryStep",
-    may=May.OPERATE,
+    permission=Permission.OPERATE,
     body=RETRY,
     answers=DECIDED,
     problems=("NoSuchSaga", "StepNotWaiting", "OwnerUnavailable"),
 )
 async def retry(call: Call) -> Response:
-    """Attempt a step again.
+    """Retry a step.
 
-    Of a step, or a compensation, whose attempts are used up, or whose outcome is unknown. The same
-    attempt is made at once, with its idempotency key."""
+    The attempts of the step, or of its compensation, are used up, or its outcome is unknown.
+    The same attempt is repeated at once, with its idempotency key.
+    """
     return await decided(call, "retry", None)
 
 
 @routes.get(
     "/events",
     "followEvents",
-    may=May.LOOK,
+    permission=Permission.LOOK,
     streams=True,
     problems=("TooManyStreams",),
     query={
-        "key": Field(Text(most=512), "of one saga", default=None),
-        "definition": Field(Text(most=64), "of one definition", default=None),
+        "key": Field(Text(most=512), "only events of this saga", default=None),
+        "definition": Field(Text(most=64), "only events of this definition", default=None),
     },
     answers={200: Answer("Server-sent events.", media_type="text/event-stream")},
 )
 async def events(call: Call) -> Response:
-    """Follow what happens, as server-sent events.
+    """Follow events, as server-sent events.
 
-    From now on, or behind the header `Last-Event-ID`, of the definitions that the token may see.
-    An event `missed` says that some are no longer stored: look at the sagas themselves."""
-    check_definition(call.who, call.query["definition"], starts=False)
-    listener = Listener(call.query["key"], call.query["definition"], call.who.sees_event)
-    return stream(call.request, call.who, listener, None, lambda: is_still(call.request, call.who))
+    The stream begins now, or after the event in the header `Last-Event-ID`. It has events of
+    the definitions that the token may see. An event `missed` says that some events are no
+    longer stored: read the sagas themselves.
+    """
+    check_definition(call.principal, call.query["definition"], starts=False)
+    listener = Listener(call.query["key"], call.query["definition"], call.principal.sees_event)
+    return stream(
+        call.request,
+        call.principal,
+        listener,
+        None,
+        lambda: is_unchanged(call.request, call.principal),
+    )
 
 
 def stream(
     request: Request,
-    who: Who,
+    principal: Principal,
     listener: Listener,
     since: Optional[str],
     still: Callable[[], bool],
     dashboard: bool = False,
 ) -> Response:
-    """The stream of the hub, behind the id `since` where the client names none, as long as it is
-    `still` to be.
+    """Return the hub's stream, after `since` if the client names no event, while `still()` is
+    true.
 
-    Raises `Problem` where there are too many."""
-    service, name = service_of(request), maker(request, who)
+    Raises `Problem` if there are too many streams.
+    """
+    service, name = service_of(request), client_key(request, principal)
     if full := service.streams.full(name, dashboard):
         raise Problem("TooManyStreams", full)
     last = request.headers.get("last-event-id") or since

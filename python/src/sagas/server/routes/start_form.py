@@ -9,7 +9,7 @@ from starlette.responses import RedirectResponse, Response
 from sagas.base.errors import SagasError
 from sagas.server import json_texts, problems
 from sagas.server.access import check_definition, service_of
-from sagas.server.dashboard_session import closed, looker, sent, shows
+from sagas.server.dashboard_session import login_redirect, viewer_of, session_and_form, show_page
 from sagas.server.operations import Call, Routes
 from sagas.server.routes.pages import address_of
 from sagas.server.shapes import Field, Text
@@ -17,49 +17,52 @@ from sagas.server.shapes import Field, Text
 routes = Routes("pages", is_page=True)
 
 
-def asked(
+def form_page(
     request: Request, form: dict[str, str], fault: str | None = None, status: int = 200
 ) -> Response:
-    """The form, with what was said in it, and why it was not taken."""
-    names = service_of(request).names(looker(request))
-    return shows(request, "start.html", status, here="sagas", names=names, form=form, fault=fault)
+    """Return the form with its values, and why it was not accepted."""
+    names = service_of(request).names(viewer_of(request))
+    return show_page(
+        request, "start.html", status, here="sagas", names=names, form=form, fault=fault
+    )
 
 
 @routes.get("/ui/start", query={"definition": Field(Text(most=64), default="")})
 async def start_page(call: Call) -> Response:
-    return closed(call.request) or asked(call.request, {"definition": call.query["definition"]})
+    return login_redirect(call.request) or form_page(
+        call.request, {"definition": call.query["definition"]}
+    )
 
 
 @routes.post("/ui/start")
 async def start(call: Call) -> Response:
-    """Starts it, and goes to it; so too where the key has this very saga already."""
+    """Start the saga, and redirect to it. It may exist already with the same input."""
     request = call.request
-    session, form = await sent(request)
+    session, form = await session_and_form(request)
     service, key = service_of(request), form.get("key", "").strip()
     if not 0 < len(key) <= 512 or key in (".", ".."):
-        return asked(
+        return form_page(
             request,
             form,
-            "Give it a key of at most 512 characters: its name as long as it is kept, an order's "
-            "number say.",
+            "Enter a key of 1 to 512 characters, for example an order number.",
             422,
         )
     try:
         size = len(form.get("input", ""))
-        given = json_texts.read(form.get("input") or "null")
+        input = json_texts.read(form.get("input") or "null")
     except ValueError as error:
-        return asked(
+        return form_page(
             request,
             form,
             f"The input is not valid JSON: {error}. Write a text in quotation marks.",
             422,
         )
     definition = form.get("definition", "")
-    check_definition(session.who, definition)
+    check_definition(session.principal, definition)
     try:
-        saga = service.saga_named(session.who, definition, None)
-        await service.start(session.who, size, saga, key, given)
+        saga = service.saga_named(session.principal, definition, None)
+        await service.start(session.principal, size, saga, key, input)
     except SagasError as error:
-        return asked(request, form, str(problems.of(error)), 409)
+        return form_page(request, form, str(problems.of(error)), 409)
     service.figures.forget()
     return RedirectResponse(address_of(key), 303)

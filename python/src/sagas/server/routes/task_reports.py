@@ -9,7 +9,7 @@ from starlette.responses import Response
 
 from sagas.base.errors import SagasError
 from sagas.server import answers, problems
-from sagas.server.auth import May
+from sagas.server.auth import Permission
 from sagas.server.operations import Answer, Call, Routes
 from sagas.server.problems import Problem
 from sagas.server.routes.task_claims import NextClaim, answered
@@ -17,22 +17,32 @@ from sagas.server.routes.tasks import LEASE, MORE, check_next
 from sagas.server.shapes import Anything, Choice, Field, Flag, Nullable, Record, Several, Text
 
 routes = Routes("workers", "/v1/tasks")
-MOST = 100
-"""How many tasks one request reports at most."""
+MOST_REPORTS = 100
+"""The maximum number of reports in one request."""
 REPORT = Record(
     "TaskReport",
     {
-        "attempt_id": Field(Text(most=130), "as the task has it"),
+        "attempt_id": Field(Text(most=130), "the attempt id of the task"),
         **LEASE,
-        "outcome": Field(Choice(("complete", "fail", "unknown")), "as the request for one task"),
-        "result": Field(Anything(), "of `complete`: what the step gives", default=None),
-        "error": Field(Nullable(Text(most=4000)), "of `fail` and `unknown`: why", default=None),
-        "final": Field(Flag(), "of `fail`: no further attempt will help", default=False),
+        "outcome": Field(
+            Choice(("complete", "fail", "unknown")), "the same as the requests for one task"
+        ),
+        "result": Field(Anything(), "for `complete`: the result of the step", default=None),
+        "error": Field(
+            Nullable(Text(most=4000)), "for `fail` and `unknown`: the reason", default=None
+        ),
+        "final": Field(Flag(), "for `fail`: no further attempt will help", default=False),
     },
 )
 REPORTS = Record(
     "TaskReports",
-    {"reports": Field(Several(REPORT, least=1, most=MOST), "each as if sent alone"), **MORE},
+    {
+        "reports": Field(
+            Several(REPORT, least=1, most=MOST_REPORTS),
+            "the reports; each counts as if it was sent alone",
+        ),
+        **MORE,
+    },
     example={
         "reports": [
             {"attempt_id": "c0ffee-1-car-run-1", "lease": "1.c0ffee", "outcome": "complete"}
@@ -41,51 +51,54 @@ REPORTS = Record(
 )
 
 
-def outcome_of(report: dict[str, Any], place: int) -> dict[str, Any]:
-    """How a task ended, as the store takes it. Raises `Problem`."""
+def outcome_of(report: dict[str, Any], index: int) -> dict[str, Any]:
+    """Return how a task ended, as arguments for the store. Raises `Problem`."""
     outcome, error = report["outcome"], report["error"]
     if outcome == "complete":
         return {"result": report["result"]}
     if outcome == "unknown":
         return {"unknown": error or "the worker does not know"}
     if error is None:
-        where = f"reports.{place}.error"
-        raise Problem("InvalidRequest", f"{where}: it is missing", where)
+        location = f"reports.{index}.error"
+        raise Problem("InvalidRequest", f"{location}: is required", location)
     return {"error": error, "final": report["final"]}
 
 
 async def _kept(
     call: Call, claim: NextClaim, report: dict[str, Any], outcome: dict[str, Any]
 ) -> dict[str, Any]:
-    """Keeps one report; gives what is answered of it."""
+    """Store one report, and return the answer to it."""
     attempt_id = report["attempt_id"]
-    told: dict[str, Any] = {"attempt_id": attempt_id, "kept": True, "repeated": False}
+    fields: dict[str, Any] = {"attempt_id": attempt_id, "kept": True, "repeated": False}
     try:
         kept = await call.service.store.workers.report(
-            attempt_id, report["lease"], holder=call.who.name, stored=claim.stored, **outcome
+            attempt_id, report["lease"], holder=call.principal.name, stored=claim.stored, **outcome
         )
     except SagasError as error:
-        return {**told, "kept": False, "problem": problems.body(problems.of(error))}
-    return {**told, "repeated": not kept, "problem": None}
+        return {**fields, "kept": False, "problem": problems.body(problems.of(error))}
+    return {**fields, "repeated": not kept, "problem": None}
 
 
 @routes.post(
     "/report",
     "reportTasks",
-    may=May.WORK,
+    permission=Permission.WORK,
     body=REPORTS,
-    answers={200: Answer("Each has its own answer.", answers.REPORTED_TASKS)},
+    answers={200: Answer("The results of the reports, in their order.", answers.REPORTED_TASKS)},
 )
 async def report(call: Call) -> Response:
     """Report several tasks.
 
-    Each report counts as if it was sent alone, and has its own problem if it is not stored. Repeat
-    those whose problem has a status that is worth repeating."""
+    Each report counts as if it was sent alone, and has its own problem if it is not stored.
+    Repeat the reports whose problem has a repeatable status.
+    """
     body, more = call.body, call.body["next"]
-    outcomes = [outcome_of(one, place) for place, one in enumerate(body["reports"])]
+    outcomes = [outcome_of(entry, index) for index, entry in enumerate(body["reports"])]
     check_next(call, more)
     async with NextClaim(call, more, len(outcomes)) as claim:
-        some = (_kept(call, claim, *one) for one in zip(body["reports"], outcomes))
-        told = await asyncio.gather(*some)
-        found = await claim.answer()
-        return await answered(call, lambda next: {"reports": told, "next": next}, found, "next")
+        stored = (_kept(call, claim, *entry) for entry in zip(body["reports"], outcomes))
+        answers_of_reports = await asyncio.gather(*stored)
+        claimed = await claim.answer()
+        return await answered(
+            call, lambda next: {"reports": answers_of_reports, "next": next}, claimed, "next"
+        )

@@ -1,4 +1,4 @@
-"""The page of posts to webhooks."""
+"""The page of webhook deliveries."""
 
 from __future__ import annotations
 
@@ -9,7 +9,7 @@ from starlette.responses import RedirectResponse, Response
 
 from sagas.inspection import deliveries
 from sagas.server.access import service_of
-from sagas.server.dashboard_session import closed, looker, sent, shows
+from sagas.server.dashboard_session import login_redirect, viewer_of, session_and_form, show_page
 from sagas.server.operations import Call, Routes
 from sagas.server.routes import webhooks
 from sagas.server.shapes import Choice, Field, Text
@@ -23,30 +23,30 @@ FILTERED = {
     "webhook": Field(Text(most=64), default=None),
 }
 LOOKS = {"pending": "open", "delivered": "completed", "failed": "stuck"}
-"""The badge of a state: that of a phase that means as much."""
+"""The badge of a state: that of a phase with a similar meaning."""
 
 
-def url(**given: Any) -> str:
-    """The page with this filter."""
-    words = {name: value for name, value in given.items() if value}
-    return f"/ui/webhooks?{urlencode(words)}" if words else "/ui/webhooks"
+def url(**parameters: Any) -> str:
+    """Return the page with this filter."""
+    query = {name: value for name, value in parameters.items() if value}
+    return f"/ui/webhooks?{urlencode(query)}" if query else "/ui/webhooks"
 
 
 @routes.get("/ui/webhooks", query=FILTERED)
 async def listed(call: Call) -> Response:
-    """The latest deliveries, the newest first."""
-    if answer := closed(call.request):
+    """Show the latest deliveries, newest first."""
+    if answer := login_redirect(call.request):
         return answer
-    webhooks.check_all(looker(call.request))
+    webhooks.check_all(viewer_of(call.request))
     state, webhook = call.query["state"], call.query["webhook"]
-    found = await call.service.look(deliveries.listed(state, webhook, LISTED + 1))
-    return shows(
+    listed_deliveries = await call.service.look(deliveries.listed(state, webhook, LISTED + 1))
+    return show_page(
         call.request,
         "webhooks.html",
         here="webhooks",
-        deliveries=found[:LISTED],
+        deliveries=listed_deliveries[:LISTED],
         most=LISTED,
-        more=len(found) > LISTED,
+        more=len(listed_deliveries) > LISTED,
         states=(None, *STATES),
         looks=LOOKS,
         state=state,
@@ -58,8 +58,8 @@ async def listed(call: Call) -> Response:
 
 @routes.post("/ui/webhooks/{id}/redeliver")
 async def redelivered(call: Call) -> Response:
-    """Have a delivery posted again, and go back to the list."""
-    session, form = await sent(call.request)
-    await webhooks.again(service_of(call.request), session.who, call.path["id"])
+    """Post a delivery again, and redirect to the list."""
+    session, form = await session_and_form(call.request)
+    await webhooks.again(service_of(call.request), session.principal, call.path["id"])
     state = form.get("state") if form.get("state") in STATES else None
     return RedirectResponse(url(state=state, webhook=form.get("webhook", "")[:64]), 303)

@@ -10,7 +10,7 @@ from starlette.responses import Response
 from sagas.inspection import deliveries
 from sagas.inspection.deliveries import Delivery
 from sagas.server import answers
-from sagas.server.auth import May, Who
+from sagas.server.auth import Permission, Principal
 from sagas.server.operations import Answer, Call, Routes
 from sagas.server.problems import Problem
 from sagas.server.responses import Json, times
@@ -21,76 +21,82 @@ from sagas.storage.deliveries import DeliveryState
 
 logger = logging.getLogger("sagas.server")
 routes = Routes("operators", "/v1")
-AGAIN = Record("RedeliverRequest", {}, "Nothing is to be said.")
+REDELIVER = Record("RedeliverRequest", {}, "An empty object.")
 
 
-def told_of(one: Delivery) -> dict[str, Any]:
-    """A delivery, without what it is signed by."""
+def delivery_json(delivery: Delivery) -> dict[str, Any]:
+    """Return a delivery, without its signature."""
     return {
-        "id": one.id,
-        "webhook": one.webhook,
-        "type": one.type,
-        "key": one.key,
-        **times(at=one.at),
-        "state": one.state,
-        "attempts": one.attempts,
-        "status": one.status,
-        "error": one.error,
-        **times(due=one.due),
+        "id": delivery.id,
+        "webhook": delivery.webhook,
+        "type": delivery.type,
+        "key": delivery.key,
+        **times(at=delivery.at),
+        "state": delivery.state,
+        "attempts": delivery.attempts,
+        "status": delivery.status,
+        "error": delivery.error,
+        **times(due=delivery.due),
     }
 
 
-def check_all(who: Who) -> None:
-    """Raises `Problem` where somebody is kept to some definitions."""
-    if who.definitions is not None:
-        raise Problem("Forbidden", f"{who.name} is kept to some definitions")
+def check_all(principal: Principal) -> None:
+    """Raise `Problem` if the principal is restricted to some definitions."""
+    if principal.definitions is not None:
+        raise Problem("Forbidden", f"{principal.name} is restricted to some definitions")
 
 
-async def again(service: Service, who: Who, id: str) -> Delivery:
-    """Have a delivery posted again. Raises `Problem`."""
-    check_all(who)
+async def again(service: Service, principal: Principal, id: str) -> Delivery:
+    """Post a delivery again. Raises `Problem`."""
+    check_all(principal)
     done = await service.store.deliveries.redeliver(id)
-    one = await service.look(deliveries.one(id)) if done else None
-    if one is None:
+    delivery = await service.look(deliveries.one(id)) if done else None
+    if delivery is None:
         raise Problem("NoSuchDelivery", f"no delivery has the id {id[:64]!r}")
-    logger.info("%s has the delivery %s posted again", who.name, one.id)
+    logger.info("%s has the delivery %s posted again", principal.name, delivery.id)
     service.webhooks.look()
-    return one
+    return delivery
 
 
 @routes.get(
     "/webhooks/deliveries",
     "listDeliveries",
-    may=May.OPERATE,
+    permission=Permission.OPERATE,
     query={
-        "state": Field(Choice(tuple(state.value for state in DeliveryState)), "", default=None),
-        "webhook": Field(Text(most=64), "to this webhook", default=None),
+        "state": Field(
+            Choice(tuple(state.value for state in DeliveryState)),
+            "only deliveries in this state",
+            default=None,
+        ),
+        "webhook": Field(Text(most=64), "only deliveries to this webhook", default=None),
         "limit": LIMIT,
     },
-    answers={200: Answer("The latest, the newest first.", answers.DELIVERIES)},
+    answers={200: Answer("The latest deliveries, newest first.", answers.DELIVERIES)},
 )
 async def listed(call: Call) -> Response:
     """List deliveries of webhooks.
 
-    Those of the store: of all services that share it."""
-    check_all(call.who)
+    Returns deliveries of all services that share the store.
+    """
+    check_all(call.principal)
     query = call.query
-    found = await call.service.look(
+    listed_deliveries = await call.service.look(
         deliveries.listed(query["state"], query["webhook"], query["limit"])
     )
-    return Json({"deliveries": [told_of(one) for one in found]})
+    return Json({"deliveries": [delivery_json(delivery) for delivery in listed_deliveries]})
 
 
 @routes.post(
     "/webhooks/deliveries/{id}/redeliver",
     "redeliver",
-    may=May.OPERATE,
-    body=AGAIN,
-    answers={200: Answer("It is pending again.", answers.DELIVERY)},
+    permission=Permission.OPERATE,
+    body=REDELIVER,
+    answers={200: Answer("The delivery is pending again.", answers.DELIVERY)},
     problems=("NoSuchDelivery",),
 )
 async def redeliver(call: Call) -> Response:
     """Post a delivery again.
 
-    Under its id, with all its attempts, also where it was delivered or given up."""
-    return Json(told_of(await again(call.service, call.who, call.path["id"])))
+    It keeps its id and gets all its attempts again, even if it was delivered or given up.
+    """
+    return Json(delivery_json(await again(call.service, call.principal, call.path["id"])))
