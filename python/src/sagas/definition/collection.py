@@ -1,4 +1,4 @@
-"""`collect`: a need for the items of a fan-out, some of which may fail."""
+"""`collect`: a need for the items of a fan-out that allows for items that fail."""
 
 from __future__ import annotations
 
