@@ -309,7 +309,10 @@ def _job(broker: str, store: str, kinds: list[str], seeds: list[int], sagas: int
                     one := play(kinds[seed % len(kinds)], seed, running, sagas, server=server)
                 )
                 print(
-                    f"{broker} {store} {one.kind} {seed}: {dict(one.kills)} {one.found[:5]} {one.folder or ''}",
+                    (
+                        f"{broker} {store} {one.kind} {seed}:"
+                        f" {dict(one.kills)} {one.found[:5]} {one.folder or ''}"
+                    ),
                     flush=True,
                 )
             return rounds
@@ -353,7 +356,8 @@ def main() -> int:
         figures += one.verdict.figures
     bad = sum(bool(one.found) for one in rounds)
     print(
-        f"{len(rounds)} rounds over {words.broker} and {words.store}, {bad} bad, seed {words.seed}, {time.monotonic() - began:.0f} s"
+        f"{len(rounds)} rounds over {words.broker} and {words.store}, {bad} bad, seed {words.seed},"
+        f" {time.monotonic() - began:.0f} s"
     )
     for title, counted in (("strikes", kills), ("figures", figures)):
         print(

@@ -171,9 +171,11 @@ class Shop:
             if task.input.wish == "never":
                 raise sagas.Fail("never")
             if task.input.wish == "lost" and len(self.calls(task.key)) < 5:
-                raise sagas.Unknown("who knows") if len(
-                    self.calls(task.key)
-                ) < 4 else ConnectionError("lost")
+                raise (
+                    sagas.Unknown("who knows")
+                    if len(self.calls(task.key)) < 4
+                    else ConnectionError("lost")
+                )
             return {"seat": task.result_of(flight).name}
 
         return trip

@@ -29,7 +29,8 @@ def test_a_wrong_store_is_found(postgresql: Server, name: str) -> None:
     module = importlib.import_module(f"wrong_stores.{name}")
     if not hasattr(module, "STRIKES"):
         pytest.skip(
-            "no strike shows it: the judge cannot tell a node that lives from one that was struck, or the moment is too short"
+            "no strike shows it: the judge cannot tell a node that lives from one that was struck,"
+            " or the moment is too short"
         )
     found: set[str] = set()
     for seed in range(6):

@@ -35,15 +35,26 @@ FAULTS = {
     "not-over": "a saga is neither ended nor stuck",
     "end": "the end of a saga in the database is not the one of its log",
     "results": "the results in the database are not those of the log's events",
-    "not-called": "a failure is kept that a function is to have told, and the witness saw no call of that attempt",
-    "tokens": "an attempt with two tokens, a token of two attempts, or one that is not made from its log, saga, step and attempt",
-    "no-effect": "a step is committed or undone, and the witness saw no effect under the token of that attempt",
+    "not-called": (
+        "a failure is kept that a function is to have told, and the witness saw no call of that"
+        " attempt"
+    ),
+    "tokens": (
+        "an attempt with two tokens, a token of two attempts, or one that is not made from its log,"
+        " saga, step and attempt"
+    ),
+    "no-effect": (
+        "a step is committed or undone, and the witness saw no effect under the token of that"
+        " attempt"
+    ),
     "wrong-attempt": "an effect under the token of an attempt that did not commit",
     "effect-lost": "an action had an effect, and its step neither stands nor was undone",
     "undone-twice": "a compensation had effects under two tokens",
     "wrong-action": "a compensation was of another action than the one that was done",
     "input": "a function was handed the input of another saga",
-    "handed": "a function was handed a result that its step did not give, or an end has such a result",
+    "handed": (
+        "a function was handed a result that its step did not give, or an end has such a result"
+    ),
 }
 
 
@@ -288,7 +299,10 @@ class Judge:
         if kept != {(end.step, end.kind, end.attempt): end.word for end in ends}:
             fault(
                 "results",
-                f"{row.key}: {kept}, by the log {[(end.word, end.step, end.attempt) for end in ends]}",
+                (
+                    f"{row.key}: {kept}, by the log"
+                    f" {[(end.word, end.step, end.attempt) for end in ends]}"
+                ),
             )
         good = {(end.step, end.kind): end.token for end in ends if end.word in ("commit", "undone")}
         for (step, kind), token in good.items():

@@ -126,7 +126,8 @@ class NodeStriker(Striker):
     def _sessions(self, process: subprocess.Popen[bytes]) -> None:
         with psycopg.connect(self.url, autocommit=True) as link:
             link.execute(
-                "SELECT pg_terminate_backend(pid) FROM pg_stat_activity WHERE datname = current_database() AND pid <> pg_backend_pid() AND application_name = 'sagas'"
+                "SELECT pg_terminate_backend(pid) FROM pg_stat_activity WHERE datname ="
+                " current_database() AND pid <> pg_backend_pid() AND application_name = 'sagas'"
             )
         self.kills["sessions"] += 1
 

@@ -261,7 +261,10 @@ def main() -> int:
     with serving() as server:
         for number in range(options.rounds):
             played = play(options.seed + number, options.sagas, options.restores, server)
-            counts = f"{played.kills} kills, {played.again} sagas called again, {len(played.faults)} faults"
+            counts = (
+                f"{played.kills} kills, {played.again} sagas called again,"
+                f" {len(played.faults)} faults"
+            )
             print(
                 f"round {options.seed + number}: {counts}",
                 *played.faults[:8],

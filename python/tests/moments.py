@@ -169,7 +169,8 @@ class Stage:
     def waiting(self) -> list[tuple[Any, ...]]:
         """The server's processes whose statements wait for a lock."""
         return self.ask(
-            "SELECT pid FROM pg_stat_activity WHERE datname = current_database() AND wait_event_type = 'Lock'"
+            "SELECT pid FROM pg_stat_activity WHERE datname = current_database() AND"
+            " wait_event_type = 'Lock'"
         )
 
     async def gone(self, processes: list[tuple[Any, ...]]) -> None:
@@ -182,7 +183,10 @@ class Stage:
         with psycopg.connect(self.url) as link:
             link.execute("SET search_path = sagas")
             taken = link.execute(
-                f"WITH mine AS (UPDATE shards SET owner = n.node, epoch = epoch + 1 FROM nodes n WHERE {of} AND n.name = %s RETURNING shard, epoch, n.node) {TAKEOVER}",
+                (
+                    "WITH mine AS (UPDATE shards SET owner = n.node, epoch = epoch + 1 FROM nodes"
+                    f" n WHERE {of} AND n.name = %s RETURNING shard, epoch, n.node) {TAKEOVER}"
+                ),
                 (key, name),
             )
             assert taken.rowcount == 1
@@ -301,7 +305,8 @@ async def a_commit_of_two_logs_comes_late(stage: Stage) -> int:
                 relay.cut()
                 with psycopg.connect(stage.url, options="-csearch_path=sagas") as link:
                     link.execute(
-                        f"WITH mine AS (UPDATE shards SET epoch = epoch + 1 RETURNING shard, epoch, owner AS node) {TAKEOVER}"
+                        "WITH mine AS (UPDATE shards SET epoch = epoch + 1 RETURNING shard, epoch,"
+                        f" owner AS node) {TAKEOVER}"
                     )
             await stage.gone(late)
             if stage.ask("SELECT 1 FROM attempts JOIN sagas USING (id) WHERE key IN ('k2', 'k3')"):

@@ -75,8 +75,10 @@ undo = "never"
 """
 DEFINITIONS = {
     "trip.toml": TRIP,
-    "trip.service.toml": "[step.tour]\nbackoff = { initial = 0.05 }\nmax_unknown = 0\n"
-    '[step.car]\nundo_on_exhausted = "fail"\n',
+    "trip.service.toml": (
+        "[step.tour]\nbackoff = { initial = 0.05 }\nmax_unknown = 0\n"
+        '[step.car]\nundo_on_exhausted = "fail"\n'
+    ),
     "order.toml": ORDER,
     "order.service.toml": '[step.review]\nkind = "approval"\n',
     "licence.toml": LICENCE,

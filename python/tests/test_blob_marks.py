@@ -239,7 +239,10 @@ def test_a_value_that_is_not_given_parks_its_attempt_alone(
                 await store.start(saga, key, LARGE)
                 await asked(store, key)
             prefixes = await store._access.inside.store.read_stored(
-                "SELECT a.value FROM attempts a JOIN sagas s ON s.id = a.id WHERE s.key <> ? AND a.step = 0",
+                (
+                    "SELECT a.value FROM attempts a JOIN sagas s ON s.id = a.id WHERE s.key <> ?"
+                    " AND a.step = 0"
+                ),
                 "good",
             )
             flaky.lacks = {json.loads(text)["$blob"] for (text,) in prefixes}

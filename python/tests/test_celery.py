@@ -455,7 +455,10 @@ def row(store: str, token: str) -> tuple[str, str]:
 def offer(store: str, token: str) -> None:
     """The row of an attempt that was sent under lease 5."""
     values = "(?, 0, 5, 0, 'run', 1, '', 0.0, 5)"
-    query = f"INSERT INTO external_attempts(attempt, shard, id, step, action, number, task, offered_at, lease) VALUES {values}"
+    query = (
+        "INSERT INTO external_attempts(attempt, shard, id, step, action, number, task, offered_at,"
+        f" lease) VALUES {values}"
+    )
     if store.startswith("postgresql:"):
         with psycopg.connect(store, options="-csearch_path=sagas") as link:
             link.execute(query.replace("?", "%s"), (token,))  # type: ignore[arg-type]

@@ -85,7 +85,10 @@ def test_a_compensation_that_is_gone(place: str, steps: tuple[str, ...], lacks: 
     """Its step was renamed or removed, or it alone: no program without it opens the file, and over PostgreSQL no node without it has the shard."""
     world = World()
     old, new = world.parent(world.child("x", "y")), world.parent(world.child(*steps))
-    why = f"saga 'parent' (version 1) has open sagas that may undo a child of saga 'child' (version 1), but step '{lacks}' has no compensation in this program"
+    why = (
+        "saga 'parent' (version 1) has open sagas that may undo a child of saga 'child' (version"
+        f" 1), but step '{lacks}' has no compensation in this program"
+    )
 
     async def main() -> None:
         await world.started(place, old)
@@ -227,7 +230,10 @@ def test_a_child_of_a_child(place: str, capsys: pytest.CaptureFixture[str]) -> N
         if not place.startswith("postgresql"):
             with pytest.raises(
                 sagas.MissingStep,
-                match="open sagas may undo a child of saga 'below' .version 1., but step 'x' has no comp",
+                match=(
+                    "open sagas may undo a child of saga 'below' .version 1., but step 'x' has no"
+                    " comp"
+                ),
             ):
                 await sagas.open(place, new).__aenter__()
         async with sagas.open(place, more) as store:
@@ -344,9 +350,12 @@ def test_definitions_that_undo_children() -> None:
     world = World()
     child = world.child("x", "y", "z-", version=3)
     saga = undo_sagas.undo_saga(child)
-    assert saga and saga.toml() == (
-        '# version 3\n# undoes child\nformat = 2\nname = "child-undo"\n\n[[step]]\nname = "y"\n# sees x\nundo = "never"\nskip = 9\n'
-        '\n[[step]]\nname = "x"\n# sees\nneeds = ["y"]\nundo = "never"\nskip = 9\n'
+    assert (
+        saga
+        and saga.toml()
+        == '# version 3\n# undoes child\nformat = 2\nname = "child-undo"\n\n[[step]]\nname = "y"\n#'
+        ' sees x\nundo = "never"\nskip = 9\n\n[[step]]\nname = "x"\n# sees\nneeds = ["y"]\nundo'
+        ' = "never"\nskip = 9\n'
     )
     steps = undo_text.read(saga.toml())
     assert (

@@ -209,7 +209,8 @@ def waits_for_a_lock(url: str) -> list[Any]:
     """The server's processes that wait for a lock in this database."""
     with psycopg.connect(url) as link:
         return link.execute(
-            "SELECT 1 FROM pg_stat_activity WHERE datname = current_database() AND wait_event_type = 'Lock'"
+            "SELECT 1 FROM pg_stat_activity WHERE datname = current_database() AND wait_event_type"
+            " = 'Lock'"
         ).fetchall()
 
 
@@ -433,7 +434,10 @@ def test_a_start_is_in_the_inbox_or_in_a_log(url: str) -> None:
 
     def places() -> list[int]:
         with psycopg.connect(url) as link:
-            text = "SELECT count(*) FROM (SELECT key FROM sagas.pending_starts UNION ALL SELECT key FROM sagas.sagas) one GROUP BY key"
+            text = (
+                "SELECT count(*) FROM (SELECT key FROM sagas.pending_starts UNION ALL SELECT key"
+                " FROM sagas.sagas) one GROUP BY key"
+            )
             return [count for (count,) in link.execute(text).fetchall()]
 
     async def main() -> None:
@@ -623,7 +627,10 @@ def test_a_client_without_async(url: str) -> None:
 def test_a_client_in_a_forked_child(url: str) -> None:
     """With async and without it says at once that it is another process's, and its closing there does nothing to that one's."""
     kind = shop()
-    text = "the client was opened in another process, before a fork. Create and open one in this process"
+    text = (
+        "the client was opened in another process, before a fork. Create and open one in this"
+        " process"
+    )
     with sagas.open_sync(url, [kind]), sagas.SyncClient(url) as client:
         calls: list[Any] = [
             lambda: client.start(kind, "c"),
@@ -710,7 +717,10 @@ def test_a_client_by_the_other_kind_of_with() -> None:
     url = "postgresql://a@127.0.0.1/b"
     with pytest.raises(
         TypeError,
-        match=r"^a sagas.Client needs `async with`. Without async, use `with sagas\.SyncClient\(\.\.\.\)`$",
+        match=(
+            r"^a sagas.Client needs `async with`. Without async, use `with"
+            r" sagas\.SyncClient\(\.\.\.\)`$"
+        ),
     ):
         with sagas.Client(url):  # type: ignore[attr-defined]
             pass
@@ -952,7 +962,10 @@ def test_faults_of_the_given_connection_are_told_as_its_own(
         (
             url,
             "SELECT 1 / 0",
-        ): "in which a statement failed. Nothing was written. Roll it back, and start the saga in the next one",
+        ): (
+            "in which a statement failed. Nothing was written. Roll it back, and start the saga in"
+            " the next one"
+        ),
         (
             url,
             "SET TRANSACTION READ ONLY",

@@ -114,7 +114,8 @@ def held(path: str) -> list[tuple[Any, ...]]:
     """What the store holds for a person: keys and why."""
     with contextlib.closing(admin.connect(path)) as link:
         return link.ask(
-            "SELECT key, reason FROM suspensions JOIN sagas USING (id) WHERE reason = 'approval' OR reason = 'unknown' AND until IS NULL"
+            "SELECT key, reason FROM suspensions JOIN sagas USING (id) WHERE reason = 'approval' OR"
+            " reason = 'unknown' AND until IS NULL"
         )
 
 
@@ -360,7 +361,10 @@ def test_show_says_why(tmp_path: pathlib.Path, capsys: pytest.CaptureFixture[str
     checked = subprocess.run([program.path()], input=text, capture_output=True, text=True)
     assert (checked.stdout, checked.returncode) == ("blocked\n", 0)
     assert re.search(
-        r'take  undo failed +1  .*Z  .*Z  \{"called": false\}; its compensation: \{"error": "sagas.Fail: it is gone"',
+        (
+            r'take  undo failed +1  .*Z  .*Z  \{"called": false\}; its compensation: \{"error":'
+            r' "sagas.Fail: it is gone"'
+        ),
         told,
     ), told
     assert re.search(r'send  failed +1  .*Z  .*Z  \{"error": "sagas.Fail: no address"', told), told
@@ -581,7 +585,10 @@ def test_a_log_says_who_did_what_and_why(
         ("not", f"fail: {why}"),
         (
             "twice",
-            r"complete (undo): no letter (refused: saga 'twice', step 'write': it has not started. Report it after it starts)",
+            (
+                r"complete (undo): no letter (refused: saga 'twice', step 'write': it has not"
+                r" started. Report it after it starts)"
+            ),
         ),
         ("twice", "complete: as agreed (no answer yet)"),
     ):
@@ -744,7 +751,8 @@ def test_finish_says_what_is_wrong(place: str, capsys: pytest.CaptureFixture[str
             assert wrong == f"sagas store: saga 'letter-1', step 'write': {over}\n"
             assert (
                 await asked("letter-1", "write", "--undo")
-                == "sagas store: saga 'letter-1', step 'write': it has not started. Report it after it starts\n"
+                == "sagas store: saga 'letter-1', step 'write': it has not started. Report it after"
+                " it starts\n"
             )
             with pytest.raises(
                 sagas.StepNotWaiting,
@@ -883,7 +891,9 @@ FORGED = {
     "INSERT INTO attempts SELECT id, 1, 'undo', 1, 'ok', NULL, 0 FROM sagas WHERE key = 'good'": [
         "good: charge, undo 1: the row says ok, the events nothing"
     ],
-    "INSERT INTO attempts SELECT id, 1, 'run', 1, 'ok', NULL, 0 FROM sagas WHERE key = 'odd'": [],  # as of a transaction that nobody has reported
+    "INSERT INTO attempts SELECT id, 1, 'run', 1, 'ok', NULL, 0 FROM sagas WHERE key = 'odd'": (
+        []
+    ),  # as of a transaction that nobody has reported
     "UPDATE attempts SET value = 'null'": [],
 }
 """What is done to the rows of a store, and what the audit says of it."""

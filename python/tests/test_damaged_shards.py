@@ -21,7 +21,10 @@ from sagas.cli import store_command
 
 DAMAGES = {
     "gap": (
-        "DELETE FROM event_log WHERE shard = 0 AND first_seq = (SELECT min(first_seq) FROM event_log WHERE shard = 0 AND first_seq > 0)",
+        (
+            "DELETE FROM event_log WHERE shard = 0 AND first_seq = (SELECT min(first_seq) FROM"
+            " event_log WHERE shard = 0 AND first_seq > 0)"
+        ),
         "its event log has a gap",
     ),
     "log": (

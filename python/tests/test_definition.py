@@ -369,12 +369,18 @@ FAULTY: list[tuple[Callable[[sagas.Saga], None], str]] = [
     (a_circle, "a needs b needs a"),
     (
         undo_without_a_compensation,
-        "undo=3, but it has no compensation. Declare @a.compensation, or set undo=0 if there is nothing to undo",
+        (
+            "undo=3, but it has no compensation. Declare @a.compensation, or set undo=0 if there is"
+            " nothing to undo"
+        ),
     ),
     (never_with_a_compensation, "never called. Remove one"),
     (
         two_compensations,
-        "two compensations, but one must undo everything. Call both from one function, or remove one",
+        (
+            "two compensations, but one must undo everything. Call both from one function, or"
+            " remove one"
+        ),
     ),
     (a_price_below_0, "an integer from 0"),
     (a_price_that_is_no_number, "an integer from 0"),
@@ -456,7 +462,8 @@ def test_a_compensation_that_is_never_called(
     (warning,) = saga.warnings()
     assert "can never be called" in warning and warning.startswith(f"{__file__}:")
     assert warning.endswith(
-        "(keep=3) costs less than undoing it (undo=5). Set keep= to more than 5, or remove the compensation"
+        "(keep=3) costs less than undoing it (undo=5). Set keep= to more than 5, or remove the"
+        " compensation"
     )
     assert trip().warnings() == []
 
@@ -528,9 +535,11 @@ def test_what_keeps_others_from_being_undone() -> None:
     """A step without a compensation that does not say what is meant, behind a compensation; quiet where nothing behind or beside it may fail."""
     saga = chained()[0]
     (warning,) = saga.warnings()
-    assert warning == (
-        f"{saga.steps[1].where}: saga 'order', step 'receipt' has no compensation, so 'charge', which it needs, can never be undone after it commits. "
-        "Set undo=0 if there is nothing to undo, or undo=NEVER to confirm"
+    assert (
+        warning
+        == f"{saga.steps[1].where}: saga 'order', step 'receipt' has no compensation, so 'charge',"
+        " which it needs, can never be undone after it commits. Set undo=0 if there is nothing"
+        " to undo, or undo=NEVER to confirm"
     )
     assert warning.startswith(f"{__file__}:")
     for quiet in (chained(0), chained(sagas.NEVER), chained(behind=False)):
@@ -546,8 +555,14 @@ def test_what_keeps_others_is_told_once() -> None:
     saga.step(name="beside")(lambda task: None)
     told = [warning.split("step ", 1)[1].partition("; say")[0] for warning in saga.warnings()]
     assert told == [
-        "'receipt' has no compensation, so 'charge', which it needs, can never be undone after it commits. Set undo=0 if there is nothing to undo, or undo=NEVER to confirm",
-        "'mail' has no compensation, so 'hire', which it needs, can never be undone after it commits. Set undo=0 if there is nothing to undo, or undo=NEVER to confirm",
+        (
+            "'receipt' has no compensation, so 'charge', which it needs, can never be undone after"
+            " it commits. Set undo=0 if there is nothing to undo, or undo=NEVER to confirm"
+        ),
+        (
+            "'mail' has no compensation, so 'hire', which it needs, can never be undone after it"
+            " commits. Set undo=0 if there is nothing to undo, or undo=NEVER to confirm"
+        ),
     ]
     saga = sagas.Saga("two")
     for name in ("a", "b"):
@@ -630,7 +645,10 @@ def test_a_decorator_that_is_left_alone() -> None:
     a.compensation(tries=2)
     with pytest.raises(
         sagas.DefinitionError,
-        match=r"test_definition\.py:\d+: saga 's': a\.compensation\(\.\.\.\) declares nothing, because it is a decorator",
+        match=(
+            r"test_definition\.py:\d+: saga 's': a\.compensation\(\.\.\.\) declares nothing,"
+            r" because it is a decorator"
+        ),
     ):
         saga.toml()
 
@@ -651,8 +669,8 @@ def test_times_are_seconds_or_a_timedelta() -> None:
     saga.step(name="c", tries=2, backoff=sagas.Backoff(initial=300))(lambda task: None)
     (warning,) = saga.warnings()
     assert (
-        "the pauses of its function are 60.0 s, not 300 s, because that is the default maximum. Set sagas.Backoff(initial=300, maximum=300)"
-        in warning
+        "the pauses of its function are 60.0 s, not 300 s, because that is the default maximum. Set"
+        " sagas.Backoff(initial=300, maximum=300)" in warning
     )
 
 

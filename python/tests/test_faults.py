@@ -548,7 +548,10 @@ async def heard(event: sagas.Event) -> None:
         (
             {"shutdown_timeout": "30s"},
             TypeError,
-            "shutdown_timeout='30s': must be seconds or a timedelta, for example shutdown_timeout=30",
+            (
+                "shutdown_timeout='30s': must be seconds or a timedelta, for example"
+                " shutdown_timeout=30"
+            ),
         ),
         ({"shutdown_timeout": -1}, ValueError, "shutdown_timeout=-1: .*, >= 0"),
         ({"shutdown_timeout": True}, TypeError, "shutdown_timeout=True: must be seconds"),
@@ -622,7 +625,10 @@ def test_the_other_kind_of_with(tmp_path: pathlib.Path) -> None:
     for name in (path, "postgresql://a@127.0.0.1/b"):
         with pytest.raises(
             TypeError,
-            match=r"^a store of sagas.open needs `async with`. Without async, use `with sagas\.open_sync",
+            match=(
+                r"^a store of sagas.open needs `async with`. Without async, use `with"
+                r" sagas\.open_sync"
+            ),
         ):
             with sagas.open(name, [saga]):  # type: ignore[attr-defined]
                 pass
@@ -1210,7 +1216,8 @@ def test_the_command_on_a_full_disk(
         assert store_command.main([str(place), *words]) == 4
     assert (
         capsys.readouterr().err
-        == f"sagas store: {place}: disk I/O error. Make room if the disk is full, and check it otherwise\n"
+        == f"sagas store: {place}: disk I/O error. Make room if the disk is full, and check it"
+        " otherwise\n"
     )
 
 

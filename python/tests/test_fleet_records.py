@@ -128,7 +128,10 @@ def test_a_database_that_differs(
             "a commit follows event .*, and the one before ends at 0",
         ),
         (
-            "DELETE FROM event_log WHERE first_seq = (SELECT min(first_seq) FROM event_log WHERE first_seq > 0)",
+            (
+                "DELETE FROM event_log WHERE first_seq = (SELECT min(first_seq) FROM event_log"
+                " WHERE first_seq > 0)"
+            ),
             "a commit follows event .*",
         ),
         (

@@ -98,7 +98,10 @@ def test_drive_does_what_the_rules_say(shelf: list[Any], data: st.DataObject) ->
         again = follow(texts, lines)
         assert [saga.states for saga in again.sagas] == [saga.states for saga in follower.sagas]
         ended = sum(saga.phase == "ended" for saga in again.sagas)
-        said = f"yes sagas {len(again.sagas)} ended {ended} stuck {len(again.sagas) - ended} events {len(lines) - 1}"
+        said = (
+            f"yes sagas {len(again.sagas)} ended {ended} stuck {len(again.sagas) - ended} events"
+            f" {len(lines) - 1}"
+        )
         assert audit(log, sorted(folder.glob("*.toml"))) == said
 
 

@@ -202,7 +202,10 @@ def outside() -> sagas.Saga:
 
 def offered(url: str) -> list[tuple[str, str]]:
     """The attempts that are offered, each with its saga's own id."""
-    text = "SELECT attempt, coalesce(name || '-' || s.id % 1000, '') FROM external_attempts e LEFT JOIN (sagas s JOIN shards l ON l.shard = s.id / 1000) ON s.id = e.id"
+    text = (
+        "SELECT attempt, coalesce(name || '-' || s.id % 1000, '') FROM external_attempts e LEFT"
+        " JOIN (sagas s JOIN shards l ON l.shard = s.id / 1000) ON s.id = e.id"
+    )
     with psycopg.connect(url, options="-csearch_path=sagas") as link:
         return link.execute(text).fetchall()
 
@@ -331,13 +334,16 @@ def test_a_store_that_takes_nothing(url: str, looks: list[str]) -> None:
         async with sagas.open(url, [kind]) as store:
             with psycopg.connect(url, autocommit=True) as link:
                 link.execute(
-                    "CREATE FUNCTION refuse() RETURNS trigger LANGUAGE plpgsql AS $$ BEGIN RAISE EXCEPTION 'full'; END $$"
+                    "CREATE FUNCTION refuse() RETURNS trigger LANGUAGE plpgsql AS $$ BEGIN RAISE"
+                    " EXCEPTION 'full'; END $$"
                 )
                 link.execute(
-                    "CREATE TRIGGER refuse BEFORE INSERT OR UPDATE ON sagas.shards FOR EACH ROW EXECUTE FUNCTION refuse()"
+                    "CREATE TRIGGER refuse BEFORE INSERT OR UPDATE ON sagas.shards FOR EACH ROW"
+                    " EXECUTE FUNCTION refuse()"
                 )
                 link.execute(
-                    "CREATE TRIGGER refuse BEFORE INSERT ON sagas.event_log FOR EACH ROW EXECUTE FUNCTION refuse()"
+                    "CREATE TRIGGER refuse BEFORE INSERT ON sagas.event_log FOR EACH ROW EXECUTE"
+                    " FUNCTION refuse()"
                 )
             again = await store.start(kind, "k", 1)
             assert not again.new and (await again.wait()).results == {"a": 1}

@@ -244,7 +244,8 @@ def test_what_a_reader_without_a_type_sees_counts(place: str) -> None:
                 await store.start(saga, "k", {"name": "a", "price": 1, "x": [1, {"y": 2}, 3]})
             assert (
                 str(error.value)
-                == "key 'k' belongs to a saga with another input, which differs at .x[1].y, .x[2]. Use another key"
+                == "key 'k' belongs to a saga with another input, which differs at .x[1].y, .x[2]."
+                " Use another key"
             )
             await store.start(saga, "whole", {"name": "a", "price": 1})
             with pytest.raises(sagas.KeyConflict, match=r"differs at \.name"):

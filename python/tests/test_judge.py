@@ -51,7 +51,8 @@ def lose_a_key(copy: Copy) -> None:
 
 def lose_lines(copy: Copy) -> None:
     copy.write(
-        "DELETE FROM event_log WHERE first_seq = (SELECT min(first_seq) FROM event_log WHERE first_seq > 0)"
+        "DELETE FROM event_log WHERE first_seq = (SELECT min(first_seq) FROM event_log WHERE"
+        " first_seq > 0)"
     )
 
 
@@ -73,7 +74,8 @@ def change_an_end(copy: Copy) -> None:
 
 def lose_a_result(copy: Copy) -> None:
     copy.write(
-        "DELETE FROM attempts WHERE (id, step, action, number) IN (SELECT id, step, action, number FROM attempts LIMIT 1)"
+        "DELETE FROM attempts WHERE (id, step, action, number) IN (SELECT id, step, action, number"
+        " FROM attempts LIMIT 1)"
     )
 
 
@@ -102,7 +104,8 @@ def lose_an_effect(copy: Copy) -> None:
 
 def miss_without_a_call(copy: Copy) -> None:
     failed = copy.db.execute(
-        "SELECT name || '-' || (id % 1000) FROM attempts JOIN shards ON shard = id / 1000 WHERE event = 'missed' LIMIT 1"
+        "SELECT name || '-' || (id % 1000) FROM attempts JOIN shards ON shard = id / 1000 WHERE"
+        " event = 'missed' LIMIT 1"
     ).fetchone()[0]
     copy.notes = [
         note

@@ -58,9 +58,9 @@ DATABASES = {
 }
 """Drivers of databases, and the only modules, or beginnings of them, that import one."""
 ADVERBS = set(
-    "active answering answered anywhere asking begun between called calling carried carrying doing elsewhere faults"
-    " forks given guarded guessing holding looks misfits moving news restoring sending sharing spoken starting"
-    " under_way unread unreadable waiting".split()
+    "active answering answered anywhere asking begun between called calling carried carrying doing"
+    " elsewhere faults forks given guarded guessing holding looks misfits moving news restoring"
+    " sending sharing spoken starting under_way unread unreadable waiting".split()
 )
 """Names that no module has: it is named for the noun that it holds."""
 MOST_LINES, MOST_COLUMNS, MOST_ATTRIBUTES, MOST_OF_FUNCTION = 800, 100, 24, 60

@@ -191,7 +191,10 @@ def test_a_log_whose_commit_is_under_way(url: str, logs: list[int]) -> None:
                     assert await loads.load(logs[0], 2, None)
                 assert not waits.done()
                 commit.execute(
-                    "INSERT INTO sagas.event_log SELECT shard, 1000, 0, text, epoch FROM sagas.event_log WHERE shard = %s AND first_seq = 0",
+                    (
+                        "INSERT INTO sagas.event_log SELECT shard, 1000, 0, text, epoch FROM"
+                        " sagas.event_log WHERE shard = %s AND first_seq = 0"
+                    ),
                     (logs[2],),
                 )
                 commit.commit()
@@ -211,7 +214,8 @@ def test_locked_logs_hold_up_nobody(url: str, logs: list[int]) -> None:
                 waits = [asyncio.create_task(loads.load(log, 1, None)) for log in logs]
                 await until(
                     lambda: eye.execute(
-                        "SELECT 1 FROM pg_stat_activity WHERE datname = current_database() AND wait_event_type = 'Lock'"
+                        "SELECT 1 FROM pg_stat_activity WHERE datname = current_database() AND"
+                        " wait_event_type = 'Lock'"
                     ).fetchall()
                 )
                 assert await loads._asker.ask("SELECT 1") == [

@@ -407,8 +407,8 @@ def test_what_no_node_drives_is_told(url: str, caplog: pytest.LogCaptureFixture)
     gate, calls, told = asyncio.Event(), list[str](), list[sagas.Event]()
     old, new = pair(gate, calls), simple(lambda task: 1)
     says = (
-        f"/{url.rpartition('/')[2]}: no node executes 1 shard, because none has the functions of their "
-        "open sagas: pair (version 1): 3 sagas in 1 shard. Start a program that has them"
+        f"/{url.rpartition('/')[2]}: no node executes 1 shard, because none has the functions of"
+        " their open sagas: pair (version 1): 3 sagas in 1 shard. Start a program that has them"
     )
 
     def warnings() -> list[str]:
@@ -635,8 +635,14 @@ def test_no_function_begins_behind_the_lease(url: str) -> None:
     assert calls == ["a", "b"]
 
 
-OTHER = "INSERT INTO sagas.nodes(node, name, version, since, lease) VALUES ('other', 'other', '', now(), now() + interval '1 hour')"
-TAKEN = "UPDATE sagas.shards SET owner = 'other', epoch = epoch + 1 WHERE shard = (SELECT id / 1000 FROM sagas.sagas WHERE key = 'taken') RETURNING name"
+OTHER = (
+    "INSERT INTO sagas.nodes(node, name, version, since, lease) VALUES ('other', 'other', '',"
+    " now(), now() + interval '1 hour')"
+)
+TAKEN = (
+    "UPDATE sagas.shards SET owner = 'other', epoch = epoch + 1 WHERE shard = (SELECT id / 1000"
+    " FROM sagas.sagas WHERE key = 'taken') RETURNING name"
+)
 
 
 def test_behind_its_lease_a_node_keeps_what_is_still_its_own(
@@ -693,7 +699,10 @@ def test_new_sagas_go_to_a_log_of_the_nodes_own(url: str) -> None:
     kind = pair(gate)
 
     def owners(*keys: str) -> set[str]:
-        text = "SELECT owner FROM sagas.shards JOIN sagas.sagas ON shard = id / 1000 WHERE key = ANY(%s)"
+        text = (
+            "SELECT owner FROM sagas.shards JOIN sagas.sagas ON shard = id / 1000 WHERE key ="
+            " ANY(%s)"
+        )
         with psycopg.connect(url) as link:
             return {str(owner) for (owner,) in link.execute(text, (list(keys),)).fetchall()}
 
@@ -746,7 +755,8 @@ def test_takeover_in_lots_goes_past_a_locked_log(url: str, monkeypatch: pytest.M
         calls.clear()
         with psycopg.connect(url) as stranger:
             row = stranger.execute(
-                "SELECT key FROM sagas.sagas WHERE id / 1000 = (SELECT min(shard) FROM sagas.shards)"
+                "SELECT key FROM sagas.sagas WHERE id / 1000 = (SELECT min(shard) FROM"
+                " sagas.shards)"
             ).fetchone()
             stranger.execute("SELECT 1 FROM sagas.shards ORDER BY shard LIMIT 1 FOR UPDATE")
             assert row
@@ -858,7 +868,10 @@ def test_a_start_that_comes_late(postgresql: Server, url: str, is_born: bool) ->
     driven, whether the first statement is done behind that or not."""
     calls: list[str] = []
     kind = simple(lambda task: calls.append(task.key))
-    waits = "SELECT pid FROM pg_stat_activity WHERE datname = current_database() AND wait_event_type = 'Lock'"
+    waits = (
+        "SELECT pid FROM pg_stat_activity WHERE datname = current_database() AND wait_event_type ="
+        " 'Lock'"
+    )
     name = url.rpartition("/")[2]
 
     async def main() -> None:
@@ -979,7 +992,8 @@ def test_what_was_heard_before_a_connection_broke_counts_no_more(url: str) -> No
         await asyncio.wait_for(news.of(17, 16), 5)
         with psycopg.connect(url, autocommit=True) as stranger:
             stranger.execute(
-                "SELECT pg_terminate_backend(pid) FROM pg_stat_activity WHERE datname = current_database() AND pid <> pg_backend_pid()"
+                "SELECT pg_terminate_backend(pid) FROM pg_stat_activity WHERE datname ="
+                " current_database() AND pid <> pg_backend_pid()"
             )
         assert await looks.get() == ""
         waiting = asyncio.create_task(news.of(17, 16))
@@ -1185,7 +1199,8 @@ def test_sessions_are_ended_by_the_server(url: str) -> None:
                 for _ in range(4):
                     await asyncio.sleep(0.05)
                     stranger.execute(
-                        "SELECT pg_terminate_backend(pid) FROM pg_stat_activity WHERE datname = current_database() AND pid <> pg_backend_pid()"
+                        "SELECT pg_terminate_backend(pid) FROM pg_stat_activity WHERE datname ="
+                        " current_database() AND pid <> pg_backend_pid()"
                     )
                 assert all(end.ok for end in await asyncio.gather(*work))
 

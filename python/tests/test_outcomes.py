@@ -304,9 +304,9 @@ def test_raises_unknown(place: str, error: Exception) -> None:
         async with sagas.open(
             place,
             [saga],
-            on_event=lambda event: told.append(event.detail or "")
-            if event.name == "step_unknown"
-            else None,
+            on_event=lambda event: (
+                told.append(event.detail or "") if event.name == "step_unknown" else None
+            ),
         ) as store:
             return await ended(store, saga)
 
@@ -335,9 +335,9 @@ def test_a_failure_that_came_from_a_timeout(place: str) -> None:
         async with sagas.open(
             place,
             [saga],
-            on_event=lambda event: told.append(event.detail or "")
-            if event.name == "step_failed"
-            else None,
+            on_event=lambda event: (
+                told.append(event.detail or "") if event.name == "step_failed" else None
+            ),
         ) as store:
             for given in ("from", "while", "from None"):
                 assert (await ended(store, saga, given, given)).states == {"a": "failed"}

@@ -134,7 +134,10 @@ def test_the_help(folder: pathlib.Path) -> None:
     """Also where what PostgreSQL and Celery need is not installed."""
     told = shell(
         folder,
-        "python -m pydoc sagas; python -c 'from sagas import *; import inspect, sagas; print(len(inspect.getmembers(sagas)), open_sync)'",
+        (
+            "python -m pydoc sagas; python -c 'from sagas import *; import inspect, sagas;"
+            " print(len(inspect.getmembers(sagas)), open_sync)'"
+        ),
     )
     assert (
         "NAME\n    sagas" in told

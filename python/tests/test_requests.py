@@ -186,7 +186,10 @@ def test_what_was_asked_of_a_saga_that_is_gone(
     url: str, link: psycopg.Connection[Any], kind: sagas.Saga
 ) -> None:
     """It is done to no other saga of its key, and goes with its own."""
-    text = "INSERT INTO operator_commands(key, command, value, at, saga) VALUES ('k', 'abort', 'null', 0, 5000)"
+    text = (
+        "INSERT INTO operator_commands(key, command, value, at, saga) VALUES ('k', 'abort', 'null',"
+        " 0, 5000)"
+    )
 
     async def main() -> None:
         async with sagas.open(url, [kind]) as store:

@@ -99,7 +99,10 @@ def age(place: str, *logs: int, days: int = 40) -> None:
     for log in logs:
         change(
             place,
-            f"UPDATE sagas SET ended = ended - {days} * 86400.0 WHERE id >= {1000 * log} AND id < {1000 * (log + 1)}",
+            (
+                f"UPDATE sagas SET ended = ended - {days} * 86400.0 WHERE id >= {1000 * log} AND id"
+                f" < {1000 * (log + 1)}"
+            ),
         )
 
 
@@ -146,7 +149,10 @@ def test_old_logs_go_as_a_whole_and_their_keys_are_free(
     )  # one of its sagas is younger
     change(
         place,
-        "INSERT INTO operator_commands(key, command, value, at, answer) VALUES('k0', 'abort', 'null', 1, 'false')",
+        (
+            "INSERT INTO operator_commands(key, command, value, at, answer) VALUES('k0', 'abort',"
+            " 'null', 1, 'false')"
+        ),
     )
     before = tables(place)
     assert store_command.main([place, "prune", "--older-than", "30d", "--json"]) == 0

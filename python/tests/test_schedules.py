@@ -489,8 +489,10 @@ def test_times_that_were_missed_before_a_pause(
                 await store.schedule(name, kind, every=EVERY, catch_up=catch_up)
         assert store_command.main([place, "schedules", "pause", "a"]) == 0  # by the clock of today
         assert "a: 100 missed times before the pause were not started" in capsys.readouterr().err
-        async with sagas.Client(place) if "://" in place else sagas.open(
-            place, [kind], clock=clock, accept_new=False
+        async with (
+            sagas.Client(place)
+            if "://" in place
+            else sagas.open(place, [kind], clock=clock, accept_new=False)
         ) as store:
             clock.now += DAY
             await store.pause_schedule("l")
@@ -598,9 +600,9 @@ def test_a_schedule_of_a_later_release_stops_no_other(tmp_path: pathlib.Path) ->
         store = sagas.open(
             place,
             [saga],
-            on_event=lambda event: told.append(event.name)
-            if event.name == "schedule_failed"
-            else None,
+            on_event=lambda event: (
+                told.append(event.name) if event.name == "schedule_failed" else None
+            ),
         )
         async with store:
             for name in ("a", "b"):

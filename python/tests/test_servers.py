@@ -315,7 +315,10 @@ class Parted:
         kept = f"pid <> pg_backend_pid() AND pid <> ALL(ARRAY{[*but]}::int[])"
         self.ask(
             self.pair.primary,
-            f"SELECT pg_terminate_backend(pid) FROM pg_stat_activity WHERE datname = current_database() AND {kept}",
+            (
+                "SELECT pg_terminate_backend(pid) FROM pg_stat_activity WHERE datname ="
+                f" current_database() AND {kept}"
+            ),
         )
 
     async def play(self, moment: Callable[[Parted], Coroutine[Any, Any, None]]) -> None:
@@ -377,7 +380,10 @@ async def ends_at_the_one_before(two: Parted) -> None:
     ) as stranger:
         stranger.execute("LOCK TABLE sagas.attempts IN EXCLUSIVE MODE")
         two.gates["b"].set()
-        waits = "SELECT pid FROM pg_stat_activity WHERE datname = current_database() AND wait_event_type = 'Lock'"
+        waits = (
+            "SELECT pid FROM pg_stat_activity WHERE datname = current_database() AND"
+            " wait_event_type = 'Lock'"
+        )
         ((process,),) = await until(lambda: two.ask(two.pair.primary, waits))
         two.end_sessions(but=[process, stranger.info.backend_pid])
         await until(lambda: "lease_expired" in two.said)
@@ -647,7 +653,8 @@ def small_disk(size: str) -> Iterator[pathlib.Path]:
         )
         if done.returncode:
             pytest.fail(
-                f"no file system can be mounted: run the tests as root, in a container with --cap-add SYS_ADMIN ({done.stderr.strip()})"
+                "no file system can be mounted: run the tests as root, in a container with"
+                f" --cap-add SYS_ADMIN ({done.stderr.strip()})"
             )
         try:
             yield folder

@@ -929,9 +929,10 @@ def test_what_is_meant_for_a_database(tmp_path: pathlib.Path) -> None:
 def test_a_module_s_steps_run_here(tmp_path: pathlib.Path) -> None:
     """`--app module:store`: functions in the service, and steps of the same saga by workers."""
     (tmp_path / "shop.py").write_text(
-        'import sagas, threading\nshop = sagas.Saga("shop")\n\n@shop.step\ndef price(task):\n    return task.input * 2\n\n'
-        'send = shop.step(external=True, name="send", needs=[price])\nlong = sagas.Saga("long")\n\n'
-        '@long.step(concurrency=1)\ndef once(task):\n    threading.Event().wait()\n\nstore = sagas.open("unused.db", [shop, long])\n'
+        'import sagas, threading\nshop = sagas.Saga("shop")\n\n@shop.step\ndef price(task):\n   '
+        ' return task.input * 2\n\nsend = shop.step(external=True, name="send",'
+        ' needs=[price])\nlong = sagas.Saga("long")\n\n@long.step(concurrency=1)\ndef once(task):\n'
+        '    threading.Event().wait()\n\nstore = sagas.open("unused.db", [shop, long])\n'
     )
     with served(
         tmp_path, {"order.toml": ORDER_OF_ONE}, "--app", "shop:store"

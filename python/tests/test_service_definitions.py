@@ -148,7 +148,10 @@ FAULTS = [
     (
         GOOD,
         BESIDE.replace("initial", "intial"),
-        "a.service.toml:7: step 'car': backoff must have only the keys initial, jitter, maximum, multiplier, each with a number",
+        (
+            "a.service.toml:7: step 'car': backoff must have only the keys initial, jitter,"
+            " maximum, multiplier, each with a number"
+        ),
     ),
     (
         GOOD,
@@ -158,7 +161,10 @@ FAULTS = [
     (
         GOOD,
         BESIDE.replace("initial = 1", 'initial = "1"'),
-        "a.service.toml:7: step 'car': backoff must have only the keys initial, jitter, maximum, multiplier, each with a number",
+        (
+            "a.service.toml:7: step 'car': backoff must have only the keys initial, jitter,"
+            " maximum, multiplier, each with a number"
+        ),
     ),
     (
         GOOD,

@@ -229,7 +229,7 @@ def test_a_body_has_one_time(tmp_path: pathlib.Path, monkeypatch: pytest.MonkeyP
         ):
             back, there = await asyncio.open_connection(*address)
             there.write(
-                f"POST /v1/sagas HTTP/1.1\r\nHost: 127.0.0.1\r\n"
+                "POST /v1/sagas HTTP/1.1\r\nHost: 127.0.0.1\r\n"
                 f"Content-Type: application/json\r\n{length}\r\n\r\n".encode()
             )
             began, answer = time.monotonic(), asyncio.ensure_future(back.readuntil(b"\r\n\r\n"))

@@ -177,7 +177,10 @@ def test_the_containers_have_one_image_and_its_tokens_can_be_read(
         for name in re.findall(r"podman build .* -t (\S+) \.", path.read_text())
     }
     (tmp_path / "bin").mkdir()
-    text = '#!/bin/bash\nwhile [ "$1" != --volume ]; do shift; done; folder=${2%:*}; image=$5; script=${7//\\/made/$folder}\n'
+    text = (
+        '#!/bin/bash\nwhile [ "$1" != --volume ]; do shift; done; folder=${2%:*}; image=$5;'
+        " script=${7//\\/made/$folder}\n"
+    )
     text += (
         f'(umask 022; bash -ec "$script") && stat -c "%a $image" "$folder"/* >>{tmp_path}/made\n'
     )

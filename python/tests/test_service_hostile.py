@@ -342,7 +342,8 @@ def test_long_bodies(service: Served) -> None:
     before = memory(service)
     with connection(service) as one:
         one.sendall(
-            b"POST /v1/sagas HTTP/1.1\r\nHost: 127.0.0.1\r\nContent-Type: application/json\r\nContent-Length: 104857600\r\n\r\n"
+            b"POST /v1/sagas HTTP/1.1\r\nHost: 127.0.0.1\r\nContent-Type:"
+            b" application/json\r\nContent-Length: 104857600\r\n\r\n"
         )
         assert one.recv(4096).startswith(b"HTTP/1.1 413 ")
     for _ in range(3):
@@ -498,7 +499,10 @@ def test_a_body_that_does_not_come(tmp_path: pathlib.Path, monkeypatch: pytest.M
         str(tmp_path / "store.db"), definition_files.read(tmp_path / "definitions"), body_time=1.0
     )
     body = json.dumps({"definition": "trip", "key": "parted"}).encode()
-    head = f"POST /v1/sagas HTTP/1.1\r\nHost: 127.0.0.1\r\nContent-Type: application/json\r\nContent-Length: {len(body)}\r\n\r\n".encode()
+    head = (
+        "POST /v1/sagas HTTP/1.1\r\nHost: 127.0.0.1\r\nContent-Type:"
+        f" application/json\r\nContent-Length: {len(body)}\r\n\r\n".encode()
+    )
 
     async def asked(address: tuple[str, int], *parts: bytes) -> bytes:
         back, there = await asyncio.open_connection(*address)

@@ -35,7 +35,11 @@ for (const one of document.querySelectorAll("body *")) {
 }
 return found;
 """
-FOCUSABLE = "return [...document.querySelectorAll('a[href], button, input:not([type=hidden]), select, textarea, [tabindex=\"0\"]')].filter((e) => e.getClientRects().length && e.checkVisibility()).length"
+FOCUSABLE = (
+    "return [...document.querySelectorAll('a[href], button, input:not([type=hidden]), select,"
+    ' textarea, [tabindex="0"]\')].filter((e) => e.getClientRects().length &&'
+    " e.checkVisibility()).length"
+)
 
 
 class Browser:
@@ -176,7 +180,8 @@ def test_a_failed_saga_says_what_stands(browser: Browser) -> None:
     """Its picture has each step, what was kept and why, and the price of the plan."""
     browser.go("/ui/sagas/failed-1")
     titles = browser.driver.execute_script(
-        "return [...document.querySelectorAll('svg.picture g.step title')].map((t) => t.textContent)"
+        "return [...document.querySelectorAll('svg.picture g.step title')].map((t) =>"
+        " t.textContent)"
     )
     assert titles == [
         "flight: done, plan: keep",
@@ -186,7 +191,8 @@ def test_a_failed_saga_says_what_stands(browser: Browser) -> None:
     text = browser.text
     assert "plan of cost 15" in text and "the tour is full" in text and "Timeline" in text
     bars = browser.driver.execute_script(
-        "return [...document.querySelectorAll('svg.timeline g.run title')].map((t) => t.textContent)"
+        "return [...document.querySelectorAll('svg.timeline g.run title')].map((t) =>"
+        " t.textContent)"
     )
     assert len(bars) == 5 and bars[2].startswith(
         "tour, action, attempt 1: failed, will be retried after"
@@ -489,7 +495,8 @@ def test_each_control_has_a_name_and_is_reached_by_keyboard(browser: Browser) ->
         assert nameless == [], path
         wanted = browser.driver.execute_script(FOCUSABLE)
         browser.driver.execute_script(
-            "document.activeElement.blur(); window.seen = new Set(); document.addEventListener('focusin', (e) => seen.add(e.target))"
+            "document.activeElement.blur(); window.seen = new Set();"
+            " document.addEventListener('focusin', (e) => seen.add(e.target))"
         )
         for _ in range(4):  # a page may be renewed meanwhile
             browser.driver.switch_to.active_element.send_keys(Keys.TAB * (wanted + 2))
@@ -528,11 +535,17 @@ def fill(store: pathlib.Path, count: int) -> None:
                 "INSERT INTO shards(shard, name, closed) VALUES(?, ?, 1)", (log, f"{log:016x}")
             )
             db.execute(
-                "INSERT INTO shard_definitions SELECT ?, place, definition FROM shard_definitions WHERE shard = 0",
+                (
+                    "INSERT INTO shard_definitions SELECT ?, place, definition FROM"
+                    " shard_definitions WHERE shard = 0"
+                ),
                 (log,),
             )
         db.executemany(
-            "INSERT INTO sagas(id, key, saga, definition_index, input, at, phase, outcome, ended, note) VALUES(?, ?, ?, ?, ?, ?, ?, ?, ?, ?)",
+            (
+                "INSERT INTO sagas(id, key, saga, definition_index, input, at, phase, outcome,"
+                " ended, note) VALUES(?, ?, ?, ?, ?, ?, ?, ?, ?, ?)"
+            ),
             rows,
         )
     db.close()

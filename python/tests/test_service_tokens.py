@@ -472,8 +472,10 @@ def test_a_token_that_expires(tmp_path: pathlib.Path) -> None:
             assert told(client.get("/v1/sagas")) == (
                 401,
                 "Unauthorized",
-                "this token has expired: `sagas token` makes another, "
-                "sent as Authorization: Bearer TOKEN",
+                (
+                    "this token has expired: `sagas token` makes another, "
+                    "sent as Authorization: Bearer TOKEN"
+                ),
             )
             assert page.post("/ui/login", data={"token": old}).status_code == 403
             assert good.get("/v1/sagas").status_code == 200
@@ -619,13 +621,17 @@ FAULTS = [
     ),
     (
         "keys = []",
-        "keys must be a list of one or more keys, or beginnings of keys with * at the end, "
-        "without /:",
+        (
+            "keys must be a list of one or more keys, or beginnings of keys with * at the end, "
+            "without /:"
+        ),
     ),
     (
         'keys = ["a*b"]',
-        "keys must be a list of one or more keys, or beginnings of keys with * at the end, "
-        "without /:",
+        (
+            "keys must be a list of one or more keys, or beginnings of keys with * at the end, "
+            "without /:"
+        ),
     ),
     ('keys = ["a*"]', "keys can only restrict a token with the roles caller and approver"),
     (
@@ -635,13 +641,17 @@ FAULTS = [
     ("expires = 5", "expires must be a time with an offset, for example 2027-01-01T00:00:00Z"),
     (
         'definition = ["trip"]',
-        "unknown key 'definition'; the keys are name, roles, sha256, definitions, keys, steps, expires, "
-        "open_sagas, open_bytes",
+        (
+            "unknown key 'definition'; the keys are name, roles, sha256, definitions, keys, steps,"
+            " expires, open_sagas, open_bytes"
+        ),
     ),
     (
         'Steps = ["trip/car"]',
-        "unknown key 'Steps'; the keys are name, roles, sha256, definitions, keys, steps, expires, "
-        "open_sagas, open_bytes",
+        (
+            "unknown key 'Steps'; the keys are name, roles, sha256, definitions, keys, steps,"
+            " expires, open_sagas, open_bytes"
+        ),
     ),
 ]
 
@@ -673,13 +683,18 @@ def test_other_faults_of_the_file(tmp_path: pathlib.Path) -> None:
         (
             "metrics",
             'definitions = ["trip"]',
-            "token 1: definitions cannot restrict a token with the role metrics, "
-            "because metrics cover all definitions",
+            (
+                "token 1: definitions cannot restrict a token with the role metrics, "
+                "because metrics cover all definitions"
+            ),
         ),
         (
             "approvers",
             "",
-            "token 1: roles must be a list of one or more of caller, approver, worker, operator, metrics",
+            (
+                "token 1: roles must be a list of one or more of caller, approver, worker,"
+                " operator, metrics"
+            ),
         ),
         ("worker", '[tokens]\nname = "b"', "only [[token]] tables are allowed"),
     ):

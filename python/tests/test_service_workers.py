@@ -83,7 +83,10 @@ def test_a_step_is_declared_twice() -> None:
     worker.compensation("trip", "car")(car)
     with pytest.raises(
         sagas.DefinitionError,
-        match=r"trip/car is declared twice, at .*test_service_workers.py:\d+ and .*test_service_workers.py:\d+",
+        match=(
+            r"trip/car is declared twice, at .*test_service_workers.py:\d+ and"
+            r" .*test_service_workers.py:\d+"
+        ),
     ):
 
         @worker.step("trip", "car")

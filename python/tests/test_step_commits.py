@@ -52,7 +52,10 @@ def booked(url: str) -> Counter[tuple[str, str]]:
 
 def waits(url: str) -> bool:
     """Whether such a commit waits for a lock."""
-    text = "SELECT 1 FROM pg_stat_activity WHERE datname = current_database() AND wait_event_type = 'Lock' AND query LIKE 'EXECUTE sagas_record%'"
+    text = (
+        "SELECT 1 FROM pg_stat_activity WHERE datname = current_database() AND wait_event_type ="
+        " 'Lock' AND query LIKE 'EXECUTE sagas_record%'"
+    )
     with psycopg.connect(url) as link:
         return bool(link.execute(text).fetchall())
 
@@ -296,8 +299,14 @@ def test_a_lock_is_not_waited_for_by_all(url: str) -> None:
 
 def test_a_record_needs_no_setting(url: str) -> None:
     """It names its tables whole: the commit sees what the function set, and its triggers too."""
-    look = "CREATE FUNCTION look() RETURNS trigger LANGUAGE plpgsql AS $$ BEGIN INSERT INTO mine.saw VALUES (current_setting('search_path')); RETURN NULL; END $$"
-    trigger = "CREATE CONSTRAINT TRIGGER looks AFTER INSERT ON book DEFERRABLE INITIALLY DEFERRED FOR EACH ROW EXECUTE FUNCTION look()"
+    look = (
+        "CREATE FUNCTION look() RETURNS trigger LANGUAGE plpgsql AS $$ BEGIN INSERT INTO mine.saw"
+        " VALUES (current_setting('search_path')); RETURN NULL; END $$"
+    )
+    trigger = (
+        "CREATE CONSTRAINT TRIGGER looks AFTER INSERT ON book DEFERRABLE INITIALLY DEFERRED FOR"
+        " EACH ROW EXECUTE FUNCTION look()"
+    )
     prepare(url, "CREATE SCHEMA mine", "CREATE TABLE mine.saw(said text)", look, trigger)
     kind = sagas.Saga("two")
 
@@ -754,7 +763,8 @@ def test_plans_for_small_tables_are_not_kept(url: str) -> None:
         with psycopg.connect(url, autocommit=True) as link:
             link.execute("SELECT pg_stat_force_next_flush()")
             ((count,),) = link.execute(
-                "SELECT sum(seq_scan) FROM pg_stat_user_tables WHERE schemaname = 'sagas' AND relname IN ('sagas', 'shards')"
+                "SELECT sum(seq_scan) FROM pg_stat_user_tables WHERE schemaname = 'sagas' AND"
+                " relname IN ('sagas', 'shards')"
             ).fetchall()
             return int(count)
 

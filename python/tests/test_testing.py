@@ -251,7 +251,10 @@ FORMS = r"must be a number of attempts \(1\), a list of attempts"
         (
             {"fail_undo": {"flight": 1}},
             ValueError,
-            "fail_undo: step 'flight' has no compensation, so it is never undone. Declare one with @flight.compensation",
+            (
+                "fail_undo: step 'flight' has no compensation, so it is never undone. Declare one"
+                " with @flight.compensation"
+            ),
         ),
         ({"answers": ["hotel"]}, TypeError, "must be a dict of answers by step"),
         ({"abort": "boat"}, KeyError, "no step 'boat'"),

@@ -425,7 +425,10 @@ def test_without_a_tracer_functions_are_called_in_a_row(
 # -- over HTTP
 
 FILES = {
-    "one.toml": 'format = 2\nname = "one"\n[[step]]\nname = "a"\nkeep = 9\nundo = 1\n[[step]]\nname = "b"\nneeds = ["a"]\nundo = "never"\n'
+    "one.toml": (
+        'format = 2\nname = "one"\n[[step]]\nname = "a"\nkeep = 9\nundo = 1\n[[step]]\nname ='
+        ' "b"\nneeds = ["a"]\nundo = "never"\n'
+    )
 }
 
 

@@ -266,7 +266,8 @@ def test_nobody_takes_a_log_while_a_step_of_it_is_committed(url: str, in_thread:
                 going = await store.start(kind, "k")
                 await until(
                     lambda: eye.execute(
-                        "SELECT 1 FROM pg_stat_activity WHERE datname = current_database() AND wait_event_type = 'Lock'"
+                        "SELECT 1 FROM pg_stat_activity WHERE datname = current_database() AND"
+                        " wait_event_type = 'Lock'"
                     ).fetchall()
                 )
                 assert (
@@ -414,9 +415,9 @@ def test_what_the_server_refuses_is_a_miss(url: str, in_thread: bool) -> None:
         async with sagas.open(
             url,
             [shop],
-            on_event=lambda event: said.append(event.detail or "")
-            if event.name == "step_retrying"
-            else None,
+            on_event=lambda event: (
+                said.append(event.detail or "") if event.name == "step_retrying" else None
+            ),
         ) as store:
             with psycopg.connect(url) as link:
                 link.execute("INSERT INTO orders VALUES ('k')")
@@ -703,7 +704,8 @@ def test_connections_are_handed_out(postgresql: Server, url: str) -> None:
         await second.rollback()
         with psycopg.connect(url, autocommit=True) as link:
             link.execute(
-                "SELECT pg_terminate_backend(pid) FROM pg_stat_activity WHERE datname = current_database() AND pid <> pg_backend_pid()"
+                "SELECT pg_terminate_backend(pid) FROM pg_stat_activity WHERE datname ="
+                " current_database() AND pid <> pg_backend_pid()"
             )
         await until(lambda: not first.is_there() and not second.is_there())
         assert pool.try_acquire() is None
@@ -753,7 +755,8 @@ def test_connections_are_reserved(url: str) -> None:
         await pool.reserve()
         with psycopg.connect(url, autocommit=True) as link:
             link.execute(
-                "SELECT pg_terminate_backend(pid) FROM pg_stat_activity WHERE datname = current_database() AND pid <> pg_backend_pid()"
+                "SELECT pg_terminate_backend(pid) FROM pg_stat_activity WHERE datname ="
+                " current_database() AND pid <> pg_backend_pid()"
             )
         await until(lambda: first.closed)
         with pytest.raises(psycopg.OperationalError, match="broke"):

@@ -331,7 +331,10 @@ WRONG: list[tuple[Any, str]] = [
     (result(7), "the key of a child is a text"),
     (
         result("good/:kid"),
-        "the key is not that of a child of this step.*: KEY is that of its child [(]it started 't/:kid'[)]",
+        (
+            "the key is not that of a child of this step.*: KEY is that of its child [(]it started"
+            " 't/:kid'[)]"
+        ),
     ),
     (result("t"), "the key is not that of a child of this step"),
     (result("nonsense"), "the key is not that of a child of this step"),

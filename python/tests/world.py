@@ -219,8 +219,10 @@ class World:
 
     def fail(self, task: Any, failing: float) -> None:
         """It fails, some for good."""
-        raise sagas.Fail("for good") if chance(self.named(task)) < failing / 4 else ValueError(
-            "fails"
+        raise (
+            sagas.Fail("for good")
+            if chance(self.named(task)) < failing / 4
+            else ValueError("fails")
         )
 
     def handed(self, task: Any) -> dict[str, Any]:

@@ -26,11 +26,17 @@ def apply() -> None:
     setattr(
         commit_statement,
         "ALONE",
-        "shard = $3::bigint AND $2::text IS NOT NULL AND $4::bigint IS NOT NULL AND num_nulls($5::integer, $6::float8) >= 0",
+        (
+            "shard = $3::bigint AND $2::text IS NOT NULL AND $4::bigint IS NOT NULL AND"
+            " num_nulls($5::integer, $6::float8) >= 0"
+        ),
     )
     setattr(
         commit_statement,
         "LISTED",
-        "shard = ANY($3::bigint[]) AND $2::text IS NOT NULL AND $4::bigint[] IS NOT NULL AND num_nulls($5::integer[], $6::float8[]) >= 0",
+        (
+            "shard = ANY($3::bigint[]) AND $2::text IS NOT NULL AND $4::bigint[] IS NOT NULL AND"
+            " num_nulls($5::integer[], $6::float8[]) >= 0"
+        ),
     )
     commit_statement.PARTS["lines"] += " ON CONFLICT DO NOTHING"

@@ -13,5 +13,8 @@ def apply() -> None:
     setattr(
         commit_statement,
         "LISTED",
-        "shard = ANY($3::bigint[]) AND $2::text IS NOT NULL AND $4::bigint[] IS NOT NULL AND num_nulls($5::integer[], $6::float8[]) >= 0",
+        (
+            "shard = ANY($3::bigint[]) AND $2::text IS NOT NULL AND $4::bigint[] IS NOT NULL AND"
+            " num_nulls($5::integer[], $6::float8[]) >= 0"
+        ),
     )

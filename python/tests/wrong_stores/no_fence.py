@@ -10,5 +10,8 @@ MOMENT = "another_node_has_the_only_log"
 
 def apply() -> None:
     """Neither owner nor epoch is compared; the primary key of `lines` refuses what it did."""
-    fence = "shard = $3::bigint AND $2::text IS NOT NULL AND $4::bigint IS NOT NULL AND num_nulls($5::integer, $6::float8) >= 0"
+    fence = (
+        "shard = $3::bigint AND $2::text IS NOT NULL AND $4::bigint IS NOT NULL AND"
+        " num_nulls($5::integer, $6::float8) >= 0"
+    )
     setattr(commit_statement, "ALONE", fence)
